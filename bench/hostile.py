@@ -125,16 +125,17 @@ def cost(program: str, attack: Attack, options: list[str]) -> str:
             preexec_fn=limited,
         )
         _, status, used = os.wait4(process.pid, 0)
-    ended = "stopped" if os.WIFSIGNALED(status) else f"status {os.WEXITSTATUS(status)}"
+    ended = "stopped" if os.WIFSIGNALED(status) else f"{os.WEXITSTATUS(status)}"
     # A child begins with the memory of this script, which hides anything smaller.
-    memory = f"{used.ru_maxrss // 1024:,} MiB" if used.ru_maxrss > 64 * 1024 else "under 64 MiB"
-    return f"{ended}, {used.ru_utime + used.ru_stime:.2f} s, {memory}"
+    memory = f"{used.ru_maxrss // 1024:,}" if used.ru_maxrss > 64 * 1024 else "<64"
+    return f"{ended} | {used.ru_utime + used.ru_stime:.2f} | {memory}"
 
 
 def main(program: str) -> None:
-    print("| What a stranger sends | Bytes | Default limits | `--nodes 1000000 --depth 64` |\n|---|---|---|---|")
+    columns = ["What a stranger sends", "Bytes", "Status", "s", "MiB", "Limited: status", "s", "MiB"]
+    print(f"| {' | '.join(columns)} |\n{'|---' * len(columns)}|")
     for attack in attacks():
-        small = cost(program, attack, SMALL) if attack.takes_limits else ""
+        small = cost(program, attack, SMALL) if attack.takes_limits else " | | "
         print(f"| {attack.title} | {attack.size():,} | {cost(program, attack, [])} | {small} |", flush=True)
 
 

@@ -56,7 +56,7 @@ export type Multisig = {
 };
 export type MultisigInput = {
   multisig_address: AccountAddressInput;
-  transaction_payload: null | { some: MultisigTransactionPayloadInput };
+  transaction_payload: null | MultisigTransactionPayloadInput | { some: MultisigTransactionPayloadInput };
 };
 
 export type MultisigTransactionPayload = { EntryFunction: EntryFunction };

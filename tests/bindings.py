@@ -41,6 +41,7 @@ NEEDED = {
     "/usr/lib/postgresql/15/bin/postgres": "postgresql-15",
     "/usr/include/postgresql/15/server/postgres.h": "postgresql-server-dev-15",
     "/usr/lib/python3/dist-packages/psycopg2": "python3-psycopg2",
+    "/usr/lib/python3/dist-packages/hypothesis": "python3-hypothesis",
 }
 OLDEST_GLIBC = "GLIBC_2.14"
 LANGUAGES = ("rust", "web", "windows", "sqlite", "postgresql", "go", "java")
@@ -143,6 +144,7 @@ def test_c_and_python(prefix: pathlib.Path, room: pathlib.Path) -> None:
     part("the rows without an answer", rows.without_calls)
     part("the tests of Python", lambda: run("bindings/python/test.sh"))
     part("the rows through Python", rows.of_python)
+    part("the test vectors", lambda: run("tests/vectors.py", DIST))
 
 
 def main() -> None:

@@ -57,7 +57,7 @@ test_cdpath() {
 # sum FOLDER: writes its SHA256SUMS, for the files that are there.
 sum() (
     cd "$1"
-    find LIBRARIES aarch64-linux web x86_64-linux x86_64-windows ! -type d | LC_ALL=C sort | xargs sha256sum >SHA256SUMS
+    find LIBRARIES aarch64-linux vectors web x86_64-linux x86_64-windows ! -type d | LC_ALL=C sort | xargs sha256sum >SHA256SUMS
 )
 
 # script FILE LINE..: writes a program that runs these lines.
@@ -81,7 +81,7 @@ label() {
 # make_built: writes out/dist as the toolchain would make it.
 make_built() {
     local name
-    for name in x86_64-linux aarch64-linux x86_64-windows web; do
+    for name in x86_64-linux aarch64-linux x86_64-windows web vectors; do
         mkdir -p "out/dist/$name"
     done
     program out/dist/x86_64-linux/bcs taken
@@ -91,6 +91,7 @@ make_built() {
     echo archive >out/dist/aarch64-linux/libbcs.a
     echo module >out/dist/web/bcs.wasm
     echo dll >out/dist/x86_64-windows/bcs.dll
+    echo line >out/dist/vectors/aptos.jsonl
     echo 'std - -' >out/dist/LIBRARIES
     sum out/dist
     tools/dist_sources.sh --built-from >out/dist/BUILT_FROM
@@ -242,7 +243,7 @@ test_changes() {
 # test_other_kit: the same sources, and another toolchain: all bytes count, whatever it is called.
 test_other_kit() {
     label "$(tools/dist_sources.sh)" "kit other" >out/dist/BUILT_FROM
-    passes "another kit" '8 files are byte for byte what kit other builds .*kit one' KIT=other
+    passes "another kit" '9 files are byte for byte what kit other builds .*kit one' KIT=other
     plant
     refused '(kit one) .* kit other ' KIT=other
     { grep -q 'dist/x86_64-linux/bcs' compare.log && ! grep -q 'web/bcs.wasm' compare.log; } || fail "compare names the wrong files"

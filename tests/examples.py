@@ -21,7 +21,7 @@ ROOT = pathlib.Path(__file__).resolve().parent.parent
 # programs that not every machine has
 TOOLS = ("yq", "openssl", "xxd", "node")
 # documents, and whether every block of sh is run
-DOCUMENTS = {"README.md": False, "docs/FORMAT.md": False, "examples/README.md": True}
+DOCUMENTS = {"README.md": False, "docs/FORMAT.md": False, "docs/TRUST.md": False, "examples/README.md": True}
 
 
 def printed(command: list[str]) -> str:

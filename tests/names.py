@@ -5,7 +5,8 @@ listed here and no others, since the prover takes those on trust.
 
 It looks at each path `crates/..`, and between backticks at each crate's name, at the file of definitions of a name
 `CRATE/File`, at "the files `a` and `b` of `CRATE`", and at `src/..`, `specs/..`, `proofs/..` and `must-fail/..` of the
-crate that was named last in the same line, or that the document is of.
+crate that was named last in the same line, or that the document is of. In the README of a crate it also looks at
+`module::item`, also in "`module::item`, `other`", and at tables of the files of `src/`, `specs/` or `proofs/`.
 """
 
 import pathlib
@@ -26,6 +27,11 @@ PATH = re.compile(r"(?<!\w/)\bcrates/[\w./*-]*[\w*]")
 NAME = re.compile(r"\b(?:(?:bcs|test|bench)_\w+|example_library\b)")
 CODE = re.compile(r"`([^`]+)`")
 PART = re.compile(r"(?:src|specs|proofs|must-fail)/[\w./*+-]*[\w*]")
+# An item of a module of the README's crate, unless it is one of the kit's libraries.
+ITEM = re.compile(r"(?!serde_json)([a-z]\w*)::(\w+)")
+# The header of a table of files, and the first cell of a row.
+FILES = re.compile(r"\| Files? of `((?:src|specs|proofs)/)` \|")
+CELL = re.compile(r"\| ([^|]+) \|")
 # "the files `a` and `b` of `NAME`" are files of that crate's code.
 OF_CRATE = re.compile(r"\bfiles? ((?:`\w+`(?:, | and )?)+) of \[?`(\w+)`")
 
@@ -53,6 +59,29 @@ def missing_of(code: str, own: str, crate: str) -> tuple[list[str], str]:
     return missing, crate
 
 
+def has_item(crate: str, module: str, item: str) -> bool:
+    """Whether a module of the crate, or one that it re-exports from another crate, has the item."""
+    code = "".join(file.read_text(encoding="utf-8") for file in CRATES.glob(f"{crate}/src/*.rt"))
+    crates = [crate, *re.findall(rf"pub use (\w+)::[^;]*\b{module}\b", code)]
+    files = [file for name in crates for file in CRATES.glob(f"{name}/src/**/{module}.rt")]
+    definition = re.compile(rf"\b(?:fn|struct|enum|trait|const|type|pub use [^;]*)\s*\b{item}\b")
+    return any(definition.search(file.read_text(encoding="utf-8")) for file in files)
+
+
+def missing_of_crate(line: str, own: str, folder: str) -> list[str]:
+    """What a line of a crate's README names that isn't there: items, and files in a table of those of a folder."""
+    items = [(match[1], match[2]) for match in map(ITEM.fullmatch, CODE.findall(line)) if match]
+    cell, missing, module = CELL.match(line), [], ""
+    names = CODE.findall(cell[1]) if cell and not FILES.match(line) else []
+    # "`module::a`, `b`" in a first column are items of one module.
+    for name in names:
+        match = ITEM.fullmatch(name)
+        module = match[1] if match else module if re.fullmatch(r"[a-z]\w*", name) else ""
+        items += [(module, name)] if module and not match else []
+    missing += [f"{module}::{item}" for module, item in items if not has_item(own, module, item)]
+    return missing + [name for name in names if folder and not is_there(CRATES / own / folder / name)]
+
+
 def missing_in(file: pathlib.Path) -> list[str]:
     # These pages speak of the calls of C, as the README of their crate does.
     own = (
@@ -62,8 +91,10 @@ def missing_in(file: pathlib.Path) -> list[str]:
         if file.parent.parent == CRATES
         else ""
     )
-    missing = []
+    missing, folder = [], ""
     for number, line in enumerate(file.read_text(encoding="utf-8").splitlines(), 1):
+        table = FILES.match(line)
+        folder = table[1] if table else folder if line.startswith("|") else ""
         crate, found = "", [path for path in PATH.findall(line) if not is_there(ROOT / path)]
         for files, name in OF_CRATE.findall(line):
             found += [
@@ -74,6 +105,8 @@ def missing_in(file: pathlib.Path) -> list[str]:
         for code in CODE.findall(line):
             more, crate = missing_of(code, own, crate)
             found += more
+        if file.parent.parent == CRATES:
+            found += missing_of_crate(line, own, folder)
         missing += [f"{number}: {name}" for name in dict.fromkeys(found)]
     return missing
 

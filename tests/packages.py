@@ -79,6 +79,7 @@ class Part(NamedTuple):
 
 
 SCRIPTS = bare_debian("plain", "scripts")
+YAML = has({installed.PYYAML: "python3-yaml"})
 SETUPTOOLS = {
     "/usr/lib/python3/dist-packages/setuptools": "python3-setuptools",
     "/usr/lib/python3/dist-packages/wheel": "python3-wheel",
@@ -104,10 +105,11 @@ PARTS = [
     Part("a clone in a bare Debian", installed.answer_in_clone, (SCRIPTS,)),
     Part("its ./test", installed.test_plain_clone, (SCRIPTS,)),
     Part("its ./test, with Python and Node", installed.test_clone_with_scripts, (SCRIPTS,)),
-    Part("the wheel", installed.install_wheel, (SCRIPTS,)),
+    Part("the wheel", installed.install_wheel, (SCRIPTS, YAML)),
+    Part("the module, from its package of Debian", installed.install_debian_module, (SCRIPTS,)),
     Part("the wheel for Windows", installed.install_wheel_for_windows, (SCRIPTS,)),
-    Part("the package for Node", installed.install_node_package, (SCRIPTS,)),
-    Part("the tarball", installed.unpack_tarball, (SCRIPTS,)),
+    Part("the package for Node", installed.install_node_package, (SCRIPTS, YAML)),
+    Part("the tarball", installed.unpack_tarball, (SCRIPTS, YAML)),
     Part("the packages for arm64", installed.emulate_arm64, (SCRIPTS, has(ARM64_TOOLS))),
     Part("the library for C", installed.install_c_library, (bare_debian("compiler"),)),
     Part("the files of C", made.compile_c_files, (has({"gcc": "gcc"}),)),

@@ -2,6 +2,7 @@
 
 from __future__ import annotations
 
+import json
 import os
 import pathlib
 import re
@@ -13,11 +14,12 @@ from trials import ROOT, Failed, Variables, Word, output_of_c_example, processor
 # A registry from which types are written.
 PAYMENT = '{"Payment":{"STRUCT":[{"to":"STR"},{"amount":"U64"}]}}'
 NODE_PROGRAM = """\
-import { readFileSync } from 'node:fs';
 import { createRequire } from 'node:module';
 import { load } from 'bcs-proved';
 
-const bcs = await load(readFileSync(createRequire(import.meta.url).resolve('bcs-proved/bcs.wasm')));
+const bcs = await load();
+const required = await createRequire(import.meta.url)('bcs-proved').load();
+if (required.faultName(402) !== 'BadBool') throw new Error('require');
 const registry = bcs.registry('{"Payment":{"STRUCT":[{"to":"STR"},{"amount":"U64"}]}}');
 const bytes = registry.encode('Payment', { to: 'bob', amount: 7n });
 console.log(Buffer.from(bytes).toString('hex'), registry.decode('Payment', bytes).amount);
@@ -58,6 +60,23 @@ def require_wallet(*words: Word, variables: Variables | None = None) -> None:
 def require_wallet_within(debian: pathlib.Path, *words: Word) -> None:
     shutil.copytree(ROOT / "examples", debian / "root/examples", dirs_exist_ok=True)
     require_wallet(*within(debian, *words, "/root/examples"))
+
+
+# Debian's package python3-yaml.
+PYYAML = "/usr/lib/python3/dist-packages/yaml"
+# A registry in YAML, and a part of what is made of it.
+YAML = "Payment:\n  ENUM:\n    0:\n      Cash: UNIT\n"
+
+
+def require_registry_command(debian: pathlib.Path, command: str) -> None:
+    """It converts a registry in YAML, by this machine's PyYAML, and rejects one with a name that doesn't exist."""
+    (debian / "root/registry.yaml").write_text(YAML, encoding="utf-8")
+    (debian / "root/wrong.yaml").write_text("A:\n  NEWTYPESTRUCT:\n    TYPENAME: B\n", encoding="utf-8")
+    shutil.copytree(PYYAML, debian / "root/yaml", dirs_exist_ok=True)
+    path = ["env", "PYTHONPATH=/root"]
+    printed = run(*within(debian, *path, command, "/root/registry.yaml"))
+    require_same(command, str(json.loads(printed)), str({"Payment": {"ENUM": {"0": {"Cash": "UNIT"}}}}))
+    refused(*within(debian, *path, command, "/root/wrong.yaml"), reason="no container is called B")
 
 
 def install_program(rooms: Rooms) -> str:
@@ -127,7 +146,25 @@ def install_wheel(rooms: Rooms) -> str:
     python = within(scripts, "/root/own/bin/python")
     told = run_wheel_examples(*python, readme="/root/README.md", folder="site-packages")
     require_wallet_within(scripts, "/root/own/bin/python", "/root/examples/wallet/wallet.py")
-    return f"{told.strip()}, and a wallet"
+    require_registry_command(scripts, "/root/own/bin/bcs-registry")
+    require_vectors(rooms, *python)
+    return f"{told.strip()}, a wallet and test vectors"
+
+
+def require_vectors(rooms: Rooms, *python: Word, variables: Variables | None = None) -> None:
+    """One command makes the test vectors for the registry of Aptos, which are those in dist/."""
+    registry = "/root/examples/aptos_registry.json" if python[0] == "unshare" else "examples/aptos_registry.json"
+    printed = run(*python, "-m", "bcs_proved.vectors", registry, variables=variables)
+    require_same("bcs_proved.vectors", printed, (rooms.tree / "dist/vectors/aptos.jsonl").read_text(encoding="ascii"))
+
+
+def install_debian_module(rooms: Rooms) -> str:
+    scripts = rooms.debian("scripts")
+    shutil.copy(rooms.package("python3-bcs-proved_*_amd64.deb"), scripts / "root")
+    shell(scripts, "dpkg -i /root/python3-bcs-proved_*.deb")
+    require_wallet_within(scripts, "/usr/bin/python3", "/root/examples/wallet/wallet.py")
+    require_vectors(rooms, *within(scripts, "/usr/bin/python3"))
+    return "a wallet and test vectors"
 
 
 def install_wheel_for_windows(rooms: Rooms) -> str:
@@ -155,7 +192,7 @@ def node_modules(package: pathlib.Path, folder: pathlib.Path) -> str:
     (modules / ".bin").mkdir(parents=True)
     (modules / "bcs-proved").mkdir()
     run("tar", "-C", modules / "bcs-proved", "--strip-components=1", "-xzf", package)
-    for name, file in [("bcs", "bcs.mjs"), ("bcs-types", "types.mjs")]:
+    for name, file in [("bcs", "bcs.mjs"), ("bcs-types", "types.mjs"), ("bcs-registry", "bcs-registry.py")]:
         (modules / ".bin" / name).symlink_to(f"../bcs-proved/{file}")
     return "unpacked, as there is no npm"
 
@@ -174,6 +211,7 @@ def install_node_package(rooms: Rooms) -> str:
     types = run(*within(scripts, "/root/node/node_modules/.bin/bcs-types", PAYMENT))
     if "export type Payment = {" not in types.splitlines():
         raise Failed(f"bcs-types writes no type Payment:\n{types}")
+    require_registry_command(scripts, "/root/node/node_modules/.bin/bcs-registry")
     version = run(*within(scripts, "node", "--version")).strip()
     return f"{how}, a program, a wallet and the commands in Node {version}"
 
@@ -184,7 +222,11 @@ def unpack_tarball(rooms: Rooms) -> str:
     require_answer(*within(scripts, "sh", "-c", '/root/bcs-*/bin/bcs "$@"', "sh"))
     require_answer(*within(scripts, "sh", "-c", 'node /root/bcs-*/web/bcs.mjs "$@"', "sh"))
     shell(scripts, "cd /root/bcs-*; PYTHONPATH=python python3 -m doctest ../README.md")
-    return "program, Python and Node where it is unpacked"
+    vectors = "PYTHONPATH=python python3 -m bcs_proved.vectors vectors/every_format.json"
+    shell(scripts, f"cd /root/bcs-*; {vectors} | cmp - vectors/every_format.jsonl")
+    shell(scripts, "cd /root; ln -s bcs-*/bin/bcs-registry bcs-registry-of-tarball")
+    require_registry_command(scripts, "/root/bcs-registry-of-tarball")
+    return "program, Python with test vectors, and Node where it is unpacked"
 
 
 def install_c_library(rooms: Rooms) -> str:
@@ -212,7 +254,7 @@ def emulate_arm64(rooms: Rooms) -> str:
     machine, scripts = rooms.top / "arm64", rooms.debian("scripts")
     emulator: list[Word] = ["qemu-aarch64-static", "-L", machine]
     run("bindings/arm64/tests/debian.sh", machine, "python3")
-    for package in ["bcs", "libbcs-dev"]:
+    for package in ["bcs", "libbcs-dev", "python3-bcs-proved"]:
         run("dpkg-deb", "-x", rooms.package(f"{package}_*_arm64.deb"), machine)
     require_answer(*emulator, machine / "usr/bin/bcs")
     settings = machine / "usr/lib/aarch64-linux-gnu/pkgconfig"
@@ -229,7 +271,9 @@ def emulate_arm64(rooms: Rooms) -> str:
     python = [*emulator, machine / "usr/bin/python3"]
     run_wheel_examples(*python, readme="bindings/python/README.md", folder="arm64", variables=module)
     require_wallet(*python, "examples/wallet/wallet.py", "examples", variables=module)
-    return "the program, C programs over the dynamic library, and the wheel, each with a wallet"
+    module = {"PYTHONPATH": str(machine / "usr/lib/python3/dist-packages")}
+    require_wallet(*python, "examples/wallet/wallet.py", "examples", variables=module)
+    return "the program, C programs over the dynamic library, the wheel and Debian's module, each with a wallet"
 
 
 def install_source_package(rooms: Rooms) -> str:
@@ -243,11 +287,12 @@ def install_source_package(rooms: Rooms) -> str:
     unset: Variables = {"BCS_LIBRARY": None, "PYTHONPATH": None}
     run_wheel_examples(python, readme="bindings/python/README.md", folder="site-packages", variables=unset)
     require_wallet(python, "examples/wallet/wallet.py", "examples", variables=unset)
-    return "pip install of the source package, the examples of its README, and a wallet"
+    require_vectors(rooms, python, variables=unset)
+    return "pip install of the source package, the examples of its README, a wallet and test vectors"
 
 
 def use_crate(rooms: Rooms) -> str:
-    """The first program of its README, by this machine's cargo, since Debian's is older than the crate needs."""
+    """The first whole program of its README, by this machine's cargo, since Debian's is older than the crate needs."""
     folder, crate = rooms.top / "rust", rooms.package("bcs-proved-*.crate")
     folder.mkdir()
     run("tar", "-C", folder, "-xzf", crate)
@@ -256,7 +301,7 @@ def use_crate(rooms: Rooms) -> str:
     run("cargo", "init", "--quiet", "--offline", "--vcs", "none", program)
     run("cargo", "add", "--quiet", "--offline", "--path", unpacked, folder=program)
     readme = (ROOT / "bindings/rust/README.md").read_text(encoding="utf-8")
-    first = re.search(r"^```rust\n(.*?)^```$", readme, flags=re.M | re.S)
+    first = re.search(r"^```rust\n((?:(?!```).)*?^fn main.*?)^```$", readme, flags=re.M | re.S)
     if not first or "assert_eq" not in first[1]:
         raise Failed("the first program of bindings/rust/README.md asserts nothing")
     (program / "src/main.rs").write_text(first[1], encoding="utf-8")

@@ -152,13 +152,14 @@ def deep_registry() -> str:
     return json.dumps(containers)
 
 
-def check_readme() -> None:
-    """The library example of the README is the program `example_library`."""
-    block = re.search(r"^```rust\n(.*?)^```$", pathlib.Path("README.md").read_text(encoding="utf-8"), re.M | re.S)
+def check_embedding() -> None:
+    """The example of Rattle in docs/EMBEDDING.md is the program `example_library`."""
+    page = pathlib.Path("docs/EMBEDDING.md").read_text(encoding="utf-8").partition("\n## Rattle\n")[2]
+    block = re.search(r"^```rust\n(.*?)^```$", page, re.M | re.S)
     source = re.search(r"^use .*", pathlib.Path("crates/example_library/src/main.rt").read_text("utf-8"), re.M | re.S)
     if not block or not source or block[1] != source[0]:
-        fail("the README's library example isn't crates/example_library/src/main.rt")
-    passed("the README's library example is crates/example_library/src/main.rt")
+        fail("the example of Rattle in docs/EMBEDDING.md isn't crates/example_library/src/main.rt")
+    passed("the example of Rattle in docs/EMBEDDING.md is crates/example_library/src/main.rt")
 
 
 def main(folder: str) -> None:
@@ -173,7 +174,7 @@ def main(folder: str) -> None:
         program.check_pairs()
         program.check_costs()
         program.check_many_containers()
-        check_readme()
+        check_embedding()
         program.check_deep_examples()
         program.check_examples()
 

@@ -8,7 +8,7 @@ unset CDPATH
 export LC_ALL=C GIT_NO_REPLACE_OBJECTS=1
 cd "$(dirname "$0")/.."
 folder=${1:-out/dist}
-built='LIBRARIES x86_64-linux aarch64-linux x86_64-windows web'
+built='LIBRARIES x86_64-linux aarch64-linux x86_64-windows web vectors'
 
 fail() {
     echo "dist: FAILED: $1"
@@ -24,11 +24,12 @@ read_label() {
         || fail "$1 doesn't name a kit and a checksum: run tools/take_dist.sh"
 }
 
-# list_files: prints type and name of everything that isn't a folder, since only regular files are allowed.
+# list_files: prints type and name of everything that isn't a folder, since only regular files are allowed. A dist/ of an
+# older commit may lack some of the names.
 list_files() {
     local name
     for name in $built; do
-        (cd dist && find "$name" ! -type d -printf '%y %p\n') || return
+        [ ! -e "dist/$name" ] || (cd dist && find "$name" ! -type d -printf '%y %p\n') || return
     done
 }
 
@@ -50,6 +51,7 @@ list_differences() {
     local compared="$1" name
     shift
     for name in "$@"; do
+        [ -e "$compared/$name" ] || [ -e "dist/$name" ] || continue
         diff --recursive --brief --no-dereference "$compared/$name" "dist/$name" 2>&1 || true
     done
 }

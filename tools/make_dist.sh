@@ -77,7 +77,7 @@ make_libraries() {
 # write_sums: writes SHA256SUMS. (A failure on the left side of a pipe would be lost.)
 write_sums() (
     cd "$folder"
-    find LIBRARIES x86_64-linux aarch64-linux x86_64-windows web -type f >"$room/names"
+    find LIBRARIES x86_64-linux aarch64-linux x86_64-windows web vectors -type f >"$room/names"
     LC_ALL=C sort -o "$room/names" "$room/names"
     xargs sha256sum <"$room/names" >SHA256SUMS
 )
@@ -88,7 +88,7 @@ if ! is_proved; then
     mkdir -p out
     printf '%s\n' "$built_from" >out/proved
 fi
-for name in BUILT_FROM SHA256SUMS LIBRARIES x86_64-linux aarch64-linux x86_64-windows web; do
+for name in BUILT_FROM SHA256SUMS LIBRARIES x86_64-linux aarch64-linux x86_64-windows web vectors; do
     rm -rf "${folder:?}/$name"
 done
 mkdir "$x86_64" "$folder/aarch64-linux" "$folder/x86_64-windows" "$folder/web"
@@ -103,6 +103,7 @@ tools/proved_code.py --program-module "$room/program.ll"
 bindings/arm64/build.sh --code "$room/code.ll" --program-code "$room/program.ll" "$folder/aarch64-linux"
 bindings/windows/build.sh --code "$room/code.ll" --program-code "$room/program.ll" "$folder/x86_64-windows"
 bindings/web/build.sh --code "$room/code.ll" --program-code "$room/program.ll" "$folder/web"
+bindings/python/make_vectors.sh "$x86_64/libbcs.so" "$folder/vectors"
 tools/libraries.py >"$folder/LIBRARIES"
 
 find "$folder" -type f -exec chmod 644 {} +

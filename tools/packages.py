@@ -3,7 +3,8 @@
 
     bcs_VERSION_amd64.deb           the program, its manual and its completions
     libbcs-dev_VERSION_amd64.deb    the C library, its header, and the file for pkg-config
-    .._arm64.deb                    the same two for arm64
+    python3-bcs-proved_VERSION_amd64.deb    the Python module with the library in it
+    .._arm64.deb                    the same three for arm64
     bcs_proved-VERSION-..whl        the Python module with the library in it, for pip: for Linux on x86-64 and arm64,
                                     and for Windows
     bcs_proved-VERSION.tar.gz       the same with the library in C, which pip compiles on other systems

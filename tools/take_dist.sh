@@ -6,7 +6,7 @@ set -eu
 unset CDPATH
 cd "$(dirname "$0")/.."
 folder=${1:-out/dist}
-names='x86_64-linux aarch64-linux x86_64-windows web LIBRARIES SHA256SUMS BUILT_FROM'
+names='x86_64-linux aarch64-linux x86_64-windows web vectors LIBRARIES SHA256SUMS BUILT_FROM'
 
 fail() {
     echo "tools/take_dist.sh: $1; dist/ is as it was" >&2

@@ -263,6 +263,7 @@ GLUE = {
     "C library": ["bindings/c/*.c", "bindings/c/*.h", "bindings/c/include/*.h"],
     "Rust": ["bindings/rust/src/**/*.rs"],
     "Python": ["bindings/python/bcs_proved/*.py"],
+    "test vectors": ["bindings/python/bcs_proved/vectors/*.py"],
     "JavaScript and WebAssembly": ["bindings/web/*.mjs", "bindings/web/*.c"],
     "the program and the library in C": [
         "bindings/portable/*.c",
@@ -285,6 +286,7 @@ GLUE = {
         "bindings/web/module.py",
         "bindings/web/module_rewriting.py",
         "bindings/web/page/build.py",
+        "bindings/python/make_vectors.sh",
     ],
 }
 

@@ -136,20 +136,20 @@ static size_t stack_left(void) {
 
 /* ---- The stack that a call needs. */
 
-/* In bytes, and at least 15 % more than was measured: see README.md. Windows saves more registers than other systems. */
+/* In bytes, and at least 15 % more than was measured, as in parentheses: on Linux; on Windows, which saves more registers. */
 #ifdef _WIN32
 #define ON(windows, others) windows
 #else
 #define ON(windows, others) others
 #endif
 enum need {
-    FIXED = 28 << 10,                   /* any call */
-    READ_NESTING = ON(1120, 912),       /* reading JSON: for each array or object in another */
-    BYTES_CONTAINER = ON(880, 768),     /* walking through bytes: for each open container */
-    BYTES_LEVEL = ON(640, 464),         /* and for each level of its format */
-    TEXT_CONTAINER = ON(1360, 1168),    /* walking through or printing the JSON of a value: for each open container */
-    NESTING_CONTAINER = ON(1024, 848),  /* and for each one that nests in the JSON */
-    TEXT_LEVEL = ON(1936, 1536),        /* and for each level, as long as that nests */
+    FIXED = 28 << 10,                   /* any call (22700) */
+    READ_NESTING = ON(1120, 912),       /* reading JSON: for each array or object in another (784; 960) */
+    BYTES_CONTAINER = ON(880, 768),     /* reading bytes: for each open container (656; 752) */
+    BYTES_LEVEL = ON(640, 464),         /* and for each level of its format (400; 544) */
+    TEXT_CONTAINER = ON(1360, 1168),    /* reading or printing the JSON of a value: for each open container (1010; 1168) */
+    NESTING_CONTAINER = ON(1024, 848),  /* and for each one that nests in the JSON (730; 880) */
+    TEXT_LEVEL = ON(1936, 1536),        /* and for each level, as long as that nests (1330; 1680) */
 };
 
 #define MOST_LEVELS 32
@@ -392,7 +392,11 @@ static bool is_final(bcs_answer answer) {
     return is_too_deep(answer) || answer.status == BCS_MEMORY;
 }
 
-/* The next three write about a refusal. If the depth was lowered, they first make sure that it isn't TooDeep; if it is, or if
+static bcs_answer code_if_lowered(struct use *use, const uint8_t *text, size_t text_length) {
+    return use->is_lowered ? bcs_c_handle_to_bcs(use->proved, &use->ask, text, text_length, NULL, 0) : plain(BCS_DONE);
+}
+
+/* The next five write about a refusal. If the depth was lowered, they first make sure that it isn't TooDeep; if it is, or if
    memory or stack ran out on the way, that is their answer. */
 static bcs_answer explain(struct use *use, uint32_t form, const uint8_t *bytes, size_t bytes_length, uint8_t *out,
                           size_t out_length) {
@@ -412,30 +416,53 @@ static bcs_answer stop_place(struct use *use, uint32_t what, const uint8_t *byte
 
 static bcs_answer text_place(struct use *use, uint32_t what, const uint8_t *text, size_t text_length, uint8_t *out,
                              size_t out_length) {
-    const bcs_answer coded = use->is_lowered ? bcs_c_handle_to_bcs(use->proved, &use->ask, text, text_length, NULL, 0)
-                                             : plain(BCS_DONE);
+    const bcs_answer coded = code_if_lowered(use, text, text_length);
     return is_final(coded) ? coded
                            : bcs_c_handle_text_place(use->proved, &use->ask, what, text, text_length, out, out_length);
 }
 
-/* Defines a call twice: with the text of a registry, and with a handle. */
+static bcs_answer text_refusal(struct use *use, const uint8_t *text, size_t text_length, uint8_t *out,
+                               size_t out_length) {
+    const bcs_answer coded = code_if_lowered(use, text, text_length);
+    return is_final(coded) ? coded
+                           : bcs_c_handle_text_refusal(use->proved, &use->ask, text, text_length, out, out_length);
+}
+
+static bcs_answer stop_refusal(struct use *use, const uint8_t *bytes, size_t bytes_length, uint8_t *out,
+                               size_t out_length) {
+    const bcs_answer scanned = scan_if_lowered(use, bytes, bytes_length);
+    return is_final(scanned)
+               ? scanned
+               : bcs_c_handle_stop_refusal(use->proved, &use->ask, bytes, bytes_length, out, out_length);
+}
+
+/* Another depth may have another example, so there is none at a lowered one. */
+static bcs_answer example(struct use *use, uint32_t form, const uint8_t *variant, size_t variant_length, uint8_t *out,
+                          size_t out_length) {
+    return use->is_lowered
+               ? plain(BCS_MEMORY)
+               : bcs_c_handle_example(use->proved, &use->ask, form, variant, variant_length, out, out_length);
+}
+
+/* Defines a call with a handle, or twice: with the text of a registry, too. */
 #define FORMAT_AND_LIMITS const uint8_t *format, size_t format_length, uint32_t depth, uint32_t nodes
 #define IN(input) , const uint8_t *input, size_t input##_length
 #define NUMBER(name) , uint32_t name
 #define OUT , uint8_t *out, size_t out_length
-#define BOTH(name, PARAMETERS, CALL)                                                                                   \
-    bcs_answer bcs_##name(const uint8_t *registry, size_t registry_length, FORMAT_AND_LIMITS PARAMETERS) {             \
+#define BODY(BEGUN, CALL)                                                                                              \
+    {                                                                                                                  \
         const bcs_c_handle_ask ask = {format, format_length, depth, nodes};                                            \
         struct use use;                                                                                                \
-        const bcs_answer begun = begin(&use, NULL, registry, registry_length, &ask);                                   \
-        return begun.status == BCS_DONE ? end(&use, CALL) : begun;                                                     \
-    }                                                                                                                  \
-    bcs_answer bcs_handle_##name(bcs_handle *handle, FORMAT_AND_LIMITS PARAMETERS) {                                   \
-        const bcs_c_handle_ask ask = {format, format_length, depth, nodes};                                            \
-        struct use use;                                                                                                \
-        const bcs_answer begun = handle != NULL ? begin(&use, handle, NULL, 0, &ask) : plain(BCS_CLOSED);              \
+        const bcs_answer begun = BEGUN;                                                                                \
         return begun.status == BCS_DONE ? end(&use, CALL) : begun;                                                     \
     }
+#define ON_THE_HANDLE handle != NULL ? begin(&use, handle, NULL, 0, &ask) : plain(BCS_CLOSED)
+#define WITH_HANDLE(name, PARAMETERS, CALL)                                                                            \
+    bcs_answer bcs_handle_##name(bcs_handle *handle, FORMAT_AND_LIMITS PARAMETERS) BODY(ON_THE_HANDLE, CALL)
+#define BOTH(name, PARAMETERS, CALL)                                                                                   \
+    bcs_answer bcs_##name(const uint8_t *registry, size_t registry_length, FORMAT_AND_LIMITS PARAMETERS)               \
+        BODY(begin(&use, NULL, registry, registry_length, &ask), CALL)                                                 \
+    bcs_answer bcs_handle_##name(bcs_handle *handle, FORMAT_AND_LIMITS PARAMETERS) BODY(ON_THE_HANDLE, CALL)
 
 #define IF_READ(input, call) (can_read(use.left, input, input##_length) ? (call) : plain(BCS_MEMORY))
 
@@ -454,11 +481,58 @@ BOTH(explain, NUMBER(form) IN(bytes) OUT, explain(&use, form, bytes, bytes_lengt
 BOTH(text_place, NUMBER(what) IN(text) OUT,
      IF_READ(text, text_place(&use, what, text, text_length, out, out_length)))
 BOTH(stop_place, NUMBER(what) IN(bytes) OUT, stop_place(&use, what, bytes, bytes_length, out, out_length))
+WITH_HANDLE(text_refusal, IN(text) OUT, IF_READ(text, text_refusal(&use, text, text_length, out, out_length)))
+WITH_HANDLE(stop_refusal, IN(bytes) OUT, stop_refusal(&use, bytes, bytes_length, out, out_length))
+WITH_HANDLE(schema, OUT, bcs_c_handle_schema(use.proved, &use.ask, out, out_length))
+WITH_HANDLE(example, NUMBER(form) IN(variant) OUT, example(&use, form, variant, variant_length, out, out_length))
+
+bcs_answer bcs_handle_show(bcs_handle *handle, uint32_t form, const uint8_t *name, size_t name_length, uint8_t *out,
+                           size_t out_length) {
+    const bcs_c_handle_ask ask = {NULL, 0, 0, 0};
+    struct use use;
+    const bcs_answer begun = handle != NULL ? begin(&use, handle, NULL, 0, &ask) : plain(BCS_CLOSED);
+    return begun.status == BCS_DONE
+               ? end(&use, bcs_c_handle_show(use.proved, form, name, name_length, out, out_length))
+               : begun;
+}
+
+bcs_answer bcs_handle_format_place(bcs_handle *handle, const uint8_t *format, size_t format_length, uint8_t *out,
+                                   size_t out_length) {
+    const size_t left = stack_left();
+    if (handle == NULL) {
+        return plain(BCS_CLOSED);
+    }
+    return fits_reading(left, handle->shape.nesting) && can_read(left, format, format_length)
+               ? bcs_c_format_place(handle->registry, handle->length, format, format_length, out, out_length)
+               : plain(BCS_MEMORY);
+}
+
+bcs_answer bcs_path_place(const uint8_t *path, size_t path_length, uint8_t *out, size_t out_length) {
+    return fits_reading(stack_left(), 0) ? bcs_c_path_place(path, path_length, out, out_length) : plain(BCS_MEMORY);
+}
+
+static bool can_read_both(const uint8_t *older, size_t older_length, const uint8_t *newer, size_t newer_length) {
+    const size_t left = stack_left();
+    return can_read(left, older, older_length) && can_read(left, newer, newer_length);
+}
 
 bcs_answer bcs_grows(const uint8_t *older, size_t older_length, const uint8_t *newer, size_t newer_length) {
-    const size_t left = stack_left();
-    return can_read(left, older, older_length) && can_read(left, newer, newer_length)
+    return can_read_both(older, older_length, newer, newer_length)
                ? bcs_c_grows(older, older_length, newer, newer_length)
+               : plain(BCS_MEMORY);
+}
+
+bcs_answer bcs_growth_list(const uint8_t *older, size_t older_length, const uint8_t *newer, size_t newer_length,
+                           uint8_t *out, size_t out_length) {
+    return can_read_both(older, older_length, newer, newer_length)
+               ? bcs_c_growth_list(older, older_length, newer, newer_length, out, out_length)
+               : plain(BCS_MEMORY);
+}
+
+bcs_answer bcs_growth_place(const uint8_t *older, size_t older_length, const uint8_t *newer, size_t newer_length,
+                            uint8_t *out, size_t out_length) {
+    return can_read_both(older, older_length, newer, newer_length)
+               ? bcs_c_growth_place(older, older_length, newer, newer_length, out, out_length)
                : plain(BCS_MEMORY);
 }
 

@@ -71,6 +71,22 @@ bcs_answer bcs_c_handle_text_place(bcs_c_handle *handle, const bcs_c_handle_ask 
                                    const uint8_t *text, size_t text_length, uint8_t *out, size_t out_length);
 bcs_answer bcs_c_handle_stop_place(bcs_c_handle *handle, const bcs_c_handle_ask *ask, uint32_t what,
                                    const uint8_t *bytes, size_t bytes_length, uint8_t *out, size_t out_length);
+bcs_answer bcs_c_handle_text_refusal(bcs_c_handle *handle, const bcs_c_handle_ask *ask, const uint8_t *text,
+                                     size_t text_length, uint8_t *out, size_t out_length);
+bcs_answer bcs_c_handle_stop_refusal(bcs_c_handle *handle, const bcs_c_handle_ask *ask, const uint8_t *bytes,
+                                     size_t bytes_length, uint8_t *out, size_t out_length);
+bcs_answer bcs_c_handle_schema(bcs_c_handle *handle, const bcs_c_handle_ask *ask, uint8_t *out, size_t out_length);
+bcs_answer bcs_c_handle_example(bcs_c_handle *handle, const bcs_c_handle_ask *ask, uint32_t form,
+                                const uint8_t *variant, size_t variant_length, uint8_t *out, size_t out_length);
+bcs_answer bcs_c_handle_show(bcs_c_handle *handle, uint32_t form, const uint8_t *name, size_t name_length, uint8_t *out,
+                             size_t out_length);
+bcs_answer bcs_c_format_place(const uint8_t *registry, size_t registry_length, const uint8_t *format,
+                              size_t format_length, uint8_t *out, size_t out_length);
+bcs_answer bcs_c_path_place(const uint8_t *path, size_t path_length, uint8_t *out, size_t out_length);
+bcs_answer bcs_c_growth_list(const uint8_t *older, size_t older_length, const uint8_t *newer, size_t newer_length,
+                             uint8_t *out, size_t out_length);
+bcs_answer bcs_c_growth_place(const uint8_t *older, size_t older_length, const uint8_t *newer, size_t newer_length,
+                              uint8_t *out, size_t out_length);
 bcs_answer bcs_c_fault_name(uint32_t fault, uint8_t *out, size_t out_length);
 
 #endif

@@ -105,7 +105,7 @@ readelf -d "$room/example" >"$room/log"
 ! grep -q 'NEEDED.*libbcs' "$room/log" || fail "example.c isn't linked statically"
 echo "c: example.c, linked dynamically and statically"
 
-for name in calls refusals handles places beside; do
+for name in calls refusals handles places documents beside; do
     run_sanitized "$name" libbcs.a
 done
 echo "c: all calls, with texts and on handles, and each status and fault, under the sanitizers of addresses and undefined behaviour"

@@ -15,6 +15,7 @@ import "C"
 import (
 	"math"
 	"runtime"
+	"strings"
 	"sync"
 	"unsafe"
 )
@@ -139,6 +140,21 @@ func (r *Registry) Decode(format string, data []byte) ([]byte, error) {
 	return out, q.refusal(answer, KindBytes, data)
 }
 
+// DecodePrefix returns the normal JSON document of the value at the beginning of data, and how many bytes it has. What follows
+// isn't read.
+func (r *Registry) DecodePrefix(format string, data []byte) ([]byte, int, error) {
+	length, err := r.Scan(format, data)
+	if err != nil {
+		return nil, 0, err
+	}
+	limits := limitsFor(data) // the default depends on all of data, so both steps get the same one
+	if r.limits != nil {
+		limits = *r.limits
+	}
+	json, err := r.WithLimits(limits).Decode(format, data[:length])
+	return json, length, err
+}
+
 // Normalise returns the one normal JSON document of the value that a JSON document represents.
 func (r *Registry) Normalise(format string, json []byte) ([]byte, error) {
 	q, err := r.ask(format, StandardLimits())
@@ -165,7 +181,7 @@ func (r *Registry) Equal(format string, first, second []byte) (bool, error) {
 		return false, nil
 	}
 	refused := first
-	if answer.status == C.BCS_REFUSED && q.place(KindJSON, C.BCS_WHERE, first, nil, 0).status == C.BCS_NO {
+	if answer.status == C.BCS_REFUSED && q.place(KindJSON, first, nil, 0).status == C.BCS_NO {
 		refused = second
 	}
 	err = q.refusal(answer, KindJSON, refused)
@@ -197,6 +213,11 @@ func (r *Registry) Part(format string, data []byte, path string) (*Part, error) 
 		size(steps))
 	if answer.status == C.BCS_NO {
 		return nil, nil
+	}
+	if answer.status == C.BCS_PATH {
+		return nil, refusalInLine(KindPath, "PATH", answer, func(out *C.uint8_t, length C.size_t) C.bcs_answer {
+			return C.bcs_path_place(at(steps), size(steps), out, length)
+		})
 	}
 	if err := q.refusal(answer, KindBytes, data); err != nil {
 		return nil, err
@@ -237,12 +258,90 @@ func Grows(older, newer []byte) error {
 	case C.BCS_DONE:
 		return nil
 	case C.BCS_REFUSED:
-		return &Error{Kind: KindGrowth, Reason: reason(answer.fault), Place: -1}
+		return refusalInLine(KindGrowth, "", answer, func(out *C.uint8_t, length C.size_t) C.bcs_answer {
+			return C.bcs_growth_place(at(older), size(older), at(newer), size(newer), out, length)
+		})
 	case C.BCS_NEWER:
 		return refusalOfRegistry(answer, KindNewer, newer)
 	default:
 		return refusalOfRegistry(answer, KindRegistry, older)
 	}
+}
+
+// Differences returns all differences between two registries, one per line, as `bcs grows --list` prints them.
+func Differences(older, newer []byte) ([]string, error) {
+	if !isSupported {
+		return nil, ErrUnsupported
+	}
+	out, answer := output(4096, func(out *C.uint8_t, length C.size_t) C.bcs_answer {
+		return C.bcs_growth_list(at(older), size(older), at(newer), size(newer), out, length)
+	})
+	switch answer.status {
+	case C.BCS_DONE:
+		return strings.FieldsFunc(string(out), func(r rune) bool { return r == '\n' }), nil
+	case C.BCS_NEWER:
+		return nil, refusalOfRegistry(answer, KindNewer, newer)
+	default:
+		return nil, refusalOfRegistry(answer, KindRegistry, older)
+	}
+}
+
+// Schema returns a JSON Schema of the JSON documents of the format's values.
+func (r *Registry) Schema(format string) ([]byte, error) {
+	q, err := r.ask(format, StandardLimits())
+	if err != nil {
+		return nil, err
+	}
+	defer q.end()
+	out, answer := output(4096, func(out *C.uint8_t, length C.size_t) C.bcs_answer {
+		return C.bcs_handle_schema(q.handle, at(q.format), size(q.format), q.depth, q.nodes, out, length)
+	})
+	return out, q.refusal(answer, KindFormat, nil)
+}
+
+// ExampleOptions say which example Example makes.
+type ExampleOptions struct {
+	Variant string // selects this variant of the enum that the format names
+	Full    bool   // gives each option, list and map an element
+}
+
+// Example returns the JSON document of a value of the format, as `bcs example` prints it.
+func (r *Registry) Example(format string, options ExampleOptions) ([]byte, error) {
+	q, err := r.ask(format, StandardLimits())
+	if err != nil {
+		return nil, err
+	}
+	defer q.end()
+	form, variant := C.uint32_t(C.BCS_LEAST), []byte(options.Variant)
+	if options.Full {
+		form = C.BCS_FULL
+	}
+	out, answer := output(1024, func(out *C.uint8_t, length C.size_t) C.bcs_answer {
+		return C.bcs_handle_example(q.handle, at(q.format), size(q.format), q.depth, q.nodes, form, at(variant), size(variant),
+			out, length)
+	})
+	if answer.status == C.BCS_REFUSED {
+		return nil, &Error{Kind: KindExample, Reason: reason(answer.fault), Place: -1}
+	}
+	return out, q.refusal(answer, KindExample, nil)
+}
+
+// Show returns the registry in readable form, as `bcs show` prints it; or, if name isn't empty, only that container with what
+// it depends on. With FormJSON it is compact JSON.
+func (r *Registry) Show(name string, form Form) (string, error) {
+	q, err := r.ask("", StandardLimits())
+	if err != nil {
+		return "", err
+	}
+	defer q.end()
+	word := []byte(name)
+	out, answer := output(4096, func(out *C.uint8_t, length C.size_t) C.bcs_answer {
+		return C.bcs_handle_show(q.handle, C.uint32_t(form), at(word), size(word), out, length)
+	})
+	if answer.status == C.BCS_FORMAT {
+		return "", &Error{Kind: KindFormat, Reason: reason(answer.fault), Place: -1, Expected: "no container is called " + name}
+	}
+	return string(out), q.refusal(answer, KindFormat, nil)
 }
 
 // question is a call in progress. It holds the registry's lock until end.

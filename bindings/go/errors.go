@@ -4,6 +4,7 @@ package bcsproved
 import "C"
 
 import (
+	"bytes"
 	"errors"
 	"fmt"
 	"strings"
@@ -30,6 +31,7 @@ const (
 	KindJSON     Kind = "JSON"   // the JSON of a value
 	KindBytes    Kind = "bytes"
 	KindPath     Kind = "path"
+	KindExample  Kind = "example" // the format has no such example
 )
 
 // Error is a refusal.
@@ -44,8 +46,8 @@ type Error struct {
 	Place int
 
 	// Pointer says where the fault is. Of JSON it is a JSON Pointer (RFC 6901) such as /payload/args/1, which is empty if the
-	// document is refused as a whole; of bytes the names that lead there, such as .payload.args[1]; of a registry the place as
-	// the program bcs prints it.
+	// document is refused as a whole; of bytes the names that lead there, such as .payload.args[1]; of a format a JSON Pointer; of
+	// a registry, a path or growth the place as the program bcs prints it.
 	Pointer string
 
 	// Expected says what was expected there, or what is wrong. The text is for people, and may change.
@@ -88,11 +90,11 @@ func (q *question) refusal(answer C.bcs_answer, kind Kind, input []byte) error {
 	case C.BCS_MEMORY:
 		return ErrMemory
 	case C.BCS_FORMAT:
-		return &Error{Kind: KindFormat, Reason: reason(answer.fault), Place: -1}
+		return refusalInLine(KindFormat, "FORMAT", answer, func(out *C.uint8_t, length C.size_t) C.bcs_answer {
+			return C.bcs_handle_format_place(q.handle, at(q.format), size(q.format), out, length)
+		})
 	case C.BCS_LIMITS:
 		return &Error{Kind: KindLimits, Place: -1}
-	case C.BCS_PATH:
-		return &Error{Kind: KindPath, Reason: reason(answer.fault), Place: -1}
 	case C.BCS_REFUSED:
 		refused, err := q.refused(answer, kind, input)
 		if err != nil {
@@ -110,13 +112,35 @@ func (q *question) refused(answer C.bcs_answer, kind Kind, input []byte) (*Error
 	if kind == KindBytes && answer.fault != C.BCS_SHOWN_TOO_NESTED {
 		refused.Place = int(answer.place)
 	}
-	err := addPlace(refused, func(what C.uint32_t, out *C.uint8_t, length C.size_t) C.bcs_answer {
-		return q.place(kind, what, input, out, length)
-	})
-	if err != nil {
-		return nil, err
+	told, place := output(256, func(out *C.uint8_t, length C.size_t) C.bcs_answer { return q.place(kind, input, out, length) })
+	if place.status == C.BCS_MEMORY {
+		return nil, ErrMemory
+	}
+	// A pointer may contain a NUL. The one before the words is the last.
+	if end := bytes.LastIndexByte(told, 0); end >= 0 {
+		refused.Pointer, refused.Expected = string(told[:end]), string(told[end+1:])
 	}
 	return refused, nil
+}
+
+// refusalInLine returns an error with what a call reports in a line of the program, such as
+// at FORMAT, /SEQ: BadShape: wanted a format. Names in it may contain anything.
+func refusalInLine(kind Kind, prefix string, answer C.bcs_answer, ask func(out *C.uint8_t, length C.size_t) C.bcs_answer) error {
+	refused := &Error{Kind: kind, Reason: reason(answer.fault), Place: -1}
+	told, place := output(256, ask)
+	if place.status == C.BCS_MEMORY {
+		return ErrMemory
+	}
+	line, middle := strings.TrimPrefix(string(told), "at "), ": "+refused.Reason
+	end := strings.LastIndex(line, middle)
+	if refused.Reason == "UnknownName" { // only these words have a name in them, and only the place of the others
+		end = strings.Index(line, middle)
+	}
+	if end >= 0 {
+		refused.Pointer = strings.TrimPrefix(strings.TrimPrefix(line[:end], prefix), ", ")
+		refused.Expected = strings.TrimPrefix(line[end+len(middle):], ": ")
+	}
+	return refused
 }
 
 // damage returns what an explanation reports beside its text, or nil.
@@ -127,12 +151,12 @@ func (q *question) damage(answer C.bcs_answer, data []byte) (*Error, error) {
 	return q.refused(answer, KindBytes, data)
 }
 
-func (q *question) place(kind Kind, what C.uint32_t, input []byte, out *C.uint8_t, length C.size_t) C.bcs_answer {
+func (q *question) place(kind Kind, input []byte, out *C.uint8_t, length C.size_t) C.bcs_answer {
 	if kind == KindBytes {
-		return C.bcs_handle_stop_place(q.handle, at(q.format), size(q.format), q.depth, q.nodes, what, at(input), size(input),
-			out, length)
+		return C.bcs_handle_stop_refusal(q.handle, at(q.format), size(q.format), q.depth, q.nodes, at(input), size(input), out,
+			length)
 	}
-	return C.bcs_handle_text_place(q.handle, at(q.format), size(q.format), q.depth, q.nodes, what, at(input), size(input), out,
+	return C.bcs_handle_text_refusal(q.handle, at(q.format), size(q.format), q.depth, q.nodes, at(input), size(input), out,
 		length)
 }
 

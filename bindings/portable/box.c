@@ -82,6 +82,15 @@ enum proved {
     EXPLAIN,
     TEXT_PLACE,
     STOP_PLACE,
+    TEXT_REFUSAL,
+    STOP_REFUSAL,
+    SCHEMA,
+    EXAMPLE,
+    SHOW,
+    FORMAT_PLACE,
+    PATH_PLACE,
+    GROWTH_LIST,
+    GROWTH_PLACE,
     GROWS,
     REGISTRY_PLACE,
     FAULT_NAME,
@@ -187,6 +196,15 @@ static void make_proved(struct box *box, const struct call *call, const struct p
     case STOP_PLACE:
         Z_bcsZ_bcs_c_handle_stop_place(in, answer, handle, ask, call->number, first, first_length, out, room);
         break;
+    case TEXT_REFUSAL: Z_bcsZ_bcs_c_handle_text_refusal(in, answer, handle, ask, first, first_length, out, room); break;
+    case STOP_REFUSAL: Z_bcsZ_bcs_c_handle_stop_refusal(in, answer, handle, ask, first, first_length, out, room); break;
+    case SCHEMA: Z_bcsZ_bcs_c_handle_schema(in, answer, handle, ask, out, room); break;
+    case EXAMPLE: Z_bcsZ_bcs_c_handle_example(in, answer, handle, ask, call->number, first, first_length, out, room); break;
+    case SHOW: Z_bcsZ_bcs_c_handle_show(in, answer, handle, call->number, first, first_length, out, room); break;
+    case FORMAT_PLACE: Z_bcsZ_bcs_c_format_place(in, answer, first, first_length, second, second_length, out, room); break;
+    case PATH_PLACE: Z_bcsZ_bcs_c_path_place(in, answer, first, first_length, out, room); break;
+    case GROWTH_LIST: Z_bcsZ_bcs_c_growth_list(in, answer, first, first_length, second, second_length, out, room); break;
+    case GROWTH_PLACE: Z_bcsZ_bcs_c_growth_place(in, answer, first, first_length, second, second_length, out, room); break;
     case GROWS: Z_bcsZ_bcs_c_grows(in, answer, first, first_length, second, second_length); break;
     case REGISTRY_PLACE: Z_bcsZ_bcs_c_registry_place(in, answer, call->number, first, first_length, out, room); break;
     case FAULT_NAME: Z_bcsZ_bcs_c_fault_name(in, answer, call->number, out, room); break;
@@ -338,6 +356,36 @@ ON_HANDLE(part, PART, IN(bytes) IN(path), GIVEN(first, bytes), GIVEN(second, pat
 ON_HANDLE(explain, EXPLAIN, NUMBER(form) IN(bytes) OUT, .number = form, GIVEN(first, bytes), TO_OUT)
 ON_HANDLE(text_place, TEXT_PLACE, NUMBER(what) IN(text) OUT, .number = what, GIVEN(first, text), TO_OUT)
 ON_HANDLE(stop_place, STOP_PLACE, NUMBER(what) IN(bytes) OUT, .number = what, GIVEN(first, bytes), TO_OUT)
+
+ON_HANDLE(text_refusal, TEXT_REFUSAL, IN(text) OUT, GIVEN(first, text), TO_OUT)
+ON_HANDLE(stop_refusal, STOP_REFUSAL, IN(bytes) OUT, GIVEN(first, bytes), TO_OUT)
+ON_HANDLE(schema, SCHEMA, OUT, TO_OUT)
+ON_HANDLE(example, EXAMPLE, NUMBER(form) IN(variant) OUT, .number = form, GIVEN(first, variant), TO_OUT)
+
+static bcs_answer bcs_c_handle_show(bcs_c_handle *handle, uint32_t form, const uint8_t *name, size_t name_length,
+                                    uint8_t *out, size_t out_length) {
+    const struct call call = {.proved = SHOW, .number = form, GIVEN(first, name), TO_OUT};
+    return run(handle->registry, true, &call);
+}
+
+static bcs_answer bcs_c_format_place(const uint8_t *registry, size_t registry_length, const uint8_t *format,
+                                     size_t format_length, uint8_t *out, size_t out_length) {
+    return run_alone((struct call){.proved = FORMAT_PLACE, GIVEN(first, registry), GIVEN(second, format), TO_OUT});
+}
+
+static bcs_answer bcs_c_path_place(const uint8_t *path, size_t path_length, uint8_t *out, size_t out_length) {
+    return run_alone((struct call){.proved = PATH_PLACE, GIVEN(first, path), TO_OUT});
+}
+
+static bcs_answer bcs_c_growth_list(const uint8_t *older, size_t older_length, const uint8_t *newer, size_t newer_length,
+                                    uint8_t *out, size_t out_length) {
+    return run_alone((struct call){.proved = GROWTH_LIST, GIVEN(first, older), GIVEN(second, newer), TO_OUT});
+}
+
+static bcs_answer bcs_c_growth_place(const uint8_t *older, size_t older_length, const uint8_t *newer,
+                                     size_t newer_length, uint8_t *out, size_t out_length) {
+    return run_alone((struct call){.proved = GROWTH_PLACE, GIVEN(first, older), GIVEN(second, newer), TO_OUT});
+}
 
 static bcs_answer bcs_c_grows(const uint8_t *older, size_t older_length, const uint8_t *newer, size_t newer_length) {
     return run_alone((struct call){.proved = GROWS, GIVEN(first, older), GIVEN(second, newer)});

@@ -39,7 +39,7 @@ extern struct piece utf8_of(struct piece text);
 extern struct piece argument(FunctionCallInfo fcinfo, int place);
 
 /* registries.c: the registry of the first argument. */
-extern bcs_handle *registry_of_call(FunctionCallInfo fcinfo);
+extern const Registry *registry_of_call(FunctionCallInfo fcinfo);
 extern bool is_registry_name(struct piece text);
 extern void watch_names(void);
 
@@ -47,6 +47,7 @@ extern void watch_names(void);
  * says why and where bytes stop being a value. */
 extern pg_attribute_noreturn() void refuse(const Question *question, bcs_answer answer);
 extern pg_attribute_noreturn() void refuse_registry(struct piece text, bcs_answer answer);
+extern pg_attribute_noreturn() void raise_memory(void);
 extern const char *json_of_stop(const Question *question, bcs_answer answer);
 
 #endif

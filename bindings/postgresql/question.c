@@ -94,12 +94,26 @@ cap_nodes(Question *question, int weight)
 	}
 }
 
+/* A handle keeps the format of its last call, which has to outlive the query. So the handle reads it here, with its own
+ * memory, and the call itself finds it. A format that is refused isn't kept, and the call refuses it again. */
+static void
+keep_format(const struct ask *ask, MemoryContext context)
+{
+	MemoryContext outer = MemoryContextSwitchTo(context);
+	bcs_answer	answer = bcs_handle_check(ASK(ask));
+
+	MemoryContextSwitchTo(outer);
+	if (answer.status == BCS_MEMORY)
+		raise_memory();
+}
+
 static Question
 question_of_call(FunctionCallInfo fcinfo, int inputs)
 {
 	const int64 nodes = PG_GETARG_INT64(2 + inputs);
 	const int32 depth = PG_GETARG_INT32(3 + inputs);
 	Question	question = {.ask = {.depth = depth, .nodes = nodes}};
+	const Registry *registry;
 
 	if (nodes < 0 || nodes > BCS_NODES || depth < 0 || depth > BCS_DEPTH)
 		ereport(ERROR,
@@ -109,7 +123,9 @@ question_of_call(FunctionCallInfo fcinfo, int inputs)
 	check_stack(depth);
 	cap_nodes(&question, 1);
 	question.ask.format = format_of(argument(fcinfo, 1));
-	question.ask.handle = registry_of_call(fcinfo);
+	registry = registry_of_call(fcinfo);
+	question.ask.handle = registry->handle;
+	keep_format(&question.ask, registry->context);
 	return question;
 }
 

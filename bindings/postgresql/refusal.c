@@ -15,7 +15,7 @@ sqlstate_of(bcs_answer answer)
 	return is_stop(answer) ? ERRCODE_INVALID_BINARY_REPRESENTATION : ERRCODE_INVALID_TEXT_REPRESENTATION;
 }
 
-static pg_attribute_noreturn() void
+void
 raise_memory(void)
 {
 	/* A session that is cancelled or ended got no memory, and this ends it. */

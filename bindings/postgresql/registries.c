@@ -227,7 +227,7 @@ kept_of_call(FunctionCallInfo fcinfo)
 }
 
 /* If the argument is a constant, it is looked at once. */
-bcs_handle *
+const Registry *
 registry_of_call(FunctionCallInfo fcinfo)
 {
 	Kept	   *kept = kept_of_call(fcinfo);
@@ -244,5 +244,5 @@ registry_of_call(FunctionCallInfo fcinfo)
 		kept->number = kept->registry->number;
 	}
 	kept->registry->used = ++uses;
-	return kept->registry->handle;
+	return kept->registry;
 }

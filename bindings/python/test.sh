@@ -1,6 +1,6 @@
 #!/bin/sh
 # Tests the module of Python over the library that bindings/c/build.sh installed: in the variable BCS_PREFIX, or bindings/c/out.
-# If mypy or numpy is missing, it installs Debian's packages, so Debian's own Python runs the tests.
+# If mypy, numpy or PyYAML is missing, it installs Debian's packages, so Debian's own Python runs the tests.
 set -eu
 unset CDPATH
 here=$(cd "$(dirname "$0")" && pwd)
@@ -14,14 +14,14 @@ fail() {
 
 [ -e "$BCS_LIBRARY" ] || fail "no library $BCS_LIBRARY: bindings/c/build.sh makes it"
 are_there() {
-    command -v mypy >/dev/null && /usr/bin/python3 -c 'import numpy' 2>/dev/null
+    command -v mypy >/dev/null && /usr/bin/python3 -c 'import numpy, yaml' 2>/dev/null
 }
 install_packages() {
     apt-get update -qq \
-        && DEBIAN_FRONTEND=noninteractive apt-get install -y -qq --no-install-recommends mypy python3 python3-numpy
+        && DEBIAN_FRONTEND=noninteractive apt-get install -y -qq --no-install-recommends mypy python3 python3-numpy python3-yaml
 }
 are_there || { install_packages >/dev/null 2>&1 && are_there; } \
-    || fail "mypy or numpy is missing, and the packages can't be installed"
+    || fail "mypy, numpy or PyYAML is missing, and the packages can't be installed"
 room=$(mktemp -d)
 trap 'rm -rf "$room"' EXIT
 /usr/bin/python3 -m unittest discover -s "$here/tests" >"$room/log" 2>&1 || {

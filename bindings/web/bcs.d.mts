@@ -60,17 +60,20 @@ export type ValueInput =
   | ReadonlyMap<ValueInput, ValueInput>
   | { readonly [name: string]: ValueInput };
 
-/** By the names of a registry's containers, what `encode` takes and what `decode` gives. `bcs-types` writes them. */
-export type Types = { [name: string]: { encode: unknown; decode: unknown } };
+/**
+ * By the names of a registry's containers, what `encode` accepts and what `decode` returns. `bcs-types` writes them; with
+ * `--plain-options`, what `decode` returns with `{ plainOptions: true }`.
+ */
+export type Types = { [name: string]: { encode: unknown; decode: unknown; plain?: unknown } };
 
 /** Those of a registry whose types aren't known. */
-export type AnyTypes = { [name: string]: { encode: ValueInput; decode: Value } };
+export type AnyTypes = { [name: string]: { encode: ValueInput; decode: Value; plain: Value } };
 
-/** What `encode` takes for a format, or `decode` gives: by the types where it is a container's name. */
-export type ValueOf<T extends Types, F, Call extends 'encode' | 'decode'> = F extends FormatText | FormatObject
+/** What `encode` accepts for a format, or `decode` returns: by the types where it is a container's name. */
+export type ValueOf<T extends Types, F, Call extends 'encode' | 'decode' | 'plain'> = F extends FormatText | FormatObject
   ? AnyTypes[string][Call]
   : F extends keyof T
-    ? T[F][Call]
+    ? T[F] extends { [call in Call]: infer V } ? V : Value
     : never;
 
 export interface Limits {
@@ -102,6 +105,8 @@ export type Kind =
   | 'path'
   /** The newer registry doesn't keep what the older one has. */
   | 'growth'
+  /** The format has no such example. */
+  | 'example'
   /** The machine's memory or stack didn't suffice. */
   | 'memory' | 'stack';
 
@@ -115,7 +120,8 @@ export class BcsError extends Error {
   readonly place?: number;
   /**
    * Where it is: of a value or a text a JSON Pointer, as `/payload/args/1`, which is empty where it is refused as a whole; of bytes
-   * the way to where they stop, as `.payload.args[1]`; of a registry its place as the program `bcs` prints it.
+   * the way to where they stop, as `.payload.args[1]`; of a format a JSON Pointer; of a registry, a path or growth its place as the
+   * program `bcs` prints it.
    */
   readonly pointer?: string;
   /**
@@ -183,12 +189,34 @@ export interface Registry<T extends Types = AnyTypes> {
   decode<F extends Format<T>>(format: F, bytes: Bytes, options?: { json?: false }): ValueOf<T, F, 'decode'>;
   /** The same as `JSON.parse` makes it of its normal text, so that `JSON.stringify` takes it: wide numbers are strings. */
   decode(format: Format<T>, bytes: Bytes, options: { json: true }): Json;
+  /** The same with options as `null` or their value, except where that could mean two values, as in nested options. */
+  decode<F extends Format<T>>(format: F, bytes: Bytes, options: { plainOptions: true }): ValueOf<T, F, 'plain'>;
+  /** The value at the beginning of the input, and how many bytes it has. What follows isn't read. */
+  decodePrefix<F extends Format<T>>(
+    format: F, bytes: Bytes, options?: { json?: false },
+  ): { value: ValueOf<T, F, 'decode'>; length: number };
+  decodePrefix(format: Format<T>, bytes: Bytes, options: { json: true }): { value: Json; length: number };
+  decodePrefix<F extends Format<T>>(
+    format: F, bytes: Bytes, options: { plainOptions: true },
+  ): { value: ValueOf<T, F, 'plain'>; length: number };
+  /** The same with the normal JSON text of the value. */
+  decodePrefixText(format: Format<T>, bytes: Bytes): { text: string; length: number };
   /** The normal JSON text of that value. */
   decodeText(format: Format<T>, bytes: Bytes): string;
   /** The one normal JSON text of the value that a JSON text denotes. */
   normalise(format: Format<T>, text: Text): string;
   /** Whether two JSON texts denote equal values. */
   equal(format: Format<T>, first: Text, second: Text): boolean;
+  /** A JSON Schema of the JSON of the format's values. */
+  schema(format: Format<T>): { [keyword: string]: Json };
+  /** A value of the format to start from, as `decode` returns it. */
+  example<F extends Format<T>>(format: F, options?: ExampleOptions & { json?: false }): ValueOf<T, F, 'decode'>;
+  example(format: Format<T>, options: ExampleOptions & { json: true }): Json;
+  example<F extends Format<T>>(format: F, options: ExampleOptions & { plainOptions: true }): ValueOf<T, F, 'plain'>;
+  /** The JSON text of such a value, as the program `bcs example` prints it. */
+  exampleText(format: Format<T>, options?: ExampleOptions): string;
+  /** The registry in readable form, or one container with what it depends on; with `json` as compact JSON. */
+  show(name?: string, options?: { json?: boolean }): string;
   /** How many bytes the value at the front of the input has. */
   scan(format: Format<T>, bytes: Bytes): number;
   /** The part to which a path leads, and its place; `undefined` where it leads nowhere. */
@@ -199,11 +227,20 @@ export interface Registry<T extends Types = AnyTypes> {
   explainText(format: Format<T>, bytes: Bytes, form?: 'ways' | 'paths' | 'tree' | 'json'): string;
 }
 
+export interface ExampleOptions {
+  /** Selects a variant of the enum that the format names. */
+  variant?: string;
+  /** Gives each option, list and map an element. */
+  full?: boolean;
+}
+
 export interface Bcs {
   /** A registry, from its JSON text; `registry<Types>(text)` with the types that `bcs-types` wrote of it. */
   registry<T extends Types = AnyTypes>(text: Text): Registry<T>;
   /** Returns if the newer registry keeps all that the older one has. */
   grows(older: Text, newer: Text): void;
+  /** All differences from an older registry to a newer one, a line for each. */
+  differences(older: Text, newer: Text): string[];
   /** The name of a fault of `bcs.h`, or `undefined` where no fault has the number. */
   faultName(fault: number): string | undefined;
 }
@@ -217,7 +254,12 @@ export function toBase64(bytes: Bytes): string;
 /** The bytes of such a text; what is none is a `TypeError`. */
 export function fromBase64(text: string): Uint8Array;
 
-/** Makes the calls out of the module's bytes, a `Response` with them, or a compiled module. */
-export function load(
-  wasm: BufferSource | WebAssembly.Module | Response | Promise<BufferSource | WebAssembly.Module | Response>,
-): Promise<Bcs>;
+/** A type of the engine, if these declarations are used with a library that declares it, such as that of Node or of browsers. */
+type Declared<Name extends string> = typeof globalThis extends { [name in Name]: { prototype: infer T } } ? T : never;
+type CompiledModule = typeof globalThis extends { WebAssembly: { Module: { prototype: infer T } } } ? T : never;
+
+/** The module's bytes, a `Response` with them, or a compiled module. */
+export type Wasm = ArrayBuffer | ArrayBufferView | CompiledModule | Declared<'Response'>;
+
+/** Makes the calls from the module that is passed, or from the `bcs.wasm` beside the imported file. */
+export function load(wasm?: Wasm | Promise<Wasm>): Promise<Bcs>;

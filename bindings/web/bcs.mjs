@@ -1,8 +1,9 @@
 // bcs in JavaScript: Binary Canonical Serialization by serde-reflection registries, by proved calls in a WebAssembly module.
 // README.md says how the module is made, what is proved of it, and what is trusted.
 export { BcsError } from './errors.mjs';
-export { Limits, load } from './loader.mjs';
+export { Limits } from './loader.mjs';
 export { fromBase64, toBase64 } from './octets.mjs';
+export { loadOwn as load } from './own_module.mjs';
 export { isSupported } from './support.mjs';
 
 // Started by Node as `node bcs.mjs`, or by npm's link to it, this file runs the proved program. Where it is imported, whether by

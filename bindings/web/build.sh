@@ -1,7 +1,7 @@
 #!/bin/sh
 # bindings/web/build.sh [--code FILE] [--program-code FILE] FOLDER: makes everything that JavaScript needs in a folder:
-# bcs.wasm, bcs64.wasm and bcs_program.wasm; bcs.mjs with the modules that it imports, and bcs.d.mts; the page bcs.html; and
-# bcs_scalar.wasm, from which bindings/portable makes C. The files are the LLVM modules of the proved library and of the
+# bcs.wasm, bcs64.wasm and bcs_program.wasm; bcs.mjs with the modules that it imports, bcs.cjs, and the types of both; the page
+# bcs.html; and bcs_scalar.wasm, from which bindings/portable makes C. The files are the LLVM modules of the proved library and of the
 # proved program, as `tools/proved_code.py` makes them with `--module` and `--program-module`. A module that isn't named is
 # made first.
 set -eu
@@ -23,8 +23,9 @@ if [ $# != 1 ] || [ "$1" != "${1#-}" ]; then
 fi
 folder=$1
 "$here/module.py" ${code+--code "$code"} ${program_code+--program-code "$program_code"} "$folder"
-for name in bcs loader errors support calls values shapes hex octets program host system types declarations identifiers; do
+for name in bcs own_module loader errors support calls values shapes hex octets program host system types declarations identifiers; do
     install -m 644 "$here/$name.mjs" "$folder/"
 done
 install -m 644 "$here/bcs.d.mts" "$folder/"
+"$here/commonjs.py" "$folder"
 "$here/page/build.py" "$folder"

@@ -32,6 +32,7 @@ needs gcc gcc
 needs wasm-opt binaryen
 needs wasm-validate wabt
 needs tsc node-typescript
+needs esbuild esbuild
 needs chromium-headless-shell chromium-headless-shell
 [ -n "$(fc-list 2>/dev/null)" ] || install_package fonts-dejavu-core
 
@@ -71,6 +72,9 @@ tested() {
 }
 tsc --noEmit --strict --target es2022 --lib es2022,dom --module nodenext --moduleResolution nodenext \
     "$here/tests/types.mts" || fail "the declarations for TypeScript"
+cp "$web/bcs.d.mts" "$web/bcs.d.cts" "$here/tests/bare_types.mts" "$here/tests/bare_types.cts" "$room"
+tsc --noEmit --strict --target es2022 --lib es2022 --module nodenext --moduleResolution nodenext "$room/bare_types.mts" \
+    "$room/bare_types.cts" || fail "the declarations for TypeScript, without those of browsers"
 echo "web: the declarations for TypeScript accept right calls, and no wrong ones"
 "$here/tests/typed.sh" "$web" || fail "the types of registries' values"
 for name in loader values reentry heap examples parts; do
@@ -97,4 +101,6 @@ done
 python3 "$here/../../tests/rows" --without changes web64 \
     node ${wide:+"$wide"} "$here/tests/driver.mjs" "$web/bcs64.wasm" || fail "rows of crates/test_calls on bcs64.wasm"
 
+export BCS_WEB="$web"
+tested loading bcs.wasm node
 tested page bcs.wasm node

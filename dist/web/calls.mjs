@@ -13,6 +13,8 @@ const KEPT_MEMORY = 32 << 20;
 const FIRST_PIECES = 16 << 20;
 // The first output for the place of a refusal.
 const FIRST_PLACE = 256;
+// The first output for a schema, an example, a registry in readable form, and the differences of two.
+const FIRST_DOCUMENT = 4096;
 // The least room in the memory that is kept for what calls are handed.
 const LEAST_ROOM = 4096;
 
@@ -178,6 +180,17 @@ function openIn(room, opened) {
   return answer;
 }
 
+/** A call on a registry, which is opened if it isn't open here. */
+function handleCall(room, name, registry, parts, outLength) {
+  const answer = openIn(room, registry);
+  if (answer.status !== 'done') return answer;
+  return wholeCall(room, `bcs_c_handle_${name}`, [BigInt(registry.place), ...parts], outLength);
+}
+
+function asked({ format, depth, nodes }) {
+  return { slices: [format], depth, nodes };
+}
+
 /**
  * The calls. What is asked for has `registry`, a text or one that is `Opened`, `format`, `depth` and `nodes`. An answer has
  * `status`, `fault` (its number), `place`, `length` and, where there is one, `output`.
@@ -226,17 +239,47 @@ export class Calls {
     return this.#on('explain', ask, [FORMS.indexOf(form), bytes], Math.min(64 * bytes.length + 256, FIRST_PIECES));
   }
 
-  /** `where` a text is refused, or what was `wanted` there. */
-  textPlace(ask, what, text) {
-    return this.#on('text_place', ask, [WHATS.indexOf(what), text], FIRST_PLACE);
+  /** Where a text is refused, and what was expected there, with a NUL between them. */
+  textRefusal(ask, text) {
+    return this.#onHandle('text_refusal', ask.registry, [asked(ask), text], FIRST_PLACE);
   }
 
   /** The same of bytes. */
-  stopPlace(ask, what, bytes) {
-    return this.#on('stop_place', ask, [WHATS.indexOf(what), bytes], FIRST_PLACE);
+  stopRefusal(ask, bytes) {
+    return this.#onHandle('stop_refusal', ask.registry, [asked(ask), bytes], FIRST_PLACE);
   }
 
-  /** The same of a registry's text. */
+  schema(ask) {
+    return this.#onHandle('schema', ask.registry, [asked(ask)], FIRST_DOCUMENT);
+  }
+
+  example(ask, isFull, variant) {
+    return this.#onHandle('example', ask.registry, [asked(ask), Number(isFull), variant], FIRST_DOCUMENT);
+  }
+
+  show(registry, form, name) {
+    return this.#onHandle('show', registry, [FORMS.indexOf(form), name], FIRST_DOCUMENT);
+  }
+
+  /** The line on a format that is refused. */
+  formatPlace(ask) {
+    return this.#run((room) => wholeCall(room, 'bcs_c_format_place', [ask.registry.text, ask.format], FIRST_PLACE));
+  }
+
+  /** The same of a path, and of a newer registry. */
+  pathPlace(path) {
+    return this.#run((room) => wholeCall(room, 'bcs_c_path_place', [path], FIRST_PLACE));
+  }
+
+  growthPlace(older, newer) {
+    return this.#run((room) => wholeCall(room, 'bcs_c_growth_place', [older, newer], FIRST_PLACE));
+  }
+
+  growthList(older, newer) {
+    return this.#run((room) => wholeCall(room, 'bcs_c_growth_list', [older, newer], FIRST_DOCUMENT));
+  }
+
+  /** `where` the text of a registry is refused, or what was `wanted` there. */
   registryPlace(what, text) {
     return this.#run((room) => wholeCall(room, 'bcs_c_registry_place', [WHATS.indexOf(what), text], FIRST_PLACE));
   }
@@ -265,11 +308,12 @@ export class Calls {
       if (!(registry instanceof Opened)) {
         return wholeCall(room, `bcs_c_${name}`, [{ slices: [registry, format], depth, nodes }, ...parts], outLength);
       }
-      const answer = openIn(room, registry);
-      if (answer.status !== 'done') return answer;
-      const words = [BigInt(registry.place), { slices: [format], depth, nodes }, ...parts];
-      return wholeCall(room, `bcs_c_handle_${name}`, words, outLength);
+      return handleCall(room, name, registry, [{ slices: [format], depth, nodes }, ...parts], outLength);
     });
+  }
+
+  #onHandle(name, registry, parts, outLength) {
+    return this.#run((room) => handleCall(room, name, registry, parts, outLength));
   }
 
   /** One instance serves call after call. A call that was broken off may leave anything behind: its instance is let go. */

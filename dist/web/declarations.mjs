@@ -1,8 +1,10 @@
 // TypeScript declarations of a registry's values: of each container what `decode` gives, and what `encode` takes. Not proved:
 // they say what `values.mjs` does, and tests compare the two.
 import { Identifiers, memberOf, sorted, stringOf } from './identifiers.mjs';
+import { Shapes } from './shapes.mjs';
 
 const HEAD = '// Made of a registry by bcs-types. `decode` gives a Name; `encode` takes a NameInput, and so a Name.\n';
+const PLAIN_HEAD = HEAD.replace('bcs-types. `decode`', 'bcs-types. `decode` with plainOptions');
 const LEAVES = { UNIT: 'null', BOOL: 'boolean', STR: 'string', CHAR: 'never', F32: 'never', F64: 'never' };
 const WIDE = new Set(['U64', 'U128', 'I64', 'I128']);
 
@@ -17,13 +19,18 @@ const TAKEN = {
   list: 'readonly ',
 };
 
-/** The declarations for the containers of a registry, by their names. The registry has passed the proved check. */
-export function declarationsOf(containers) {
+/**
+ * The declarations for the containers of a registry, by their names. The registry has passed the proved check. With
+ * `plainOptions`, those of what `decode` returns with that option.
+ */
+export function declarationsOf(containers, plainOptions = false) {
   const names = sorted(containers.keys());
   const identifiers = new Identifiers();
   const given = identifiers.ofAll(names);
   const taken = new Map(names.map((name) => [name, identifiers.of(`${given.get(name)}Input`)]));
-  const writers = [new Writer(GIVEN, given), new Writer(TAKEN, taken)];
+  const shapes = new Shapes(containers);
+  const optionOf = plainOptions ? (type) => `null | ${type}` : (type) => `null | { some: ${type} }`;
+  const writers = [new Writer(GIVEN, given, shapes, optionOf), new Writer(TAKEN, taken, shapes, (type) => `null | ${type} | { some: ${type} }`)];
   const types = names.map((name) => {
     const isEndless = holdsItself(containers, name);
     const note = noteOf(name, given.get(name), isEndless);
@@ -33,7 +40,7 @@ export function declarationsOf(containers) {
     });
     return note + declared.join('');
   });
-  return [HEAD, ...types, mapOf(names, given, taken)].join('\n');
+  return [plainOptions ? PLAIN_HEAD : HEAD, ...types, mapOf(names, given, taken, plainOptions)].join('\n');
 }
 
 /** Whether newtypes hold one another in a circle. They have no values, and an alias in a circle is no type. */
@@ -53,17 +60,20 @@ function noteOf(name, identifier, isEndless) {
   return words.length === 0 ? '' : `/** ${words.join(' ')} */\n`;
 }
 
-function mapOf(names, given, taken) {
-  const members = names.map((name) => `  ${memberOf(name)}: { encode: ${taken.get(name)}; decode: ${given.get(name)} };\n`);
+function mapOf(names, given, taken, plainOptions) {
+  const decoded = (name) => (plainOptions ? `decode: unknown; plain: ${given.get(name)}` : `decode: ${given.get(name)}`);
+  const members = names.map((name) => `  ${memberOf(name)}: { encode: ${taken.get(name)}; ${decoded(name)} };\n`);
   return `/** What \`encode\` takes and \`decode\` gives by the names of containers: \`bcs.registry<Types>(text)\`. */
 export type Types = {\n${members.join('')}};\n`;
 }
 
 /** Writes the types of formats and containers as one of the two has them. */
 class Writer {
-  constructor(words, names) {
+  constructor(words, names, shapes, plainOptionOf) {
     this.words = words;
     this.names = names;
+    this.shapes = shapes;
+    this.plainOptionOf = plainOptionOf;
   }
 
   container(container) {
@@ -114,7 +124,7 @@ class Writer {
       case 'TYPENAME':
         return this.names.get(inner);
       case 'OPTION':
-        return `null | { some: ${this.format(inner)} }`;
+        return this.option(format, this.format(inner));
       case 'SEQ':
         return this.list(inner);
       case 'TUPLEARRAY':
@@ -124,6 +134,10 @@ class Writer {
       default:
         return `${this.words.map}<${this.format(inner.KEY)}, ${this.format(inner.VALUE)}>`;
     }
+  }
+
+  option(format, type) {
+    return this.shapes.isPlainOption(this.shapes.of(format)) ? this.plainOptionOf(type) : `null | { some: ${type} }`;
   }
 
   leaf(word) {

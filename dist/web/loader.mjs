@@ -27,8 +27,9 @@ function nodesFor(length) {
   return Math.min(16 * length + 1_000_000, ALL_NODES);
 }
 
-/** Makes the calls out of the module's bytes, a `Response` with them, or a compiled module. */
+/** Makes the calls from the module's bytes, a `Response` with them, a compiled module, or a function that returns one of these. */
 export async function load(wasm) {
+  if (typeof WebAssembly !== 'object') throw new Error('this engine has no WebAssembly');
   if (!isSupported()) {
     throw new Error(
       'this engine has no WebAssembly with vectors (SIMD), which Chrome and Edge have from 91, Firefox from 89, Safari from ' +
@@ -36,8 +37,11 @@ export async function load(wasm) {
     );
   }
   try {
-    return new Bcs(await compiled(await wasm));
+    return new Bcs(await compiled(await (typeof wasm === 'function' ? wasm() : wasm)));
   } catch (error) {
+    if (/Content.Security.Policy|unsafe-eval|disallowed by embedder/i.test(error?.message)) {
+      throw new Error("the Content-Security-Policy here forbids WebAssembly: script-src needs 'wasm-unsafe-eval'", { cause: error });
+    }
     if (!(error instanceof WebAssembly.CompileError) || isSupported(64)) throw error;
     throw new Error(
       'this engine takes bcs.wasm, and not this module: it has no memory with 64-bit addresses, which Chrome and Edge have ' +
@@ -126,10 +130,18 @@ class Bcs {
   /** Returns if the newer registry keeps all that the older one has; else it is refused, the first fault being told. */
   grows(older, newer) {
     const [first, second] = [bytesOf(older), bytesOf(newer)];
-    this.answerOf((calls) => calls.grows(first, second), (calls, what, { status }) => {
-      if (status === 'refused') return undefined;
-      return calls.registryPlace(what, status === 'newer' ? second : first);
+    this.answerOf((calls) => calls.grows(first, second), (calls, answer) => {
+      if (answer.status === 'refused') return this.partsOfLine(calls.growthPlace(first, second), '');
+      return placesOfRegistry(answer.status === 'newer' ? second : first)(calls);
     });
+  }
+
+  /** All differences from an older registry to a newer one, a line for each. */
+  differences(older, newer) {
+    const [first, second] = [bytesOf(older), bytesOf(newer)];
+    const { output } = this.answerOf((calls) => calls.growthList(first, second), (calls, { status }) =>
+      placesOfRegistry(status === 'newer' ? second : first)(calls));
+    return decoder.decode(output).split('\n').slice(0, -1);
   }
 
   /** The name of a fault of bcs.h, or `undefined` where no fault has the number. */
@@ -160,17 +172,37 @@ class Bcs {
   }
 
   #told(answer, placing) {
-    if (answer.status === 'format' || answer.status === 'path' || placing === undefined) return {};
-    const [pointer, expected] = ['where', 'wanted'].map((what) => {
-      const told = interruptible(() => placing(this.#calls, what, answer));
-      return told?.status === 'done' ? decoder.decode(told.output) : undefined;
-    });
+    const { pointer, expected } = (placing && interruptible(() => placing(this.#calls, answer))) ?? {};
     return { pointer, expected: expected === '' ? undefined : expected };
+  }
+
+  /** The parts of a line of the program, such as `at FORMAT, /SEQ: BadShape: wanted a format`. Names in it may contain anything. */
+  partsOfLine({ status, fault, output }, prefix) {
+    if (status !== 'done' || output.length === 0) return {};
+    const [line, middle] = [decoder.decode(output).replace(/^at /, ''), `: ${this.faultName(fault)}`];
+    // (only the words of UnknownName have a name in them, and only the place of the others)
+    const end = middle === ': UnknownName' ? line.indexOf(middle) : line.lastIndexOf(middle);
+    const where = line.slice(0, end);
+    const pointer = where.startsWith(prefix) ? where.slice(prefix.length).replace(/^, /, '') : where;
+    return { pointer, expected: line.slice(end + middle.length).replace(/^: /, '') };
   }
 }
 
 function placesOfRegistry(text) {
-  return (calls, what) => calls.registryPlace(what, text);
+  return (calls) => {
+    const [pointer, expected] = ['where', 'wanted'].map((what) => {
+      const told = calls.registryPlace(what, text);
+      return told.status === 'done' ? decoder.decode(told.output) : undefined;
+    });
+    return { pointer, expected };
+  };
+}
+
+/** The parts of a refusal. A pointer may contain the byte between them, and the words don't. */
+function partsOfRefusal({ status, output }) {
+  if (status !== 'done') return {};
+  const end = output.lastIndexOf(0);
+  return { pointer: decoder.decode(output.subarray(0, end)), expected: decoder.decode(output.subarray(end + 1)) };
 }
 
 function interruptible(call) {
@@ -184,6 +216,7 @@ function interruptible(call) {
 
 function kindOfFault(fault) {
   if (fault < 300) return 'growth';
+  if (fault >= 700) return 'example';
   return fault < 400 ? 'text' : 'bytes';
 }
 
@@ -238,16 +271,30 @@ class Registry {
     return this.#ofText(this.#holder.format(format), text, (calls, ask, text) => calls.toBcs(ask, text)).output;
   }
 
-  /** The value whose bytes are the whole input; with `json`, as `JSON.parse` makes it of its normal text. */
-  decode(format, bytes, { json = false } = {}) {
+  /**
+   * The value whose bytes are the whole input; with `json`, as `JSON.parse` makes it of its normal text; with `plainOptions`, an
+   * option is `null` or its value wherever that can't mean two values.
+   */
+  decode(format, bytes, options) {
     const known = this.#holder.format(format);
-    const text = this.#decodedText(known, bytes);
-    return json ? JSON.parse(text) : valueOf(this.#holder.shapes, this.#holder.shapeOf(known), text);
+    return this.#valueOf(known, this.#decodedText(known, bytesOfAny(bytes)), options);
+  }
+
+  /** The value at the beginning of the input, and how many bytes it has. What follows isn't read. */
+  decodePrefix(format, bytes, options) {
+    const known = this.#holder.format(format);
+    const { text, length } = this.#decodedPrefix(known, bytes);
+    return { value: this.#valueOf(known, text, options), length };
+  }
+
+  /** The same with the normal JSON text of the value. */
+  decodePrefixText(format, bytes) {
+    return this.#decodedPrefix(this.#holder.format(format), bytes);
   }
 
   /** The normal JSON text of that value. */
   decodeText(format, bytes) {
-    return this.#decodedText(this.#holder.format(format), bytes);
+    return this.#decodedText(this.#holder.format(format), bytesOfAny(bytes));
   }
 
   /** The one normal JSON text of the value that a JSON text denotes. */
@@ -261,11 +308,34 @@ class Registry {
     const known = this.#holder.format(format);
     const [one, other] = [bytesOf(first), bytesOf(second)];
     const compared = (calls, ask) => calls.compare(ask, one, other);
-    const answer = this.#answer(known, ALL_NODES, compared, (calls, ask, what) => {
-      const told = calls.textPlace(ask, what, one);
-      return told.status === 'no' ? calls.textPlace(ask, what, other) : told;
+    const answer = this.#answer(known, ALL_NODES, compared, (calls, ask) => {
+      const told = calls.textRefusal(ask, one);
+      return partsOfRefusal(told.status === 'no' ? calls.textRefusal(ask, other) : told);
     });
     return answer.status === 'done';
+  }
+
+  /** A JSON Schema of the JSON of the format's values. */
+  schema(format) {
+    return JSON.parse(decoder.decode(this.#answer(this.#holder.format(format), ALL_NODES, (calls, ask) => calls.schema(ask)).output));
+  }
+
+  /** A value of the format to start from, as `decode` returns it; with `full`, each option, list and map has an element. */
+  example(format, options) {
+    const known = this.#holder.format(format);
+    return this.#valueOf(known, this.#exampleText(known, options), options);
+  }
+
+  /** The JSON text of such a value, as `bcs example` prints it. */
+  exampleText(format, options) {
+    return this.#exampleText(this.#holder.format(format), options);
+  }
+
+  /** The registry in readable form, or one container with what it depends on; with `json` as compact JSON. */
+  show(name = '', { json = false } = {}) {
+    const [bytes, registry] = [bytesOf(name), this.#holder.opened];
+    const refused = () => ({ pointer: '', expected: `no container is called ${name}` });
+    return decoder.decode(this.#bcs.answerOf((calls) => calls.show(registry, json ? 'json' : 'ways', bytes), refused).output);
   }
 
   /** How many bytes the value at the front of the input has. */
@@ -278,7 +348,9 @@ class Registry {
   part(format, bytes, path) {
     const known = this.#holder.format(format);
     const [input, steps] = [bytesOfAny(bytes), bytesOf(path)];
-    const { status, place, length } = this.#ofBytes(known, input, (calls, ask) => calls.part(ask, input, steps));
+    const placing = (calls, ask, { status }) =>
+      status === 'path' ? this.#bcs.partsOfLine(calls.pathPlace(steps), 'PATH') : partsOfRefusal(calls.stopRefusal(ask, input));
+    const { status, place, length } = this.#answer(known, nodesFor(input.length), (calls, ask) => calls.part(ask, input, steps), placing);
     return status === 'no' ? undefined : { place, bytes: input.slice(place, place + length) };
   }
 
@@ -295,29 +367,48 @@ class Registry {
     return decoder.decode(this.#ofBytes(this.#holder.format(format), bytesOfAny(bytes), call).output);
   }
 
+  #exampleText(format, { variant = '', full = false } = {}) {
+    const name = bytesOf(variant);
+    return decoder.decode(this.#answer(format, ALL_NODES, (calls, ask) => calls.example(ask, full, name)).output);
+  }
+
   #check(format) {
     this.#answer(format, ALL_NODES, (calls, ask) => calls.check(ask));
   }
 
-  #decodedText(format, bytes) {
-    return decoder.decode(this.#ofBytes(format, bytesOfAny(bytes), (calls, ask, bytes) => calls.fromBcs(ask, bytes)).output);
+  #valueOf(format, text, { json = false, plainOptions = false } = {}) {
+    return json ? JSON.parse(text) : valueOf(this.#holder.shapes, this.#holder.shapeOf(format), text, plainOptions);
+  }
+
+  #decodedText(format, bytes, nodes = nodesFor(bytes.length)) {
+    return decoder.decode(this.#ofBytes(format, bytes, (calls, ask, bytes) => calls.fromBcs(ask, bytes), nodes).output);
+  }
+
+  /** (The limit on nodes depends on all bytes, so both steps get the same one.) */
+  #decodedPrefix(format, given) {
+    const bytes = bytesOfAny(given);
+    const { length } = this.#ofBytes(format, bytes, (calls, ask, bytes) => calls.scan(ask, bytes));
+    return { text: this.#decodedText(format, bytes.subarray(0, length), nodesFor(bytes.length)), length };
   }
 
   #ofText(format, given, call) {
     const text = bytesForCall(given);
-    const placing = (calls, ask, what) => calls.textPlace(ask, what, text);
+    const placing = (calls, ask) => partsOfRefusal(calls.textRefusal(ask, text));
     return this.#answer(format, ALL_NODES, (calls, ask) => call(calls, ask, text), placing);
   }
 
-  #ofBytes(format, bytes, call) {
-    const placing = (calls, ask, what) => calls.stopPlace(ask, what, bytes);
-    return this.#answer(format, nodesFor(bytes.length), (calls, ask) => call(calls, ask, bytes), placing);
+  #ofBytes(format, bytes, call, nodes = nodesFor(bytes.length)) {
+    const placing = (calls, ask) => partsOfRefusal(calls.stopRefusal(ask, bytes));
+    return this.#answer(format, nodes, (calls, ask) => call(calls, ask, bytes), placing);
   }
 
   #answer(format, nodes, call, placing) {
     const limits = { depth: this.#limits.depth, nodes: this.#limits.nodes ?? nodes };
     const ask = { registry: this.#holder.opened, format: format.bytes, ...limits };
-    const placed = placing && ((calls, what) => placing(calls, ask, what));
+    const placed = (calls, answer) => {
+      if (answer.status === 'format') return this.#bcs.partsOfLine(calls.formatPlace(ask), 'FORMAT');
+      return placing?.(calls, ask, answer);
+    };
     return this.#bcs.answerOf((calls) => call(calls, ask), placed);
   }
 }

@@ -1,5 +1,7 @@
 // The formats of a registry as values are read and written: parsed once, with fields and variants found by their names.
 
+// Values of these kinds are neither `null` nor objects with members.
+const PLAIN = new Set(['BOOL', 'STR', 'BYTES', 'INTEGER', 'SEQ', 'TUPLE', 'MAP']);
 const INTEGERS = new Set(['U8', 'U16', 'U32', 'U64', 'U128', 'I8', 'I16', 'I32', 'I64', 'I128']);
 
 /** The containers of a registry's JSON text by their names. The text has passed the proved check. */
@@ -48,6 +50,43 @@ export class Shapes {
   container(name) {
     if (!this.#known.has(name)) this.#known.set(name, this.#container(name, this.#containers.get(name)));
     return this.#known.get(name);
+  }
+
+  /**
+   * Whether an option may be `null` or its value: the value is never `null`, and never an object that could be `{ some: value }`
+   * too.
+   */
+  isPlainOption(option) {
+    option.isPlain ??= this.#isPlain(option.members.get('some'));
+    return option.isPlain;
+  }
+
+  #isPlain(shape) {
+    const inner = this.#resolved(shape);
+    switch (inner?.kind) {
+      case 'STRUCT':
+        return inner.members.size !== 1 || !inner.members.has('some');
+      case 'ENUM':
+        return !inner.members.has('some');
+      default:
+        return PLAIN.has(inner?.kind);
+    }
+  }
+
+  /** Whether the values of a shape are objects. */
+  hasMembers(shape) {
+    return ['STRUCT', 'ENUM'].includes(this.#resolved(shape)?.kind);
+  }
+
+  /** What containers hold in the end, or `undefined` for newtypes that hold themselves. */
+  #resolved(shape) {
+    const seen = new Set();
+    while (shape.kind === 'TYPENAME') {
+      if (seen.has(shape.name)) return undefined;
+      seen.add(shape.name);
+      shape = this.container(shape.name);
+    }
+    return shape;
   }
 
   #container(name, container) {

@@ -17,6 +17,7 @@ const TAKES = {
   STR: 'a string',
   BYTES: 'bytes or hexadecimal digits',
   OPTION: 'null or { some: value }',
+  PLAIN_OPTION: 'null, a value or { some: value }',
   TUPLE: 'an array',
   MAP: 'a Map or an array of pairs',
   STRUCT: 'an object',
@@ -28,9 +29,9 @@ export function textOf(shapes, shape, value) {
   return new Writer(shapes).value(shape, value);
 }
 
-/** The value of this shape that a normal JSON text represents. */
-export function valueOf(shapes, shape, text) {
-  return new Reader(shapes).value(shape, JSON.parse(text));
+/** The value of this shape that a normal JSON text represents; with `plainOptions`, options are their values where that is clear. */
+export function valueOf(shapes, shape, text, plainOptions = false) {
+  return new Reader(shapes, plainOptions).value(shape, JSON.parse(text));
 }
 
 /**
@@ -52,7 +53,7 @@ class Writer {
       case 'TYPENAME':
         return this.#container(shape.name, value);
       case 'OPTION':
-        return value === null ? 'null' : this.#members(shape, value);
+        return value === null ? 'null' : this.#option(shape, value);
       case 'SEQ':
         return this.#list(shape, value);
       case 'TUPLE':
@@ -72,6 +73,34 @@ class Writer {
     if (this.#open === MOST_OPEN) return 'null';
     this.#open++;
     const text = this.value(this.#shapes.container(name), value);
+    this.#open--;
+    return text;
+  }
+
+  /** `{ some: value }`, or the value alone where it can't be mistaken for that. The names of members are read once. */
+  #option(shape, value) {
+    if (!this.#shapes.isPlainOption(shape) || value === undefined) return this.#members(shape, value);
+    const [name, inner] = [...shape.members][0];
+    if (typeof value !== 'object' || tagOf(value) !== 'Object') return this.#some(name, inner, value);
+    const names = Object.keys(value);
+    const isExact = (names.length === 1 && names[0] === name) || !this.#shapes.hasMembers(inner);
+    return isExact ? this.#members(shape, value, names) : this.#some(name, inner, value, names);
+  }
+
+  #some(name, inner, value, names) {
+    this.#nest();
+    this.#path.push(name);
+    const text = names === undefined ? this.value(inner, value) : this.#object(inner, value, names);
+    this.#path.pop();
+    return `{"${name}":${text}}`;
+  }
+
+  /** A struct or a variant, perhaps within containers, whose members have these names. */
+  #object(shape, value, names) {
+    if (shape.kind !== 'TYPENAME') return this.#members(shape, value, names);
+    if (this.#open === MOST_OPEN) return 'null';
+    this.#open++;
+    const text = this.#object(this.#shapes.container(shape.name), value, names);
     this.#open--;
     return text;
   }
@@ -120,10 +149,10 @@ class Writer {
     return `[${texts.concat(new Array(surplus).fill('null')).join()}]`;
   }
 
-  #members(shape, value) {
+  #members(shape, value, names) {
     if (typeof value !== 'object' || tagOf(value) !== 'Object') this.#reject(shape, value);
     this.#nest();
-    const members = Object.keys(value).map((name) => {
+    const members = (names ?? Object.keys(value)).map((name) => {
       const part = shape.members.get(name);
       const text = stringText(name) ?? this.#reject(shape, value, 'one with half of a surrogate pair in a name');
       return `${text}:${part === undefined ? 'null' : this.#part(name, part, value[name])}`;
@@ -161,7 +190,8 @@ class Writer {
   }
 
   #reject(shape, value, found = foundIn(value)) {
-    throw this.#error('WrongType', `${shape.name} takes ${takenBy(shape)}, not ${found}`);
+    const takes = shape.kind === 'OPTION' && this.#shapes.isPlainOption(shape) ? TAKES.PLAIN_OPTION : takenBy(shape);
+    throw this.#error('WrongType', `${shape.name} takes ${takes}, not ${found}`);
   }
 
   #error(reason, expected) {
@@ -223,8 +253,9 @@ export function isWellFormed(string) {
 
 /** Goes through a shape and the JSON of one of its values together. */
 class Reader {
-  constructor(shapes) {
+  constructor(shapes, plainOptions) {
     this.shapes = shapes;
+    this.plainOptions = plainOptions;
   }
 
   value(shape, json) {
@@ -232,7 +263,7 @@ class Reader {
       case 'TYPENAME':
         return this.value(this.shapes.container(shape.name), json);
       case 'OPTION':
-        return json === null ? null : { some: this.value(shape.members.get('some'), json.some) };
+        return json === null ? null : this.option(shape, json.some);
       case 'SEQ':
         return typeof json === 'string' ? bytesOfHex(json) : json.map((item) => this.value(shape.item, item));
       case 'TUPLE':
@@ -247,6 +278,11 @@ class Reader {
       default:
         return leaf(shape.name, json);
     }
+  }
+
+  option(shape, json) {
+    const value = this.value(shape.members.get('some'), json);
+    return this.plainOptions && this.shapes.isPlainOption(shape) ? value : { some: value };
   }
 
   variant(shape, json) {

@@ -80,7 +80,7 @@ def relation(one: str, kind: str, other: str) -> dict[str, str]:
 def built_files() -> list[dict[str, Any]]:
     """The files of dist/ that are in the packages, with their checksums."""
     files = []
-    for folder in [facts.NATIVE, facts.ARM, facts.WINDOWS, facts.WEB]:
+    for folder in [facts.NATIVE, facts.ARM, facts.WINDOWS, facts.WEB, facts.VECTORS]:
         for path in sorted(folder.rglob("*")):
             if path.is_file():
                 files.append(built_file(path))

@@ -49,6 +49,7 @@ def contents(bill: archives.File) -> archives.Files:
     files["example.c"] = archives.taken(C / "example.c")
     for name in ["Makefile", "CMakeLists.txt", "Package.swift"]:
         files[name] = archives.taken(FOLDER / name)
+    files["bcs-registry"] = archives.taken(facts.REGISTRY_COMMAND)
     files["README.md"] = archives.text(facts.readme("bindings/portable"))
     files[f"{facts.NAME}.spdx.json"] = bill
     for name in facts.licence_files().values():

@@ -1,4 +1,4 @@
-"""The packages for Debian: `bcs` with the program, and `libbcs-dev` with the libraries."""
+"""The packages for Debian: `bcs` with the program, `libbcs-dev` with the libraries, and `python3-bcs-proved`."""
 
 from __future__ import annotations
 
@@ -9,6 +9,7 @@ import textwrap
 import archives
 import facts
 import installed
+import python_wheel
 
 DESCRIPTION = """\
 It encodes, decodes, explains and compares values of Binary Canonical
@@ -19,6 +20,10 @@ proved against its contracts.
 LIBRARY_DESCRIPTION = """\
 The same calls for C: the header, a static and a dynamic library, and what
 pkg-config has to know.
+"""
+PYTHON_DESCRIPTION = """\
+The same calls for Python, with test vectors for a registry by python3 -m
+bcs_proved.vectors, and types of its values by python3 -m bcs_proved.types.
 """
 # Debian's name of a licence where it is another, and the text where Debian has it already.
 DEBIAN_NAMES = {"MIT": "Expat"}
@@ -31,10 +36,13 @@ def described(
     glibc = ".".join(
         str(part) for part in facts.glibc_needed(machine.folder / ("bcs" if name == "bcs" else "libbcs.so"))
     )
+    recommends = "Recommends: python3, python3-yaml\n" if name == "bcs" else ""
     size = sum(len(file.data) + 1023 for file in files.values()) // 1024
+    python = ", python3 (>= 3.9)" if section == "python" else ""
     return (
         f"Package: {name}\nVersion: {facts.version()}\nArchitecture: {machine.debian}\nMaintainer: {facts.MAINTAINER}\n"
-        f"Installed-Size: {size}\nDepends: libc6 (>= {glibc})\nSection: {section}\nPriority: optional\n"
+        f"Installed-Size: {size}\nDepends: libc6 (>= {glibc}){python}\n{recommends}Section: {section}\n"
+        "Priority: optional\n"
         f"Description: {summary}\n{textwrap.indent(description, ' ')}"
     )
 
@@ -90,6 +98,12 @@ def library_files(machine: facts.Machine) -> archives.Files:
     return files
 
 
+def python_files(machine: facts.Machine) -> archives.Files:
+    """The module with its library in it, which it loads from there."""
+    files = python_wheel.module(machine.folder / "libbcs.so")
+    return {f"usr/lib/python3/dist-packages/{name}": file._replace(is_program=False) for name, file in files.items()}
+
+
 def package(
     machine: facts.Machine, name: str, control: str, files: archives.Files, more: dict[str, str]
 ) -> dict[str, bytes]:
@@ -113,7 +127,11 @@ def make_for(machine: facts.Machine, bill: archives.File) -> dict[str, bytes]:
     control = described(machine, "libbcs-dev", "libdevel", summary, LIBRARY_DESCRIPTION, library)
     # The system's cache of libraries is made anew, so that programs find the dynamic one.
     more = {"triggers": "activate-noawait ldconfig\n", "shlibs": f"libbcs 0 libbcs-dev (>= {facts.version()})\n"}
-    return made | package(machine, "libbcs-dev", control, library, more)
+    made |= package(machine, "libbcs-dev", control, library, more)
+    module = python_files(machine) | papers("python3-bcs-proved", bill)
+    summary = f"{facts.SUMMARY} (Python)"
+    control = described(machine, "python3-bcs-proved", "python", summary, PYTHON_DESCRIPTION, module)
+    return made | package(machine, "python3-bcs-proved", control, module, {})
 
 
 def make(bill: archives.File) -> dict[str, bytes]:

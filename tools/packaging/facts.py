@@ -16,6 +16,9 @@ NATIVE = DIST / "x86_64-linux"
 ARM = DIST / "aarch64-linux"
 WINDOWS = DIST / "x86_64-windows"
 WEB = DIST / "web"
+VECTORS = DIST / "vectors"
+# The command that converts and merges registries, which every package has.
+REGISTRY_COMMAND = ROOT / "bindings/python/bcs_proved/registries.py"
 
 NAME = "bcs"
 MAINTAINER = "Fodrascu maintainers <maintainers@users.noreply.fodrascu.example>"
@@ -104,7 +107,7 @@ def require_whole() -> None:
         if path.is_symlink() or not path.is_file() or hashlib.sha256(path.read_bytes()).hexdigest() != checksum:
             sys.exit(f"packages: dist/{name} isn't the file that dist/SHA256SUMS has")
         listed.add(path)
-    for folder in [NATIVE, ARM, WINDOWS, WEB]:
+    for folder in [NATIVE, ARM, WINDOWS, WEB, VECTORS]:
         for path in sorted(folder.rglob("*")):
             if not path.is_dir() and path not in listed:
                 sys.exit(f"packages: dist/SHA256SUMS doesn't list {path.relative_to(ROOT)}")

@@ -35,6 +35,7 @@ def contents(bill: archives.File, libraries: dict[str, pathlib.Path], source: ar
         files[f"libbcs_linux_{machine}.a"] = archives.taken(library)
     if source:
         files["bcs_library.c"] = source
+    files["bcs-registry"] = archives.taken(facts.REGISTRY_COMMAND)
     files["README.md"] = archives.text(facts.readme("bindings/go"))
     files[f"{facts.NAME}.spdx.json"] = bill
     for name in facts.licence_files().values():

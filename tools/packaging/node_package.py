@@ -23,6 +23,7 @@ def contents(bill: archives.File) -> archives.Files:
     """The files of the package, without the page, which contains the module once more, and the module for C."""
     left_out = {"bcs.html", "bcs_scalar.wasm"}
     files = {name: file for name, file in archives.tree(facts.WEB).items() if name not in left_out}
+    files["bcs-registry.py"] = archives.taken(facts.REGISTRY_COMMAND)
     described = archives.taken(facts.ROOT / "bindings/web/package.json")
     files["package.json"] = described
     files["README.md"] = archives.text(facts.readme("bindings/web"))

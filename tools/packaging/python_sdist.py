@@ -46,9 +46,11 @@ setup(
     description="{description}",
     license="{licence}",
     python_requires="{python}",
-    packages=["{name}"],
+    packages=["{name}", "{name}.vectors"],
     package_data={{"{name}": ["py.typed"]}},
     ext_modules=[library],
+    extras_require={{"yaml": ["PyYAML"]}},
+    entry_points={{"console_scripts": ["{command}"]}},
     cmdclass={{"build_ext": Build}},
 )
 '''
@@ -56,15 +58,14 @@ setup(
 
 def contents(bill: archives.File) -> archives.Files:
     told = python_wheel.project()
-    folder = facts.ROOT / "bindings/python" / told["name"]
-    paths = [path for path in folder.iterdir() if path.suffix in (".py", ".typed")]
-    files = {f"{told['name']}/{path.name}": archives.taken(path) for path in paths}
+    files = python_wheel.sources()
     setup = SETUP.format(
         name=told["name"],
         version=facts.version(),
         description=told["description"],
         licence=facts.licence(),
         python=told["requires-python"],
+        command=python_wheel.COMMAND,
     )
     files |= {"setup.py": archives.text(setup), "pyproject.toml": archives.text(PYPROJECT)}
     files |= {

@@ -30,6 +30,9 @@ def platforms() -> dict[str, pathlib.Path]:
     return found
 
 
+COMMAND = "bcs-registry = bcs_proved.registries:main"
+
+
 def metadata(told: dict[str, Any]) -> str:
     """In a version that Debian 12 reads. From 2.4 on the licence would be a License-Expression."""
     lines = [
@@ -43,6 +46,8 @@ def metadata(told: dict[str, Any]) -> str:
         f"Keywords: {','.join(told['keywords'])}",
         *[f"Classifier: {classifier}" for classifier in told["classifiers"]],
         f"Requires-Python: {told['requires-python']}",
+        "Provides-Extra: yaml",
+        'Requires-Dist: PyYAML; extra == "yaml"',
         "Description-Content-Type: text/markdown",
     ]
     return "\n".join(lines) + "\n\n" + facts.readme("bindings/python")
@@ -57,12 +62,16 @@ def record(files: archives.Files, own_name: str) -> str:
     return "".join(lines) + f"{own_name},,\n"
 
 
-def module(library: pathlib.Path) -> archives.Files:
-    """The module's folder, with a library in it."""
+def sources() -> archives.Files:
+    """The module's folder, and those in it."""
     folder = facts.ROOT / "bindings/python" / project()["name"]
-    paths = [path for path in folder.iterdir() if path.suffix in (".py", ".typed")]
-    files = {path.name: archives.taken(path) for path in [*paths, library]}
-    return {f"{folder.name}/{name}": file for name, file in files.items()}
+    paths = [path for path in folder.rglob("*") if path.suffix in (".py", ".typed")]
+    return {path.relative_to(folder.parent).as_posix(): archives.taken(path) for path in paths}
+
+
+def module(library: pathlib.Path) -> archives.Files:
+    """The same, with a library in it."""
+    return sources() | {f"{project()['name']}/{library.name}": archives.taken(library)}
 
 
 def make_for(platform: str, library: pathlib.Path, bill: archives.File) -> dict[str, bytes]:
@@ -72,6 +81,7 @@ def make_for(platform: str, library: pathlib.Path, bill: archives.File) -> dict[
     files = module(library) | {
         f"{information}/METADATA": archives.text(metadata(told)),
         f"{information}/WHEEL": archives.text(wheel),
+        f"{information}/entry_points.txt": archives.text(f"[console_scripts]\n{COMMAND}\n"),
         f"{information}/sboms/{facts.NAME}.spdx.json": bill,
     }
     for name in facts.licence_files().values():

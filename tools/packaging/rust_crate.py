@@ -21,6 +21,7 @@ def contents(bill: archives.File) -> archives.Files:
         "c/bcs_library.c": c_package.library(),
         "c/bcs.h": archives.taken(facts.ROOT / "bindings/c/include/bcs.h"),
     }
+    files["bcs-registry"] = archives.taken(facts.REGISTRY_COMMAND)
     files["README.md"] = archives.text(facts.readme("bindings/rust"))
     files[f"{facts.NAME}.spdx.json"] = bill
     for name in facts.licence_files().values():

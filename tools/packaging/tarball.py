@@ -16,15 +16,17 @@ README = """\
 
 | Here | What it is |
 |---|---|
-| `bin/`, `share/` | the program `bcs`, its manual and its completions |
+| `bin/`, `share/` | the program `bcs`, its manual and its completions; `bcs-registry`, which converts registries |
 | `include/`, `lib/` | the library of C, for Linux on x86-64; `PKG_CONFIG_PATH=lib/pkgconfig pkg-config --libs bcs` |
 | `aarch64-linux/` | the program and the libraries for Linux on arm64, of which `include/` has the header |
 | `x86_64-windows/` | the program and the dynamic library for Windows |
-| `python/` | the module of Python with its library: `PYTHONPATH=python python3`; \
+| `python/` | the module of Python with its library: `PYTHONPATH=python python3`, \
+with test vectors for a registry by `python3 -m bcs_proved.vectors`; \
 on arm64 set `BCS_LIBRARY=aarch64-linux/libbcs.so` too |
 | `rust/` | the crate `bcs-proved`: `cargo add --path rust/bcs-proved-{version}` |
 | `web/` | the module for Node and browsers, and the program for Node: `node web/bcs.mjs --help` |
 | `page/` | the page, one file that works from the disk |
+| `vectors/` | test vectors for Aptos, Sui and `every_format.json`, a registry with one of everything |
 
 All of it works where it is unpacked. The licence is {licence}; `bcs.spdx.json` names all that it is made of.
 """
@@ -49,6 +51,8 @@ def make(bill: archives.File) -> dict[str, bytes]:
     files |= under("python", python_wheel.module(facts.NATIVE / "libbcs.so"))
     files |= under(f"rust/{rust_crate.name()}", rust_crate.contents(bill))
     files |= under("web", node_package.contents(bill))
+    files |= under("vectors", archives.tree(facts.VECTORS))
+    files["vectors/every_format.json"] = archives.taken(facts.ROOT / "examples/every_format.json")
     files["page/bcs.html"] = archives.taken(facts.WEB / "bcs.html")
     files["README.md"] = archives.text(README.format(version=facts.version(), licence=facts.licence()))
     files["bcs.spdx.json"] = bill

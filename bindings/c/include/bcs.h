@@ -27,7 +27,8 @@ extern "C" {
 #define BCS_DEPTH 500
 #define BCS_NODES UINT32_MAX
 
-/* An open registry. Any number of threads may use one at the same time. Close it after the last call. */
+/* An open registry. Any number of threads may use one at the same time. Close it after the last call. It keeps the format of the
+   last call, so calls with the same format are faster. */
 typedef struct bcs_handle bcs_handle;
 
 /* How a call went. */
@@ -92,7 +93,12 @@ enum bcs_fault {
     /* of bytes that encode a value whose JSON would nest more than 100 deep */
     BCS_SHOWN_TOO_NESTED = 501,
     /* of a path */
-    BCS_PATH_BAD_PATH = 601
+    BCS_PATH_BAD_PATH = 601,
+    /* why a format has no example */
+    BCS_EXAMPLE_UNKNOWN_VARIANT = 701,
+    BCS_EXAMPLE_NO_VALUE = 702,
+    BCS_EXAMPLE_TOO_MANY_NODES = 703,
+    BCS_EXAMPLE_TOO_NESTED = 704
 };
 
 /* How bcs_explain prints. */
@@ -107,6 +113,12 @@ enum bcs_form {
 enum bcs_what {
     BCS_WHERE = 0, /* where it is */
     BCS_WANTED = 1 /* what was expected there, or what is wrong with it; this text is for people and may change */
+};
+
+/* What bcs_handle_example puts into options, lists and maps. */
+enum bcs_example {
+    BCS_LEAST = 0, /* nothing: options are null, lists and maps are empty */
+    BCS_FULL = 1   /* one element each, down to a container that contains itself */
 };
 
 typedef struct bcs_answer {
@@ -219,6 +231,56 @@ bcs_answer bcs_handle_stop_place(bcs_handle *handle, const uint8_t *format, size
                                  uint32_t nodes, uint32_t what, const uint8_t *bytes, size_t bytes_length, uint8_t *out,
                                  size_t out_length);
 
+/* ---- For people: documents, and refusals with all that is known of them. The words of these texts may change. */
+
+/* Both parts of a refusal in one call: BCS_DONE, or BCS_NO if the input isn't refused. `fault` says why it is refused, and
+   `place` where bytes stop being a value. The output is what bcs_handle_text_place or bcs_handle_stop_place writes with
+   BCS_WHERE, then a NUL, and then what it writes with BCS_WANTED. The last NUL of the output is the one between them, since a
+   name in a JSON Pointer may contain others. */
+bcs_answer bcs_handle_text_refusal(bcs_handle *handle, const uint8_t *format, size_t format_length, uint32_t depth,
+                                   uint32_t nodes, const uint8_t *text, size_t text_length, uint8_t *out,
+                                   size_t out_length);
+bcs_answer bcs_handle_stop_refusal(bcs_handle *handle, const uint8_t *format, size_t format_length, uint32_t depth,
+                                   uint32_t nodes, const uint8_t *bytes, size_t bytes_length, uint8_t *out,
+                                   size_t out_length);
+
+/* A JSON Schema of the JSON documents of the format's values, as `bcs schema` prints it without the last line end. The limits
+   are checked, and don't change the schema. */
+bcs_answer bcs_handle_schema(bcs_handle *handle, const uint8_t *format, size_t format_length, uint32_t depth,
+                             uint32_t nodes, uint8_t *out, size_t out_length);
+
+/* The JSON document of a value of the format, as `bcs example` prints it without the last line end. `form` is one of enum
+   bcs_example; any other number means BCS_LEAST. A variant's name selects that variant of the enum that the format names; an
+   empty name selects none. BCS_REFUSED with a BCS_EXAMPLE_.. fault: there is no such example within the limits. */
+bcs_answer bcs_handle_example(bcs_handle *handle, const uint8_t *format, size_t format_length, uint32_t depth,
+                              uint32_t nodes, uint32_t form, const uint8_t *variant, size_t variant_length,
+                              uint8_t *out, size_t out_length);
+
+/* The registry in readable form, or only the container of this name and what it depends on, as `bcs show` prints it. With an
+   empty name it is the whole registry. `form` is BCS_JSON for the one compact JSON document of `bcs show --json`; any other
+   number means lines. BCS_FORMAT with BCS_REGISTRY_UNKNOWN_NAME: no container has the name. */
+bcs_answer bcs_handle_show(bcs_handle *handle, uint32_t form, const uint8_t *name, size_t name_length, uint8_t *out,
+                           size_t out_length);
+
+/* Where a format is refused: BCS_DONE, or BCS_NO if it isn't. The output is the line that the program `bcs` prints on standard
+   error, such as: at FORMAT, /SEQ: BadShape: wanted a format. It is empty if there is no more to say than the fault. */
+bcs_answer bcs_handle_format_place(bcs_handle *handle, const uint8_t *format, size_t format_length, uint8_t *out,
+                                   size_t out_length);
+
+/* The same for a path: at PATH, step 1 a: BadPath: wanted a number, inner, or key: and hexadecimal digits. */
+bcs_answer bcs_path_place(const uint8_t *path, size_t path_length, uint8_t *out, size_t out_length);
+
+/* All differences between two registries, as `bcs grows --list` prints them: one per line, each with its line end. The answer is
+   BCS_DONE whether or not the newer registry keeps everything that the older one has; if it doesn't, `fault` says why.
+   BCS_REGISTRY or BCS_NEWER if one of them isn't a valid registry. */
+bcs_answer bcs_growth_list(const uint8_t *older, size_t older_length, const uint8_t *newer, size_t newer_length,
+                           uint8_t *out, size_t out_length);
+
+/* Where bcs_grows refuses two registries: BCS_DONE, or BCS_NO if it doesn't. The output is the line that the program prints:
+   at Shape, variant 0 Circle: VariantChanged: the newer enum has another payload there. */
+bcs_answer bcs_growth_place(const uint8_t *older, size_t older_length, const uint8_t *newer, size_t newer_length,
+                            uint8_t *out, size_t out_length);
+
 /* ---- Names, versions and conversions. */
 
 /* The name of a fault, as the program `bcs` prints it: "BadBool". BCS_NO: no fault has the number. */
@@ -238,7 +300,8 @@ static inline const char *bcs_fault_text(uint32_t fault) {
     case BCS_TEXT_BAD_NUMBER: return "BadNumber";
     case BCS_REGISTRY_TOO_NESTED:
     case BCS_TEXT_TOO_NESTED:
-    case BCS_SHOWN_TOO_NESTED: return "TooNested";
+    case BCS_SHOWN_TOO_NESTED:
+    case BCS_EXAMPLE_TOO_NESTED: return "TooNested";
     case BCS_REGISTRY_REPEATED_NAME: return "RepeatedName";
     case BCS_REGISTRY_UNKNOWN_NAME: return "UnknownName";
     case BCS_GROWTH_MISSING: return "Missing";
@@ -251,11 +314,13 @@ static inline const char *bcs_fault_text(uint32_t fault) {
     case BCS_TEXT_UNKNOWN_FIELD: return "UnknownField";
     case BCS_TEXT_MISSING_FIELD: return "MissingField";
     case BCS_TEXT_UNKNOWN_VARIANT:
-    case BCS_STOP_UNKNOWN_VARIANT: return "UnknownVariant";
+    case BCS_STOP_UNKNOWN_VARIANT:
+    case BCS_EXAMPLE_UNKNOWN_VARIANT: return "UnknownVariant";
     case BCS_TEXT_TOO_DEEP:
     case BCS_STOP_TOO_DEEP: return "TooDeep";
     case BCS_TEXT_TOO_MANY_NODES:
-    case BCS_STOP_TOO_MANY_NODES: return "TooManyNodes";
+    case BCS_STOP_TOO_MANY_NODES:
+    case BCS_EXAMPLE_TOO_MANY_NODES: return "TooManyNodes";
     case BCS_TEXT_TOO_LONG: return "TooLong";
     case BCS_TEXT_REPEATED_KEY: return "RepeatedKey";
     case BCS_STOP_END_OF_INPUT: return "EndOfInput";
@@ -269,6 +334,7 @@ static inline const char *bcs_fault_text(uint32_t fault) {
     case BCS_STOP_KEY_REPEATED: return "KeyRepeated";
     case BCS_STOP_TRAILING_BYTES: return "TrailingBytes";
     case BCS_PATH_BAD_PATH: return "BadPath";
+    case BCS_EXAMPLE_NO_VALUE: return "NoValue";
     default: return 0;
     }
 }

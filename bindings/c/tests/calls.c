@@ -142,6 +142,7 @@ static const struct {
     {406, "LengthTooLarge"}, {407, "UnknownVariant"}, {408, "BadUtf8"}, {409, "KeyOrder"}, {410, "KeyRepeated"},
     {411, "TooDeep"}, {412, "TrailingBytes"}, {413, "TooManyNodes"}, {414, "Unsupported"},
     {501, "TooNested"}, {601, "BadPath"},
+    {701, "UnknownVariant"}, {702, "NoValue"}, {703, "TooManyNodes"}, {704, "TooNested"},
 };
 
 /* Each of the first thousand numbers is a fault with its name, or none. */

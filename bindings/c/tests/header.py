@@ -32,7 +32,14 @@ FRONTS = {
     "Reason": "BCS_STOP_",
 }
 # Faults that aren't of one of these enums.
-OTHER_FAULTS = {"ShownTooNested": "BCS_SHOWN_TOO_NESTED", "BadPath": "BCS_PATH_BAD_PATH"}
+OTHER_FAULTS = {
+    "ShownTooNested": "BCS_SHOWN_TOO_NESTED",
+    "BadPath": "BCS_PATH_BAD_PATH",
+    "ExampleUnknownVariant": "BCS_EXAMPLE_UNKNOWN_VARIANT",
+    "ExampleNoValue": "BCS_EXAMPLE_NO_VALUE",
+    "ExampleTooManyNodes": "BCS_EXAMPLE_TOO_MANY_NODES",
+    "ExampleTooNested": "BCS_EXAMPLE_TOO_NESTED",
+}
 FORMS = {"Form": "BCS_"}
 
 

@@ -4,7 +4,12 @@
 
 #include "checks.h"
 
-enum call { CHECKS, GROWS, TO_BCS, FROM_BCS, NORMALISE, COMPARE, SCAN, PART, EXPLAIN, FAULT_NAME, TEXT_PLACE, STOP_PLACE, REGISTRY_PLACE };
+enum call {
+    CHECKS, GROWS, TO_BCS, FROM_BCS, NORMALISE, COMPARE, SCAN, PART, EXPLAIN, FAULT_NAME, TEXT_PLACE, STOP_PLACE, REGISTRY_PLACE,
+    PATH_PLACE, GROWTH_LIST, GROWTH_PLACE,
+    /* these and those behind them are there on a handle only */
+    TEXT_REFUSAL, STOP_REFUSAL, SCHEMA, EXAMPLE, SHOW, FORMAT_PLACE
+};
 
 /* What a call is handed. `second` is a second text, a path, or the newer registry, and `number` a form, a fault, or
    what is told of a place. */
@@ -17,7 +22,7 @@ struct job {
 /* Whether the call has an output. */
 static inline bool has_output(const struct job *job) {
     return job->call == TO_BCS || job->call == FROM_BCS || job->call == NORMALISE || job->call == EXPLAIN ||
-           job->call == FAULT_NAME || job->call == TEXT_PLACE || job->call == STOP_PLACE || job->call == REGISTRY_PLACE;
+           job->call == FAULT_NAME || job->call >= TEXT_PLACE;
 }
 
 /* How a call has its registry. */
@@ -35,6 +40,8 @@ enum way { BY_TEXTS, ON_HANDLE };
 #define FORMAT_AND_LIMITS(job) (job)->format.at, (job)->format.length, (job)->depth, (job)->nodes
 #define WITH_TEXTS(job) (job)->registry.at, (job)->registry.length, FORMAT_AND_LIMITS(job)
 #define WITH_HANDLE(handle, job) (handle), FORMAT_AND_LIMITS(job)
+
+static inline bcs_answer make_opened(const struct job *job, uint8_t *out, size_t room);
 
 static inline bcs_answer make(const struct job *job, uint8_t *out, size_t room) {
     const struct slice input = job->input, second = job->second;
@@ -65,13 +72,26 @@ static inline bcs_answer make(const struct job *job, uint8_t *out, size_t room) 
         return bcs_stop_place(WITH_TEXTS(job), job->number, input.at, input.length, out, room);
     case REGISTRY_PLACE:
         return bcs_registry_place(job->number, input.at, input.length, out, room);
+    case PATH_PLACE:
+        return bcs_path_place(input.at, input.length, out, room);
+    case GROWTH_LIST:
+        return bcs_growth_list(input.at, input.length, second.at, second.length, out, room);
+    case GROWTH_PLACE:
+        return bcs_growth_place(input.at, input.length, second.at, second.length, out, room);
+    case TEXT_REFUSAL:
+    case STOP_REFUSAL:
+    case SCHEMA:
+    case EXAMPLE:
+    case SHOW:
+    case FORMAT_PLACE:
+        return make_opened(job, out, room);
     }
     abort();
 }
 
 /* Whether the call is one of those that there are on a handle too. */
 static inline bool is_on_registry(const struct job *job) {
-    return job->call != GROWS && job->call != FAULT_NAME && job->call != REGISTRY_PLACE;
+    return job->call != GROWS && job->call != FAULT_NAME && (job->call < REGISTRY_PLACE || job->call >= TEXT_REFUSAL);
 }
 
 /* The same on the registry that is open. */
@@ -98,9 +118,24 @@ static inline bcs_answer make_on(bcs_handle *handle, const struct job *job, uint
         return bcs_handle_text_place(WITH_HANDLE(handle, job), job->number, input.at, input.length, out, room);
     case STOP_PLACE:
         return bcs_handle_stop_place(WITH_HANDLE(handle, job), job->number, input.at, input.length, out, room);
+    case TEXT_REFUSAL:
+        return bcs_handle_text_refusal(WITH_HANDLE(handle, job), input.at, input.length, out, room);
+    case STOP_REFUSAL:
+        return bcs_handle_stop_refusal(WITH_HANDLE(handle, job), input.at, input.length, out, room);
+    case SCHEMA:
+        return bcs_handle_schema(WITH_HANDLE(handle, job), out, room);
+    case EXAMPLE:
+        return bcs_handle_example(WITH_HANDLE(handle, job), job->number, input.at, input.length, out, room);
+    case SHOW:
+        return bcs_handle_show(handle, job->number, input.at, input.length, out, room);
+    case FORMAT_PLACE:
+        return bcs_handle_format_place(handle, job->format.at, job->format.length, out, room);
     case GROWS:
     case FAULT_NAME:
     case REGISTRY_PLACE:
+    case PATH_PLACE:
+    case GROWTH_LIST:
+    case GROWTH_PLACE:
         break;
     }
     abort();

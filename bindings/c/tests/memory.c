@@ -118,6 +118,18 @@ static const struct {
     {"registry_place, rule", {.call = REGISTRY_PLACE, .input = OF("{\"A\":{\"STRUCT\":[{\"x\":\"U8\"},{\"x\":\"U8\"}]}}"), .number = BCS_WHERE}, BCS_DONE, ROOM},
     {"registry_place, no JSON", {.call = REGISTRY_PLACE, .input = OF("{"), .number = BCS_WHERE}, BCS_DONE, ROOM},
     {"registry_place of one", {.call = REGISTRY_PLACE, .input = OF(REGISTRY), .number = BCS_WHERE}, BCS_NO, ROOM},
+    {"text_refusal", {ON_VALUE(TEXT_REFUSAL, "[[\"b\",{\"M\":{\"x\":7,\"y\":[\"one\",2]}}]]")}, BCS_DONE, ROOM},
+    {"text_refusal, no JSON", {ON_VALUE(TEXT_REFUSAL, "[[")}, BCS_DONE, ROOM},
+    {"stop_refusal", {ON_VALUE(STOP_REFUSAL, DAMAGED)}, BCS_DONE, ROOM},
+    {"schema", {ON_VALUE(SCHEMA, "")}, BCS_DONE, ROOM},
+    {"example", {ON_VALUE(EXAMPLE, ""), .number = BCS_FULL}, BCS_DONE, ROOM},
+    {"show", {ON_VALUE(SHOW, "B")}, BCS_DONE, ROOM},
+    {"show, JSON", {ON_VALUE(SHOW, ""), .number = BCS_JSON}, BCS_DONE, ROOM},
+    {"format_place", {.call = FORMAT_PLACE, .registry = OF(REGISTRY), .format = OF("{\"SEQ\":{\"TYPENAME\":\"C\"}}"), STANDARD},
+     BCS_DONE, ROOM},
+    {"path_place", {.call = PATH_PLACE, .input = OF("inner/07/x")}, BCS_DONE, ROOM},
+    {"growth_list", {.call = GROWTH_LIST, .input = OF(REGISTRY), .second = OF("{\"A\":\"UNITSTRUCT\"}")}, BCS_DONE, ROOM},
+    {"growth_place", {.call = GROWTH_PLACE, .input = OF(REGISTRY), .second = OF("{\"A\":\"UNITSTRUCT\"}")}, BCS_DONE, ROOM},
     {"fault_name", {.call = FAULT_NAME, .number = BCS_STOP_KEY_ORDER}, BCS_DONE, ROOM},
 };
 

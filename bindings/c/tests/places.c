@@ -83,6 +83,28 @@ static void told_of(const struct refused *row, enum call call, uint32_t what, co
     drop(registry);
 }
 
+/* Both in one call, with the fault and the place that the call on the input itself has. */
+static void told_whole(const struct refused *row, enum call call, enum call on_input) {
+    const struct slice registry = text(REGISTRY);
+    struct job job = {call, registry, row->format, row->input, {NULL, 0}, row->depth, row->nodes, 0};
+    const size_t place = strlen(row->where), length = place + 1 + strlen(row->wanted);
+    uint8_t *out = guarded(ROOM);
+    memset(out, UNTOUCHED, ROOM);
+    const bcs_answer answer = make(&job, out, ROOM);
+    CHECK(answer.status == BCS_DONE && answer.length == length);
+    CHECK(memcmp(out, row->where, place + 1) == 0 && memcmp(out + place + 1, row->wanted, length - place - 1) == 0);
+    CHECK(are_untouched(out + length, ROOM - length));
+    memset(out, UNTOUCHED, ROOM);
+    const bcs_answer little = make(&job, out, length - 1);
+    CHECK(little.status == BCS_SHORT && little.length == length && are_untouched(out, ROOM));
+    job.call = on_input;
+    const bcs_answer refused = make(&job, out, ROOM);
+    CHECK(refused.status == BCS_REFUSED && refused.fault == answer.fault && refused.place == answer.place);
+    CHECK(make_on(NULL, &job, out, ROOM).status == BCS_CLOSED);
+    unguard(out, ROOM);
+    drop(registry);
+}
+
 static void told_of_registry(const struct refused *row, uint32_t what, const char *words) {
     uint8_t *out = guarded(ROOM);
     memset(out, UNTOUCHED, ROOM);
@@ -102,6 +124,10 @@ static void others(void) {
     job.call = STOP_PLACE;
     CHECK(make(&job, out, ROOM).status == BCS_NO);
     CHECK(bcs_registry_place(BCS_WANTED, job.registry.at, job.registry.length, out, ROOM).status == BCS_NO);
+    job.call = STOP_REFUSAL;
+    CHECK(make(&job, out, ROOM).status == BCS_NO);
+    job.call = TEXT_REFUSAL;
+    CHECK(make(&job, out, ROOM).status == BCS_NO);
     job.call = TEXT_PLACE;
     job.depth = BCS_DEPTH + 1;
     CHECK(make(&job, out, ROOM).status == BCS_LIMITS);
@@ -123,10 +149,12 @@ int main(void) {
     for (size_t row = 0; row < COUNT(texts); row++) {
         told_of(&texts[row], TEXT_PLACE, BCS_WHERE, texts[row].where);
         told_of(&texts[row], TEXT_PLACE, BCS_WANTED, texts[row].wanted);
+        told_whole(&texts[row], TEXT_REFUSAL, TO_BCS);
     }
     for (size_t row = 0; row < COUNT(stops); row++) {
         told_of(&stops[row], STOP_PLACE, BCS_WHERE, stops[row].where);
         told_of(&stops[row], STOP_PLACE, BCS_WANTED, stops[row].wanted);
+        told_whole(&stops[row], STOP_REFUSAL, FROM_BCS);
     }
     for (size_t row = 0; row < COUNT(registries); row++) {
         told_of_registry(&registries[row], BCS_WHERE, registries[row].where);

@@ -16,8 +16,15 @@ enum call {
     SCAN,
     PART,
     EXPLAIN,
-    TEXT_PLACE,
-    STOP_PLACE,
+    TEXT_REFUSAL,
+    STOP_REFUSAL,
+    SCHEMA,
+    EXAMPLE,
+    SHOW,
+    FORMAT_PLACE,
+    PATH_PLACE,
+    GROWTH_LIST,
+    GROWTH_PLACE,
     GROWS,
     REGISTRY_PLACE,
     FAULT_NAME
@@ -71,8 +78,15 @@ static bcs_answer make(enum call call, const struct job *job, uint8_t *out, size
     case SCAN: return bcs_handle_scan(ASK, PIECE(first));
     case PART: return bcs_handle_part(ASK, PIECE(first), PIECE(second));
     case EXPLAIN: return bcs_handle_explain(ASK, job->number, PIECE(first), out, room);
-    case TEXT_PLACE: return bcs_handle_text_place(ASK, job->number, PIECE(first), out, room);
-    case STOP_PLACE: return bcs_handle_stop_place(ASK, job->number, PIECE(first), out, room);
+    case TEXT_REFUSAL: return bcs_handle_text_refusal(ASK, PIECE(first), out, room);
+    case STOP_REFUSAL: return bcs_handle_stop_refusal(ASK, PIECE(first), out, room);
+    case SCHEMA: return bcs_handle_schema(ASK, out, room);
+    case EXAMPLE: return bcs_handle_example(ASK, job->number, PIECE(first), out, room);
+    case SHOW: return bcs_handle_show(job->handle, job->number, PIECE(first), out, room);
+    case FORMAT_PLACE: return bcs_handle_format_place(job->handle, PIECE(format), out, room);
+    case PATH_PLACE: return bcs_path_place(PIECE(first), out, room);
+    case GROWTH_LIST: return bcs_growth_list(PIECE(first), PIECE(second), out, room);
+    case GROWTH_PLACE: return bcs_growth_place(PIECE(first), PIECE(second), out, room);
     case GROWS: return bcs_grows(PIECE(first), PIECE(second));
     case REGISTRY_PLACE: return bcs_registry_place(job->number, PIECE(first), out, room);
     case FAULT_NAME: return bcs_fault_name(job->number, out, room);

@@ -4,6 +4,7 @@ import bcsproved.Explanation;
 import bcsproved.Form;
 import bcsproved.Limits;
 import bcsproved.Part;
+import bcsproved.Prefix;
 import bcsproved.Registry;
 import java.nio.charset.StandardCharsets;
 import java.nio.file.Files;
@@ -91,6 +92,19 @@ public final class Tests {
         Registry.grows("{}".getBytes(StandardCharsets.UTF_8), SHAPES.getBytes(StandardCharsets.UTF_8));
     }
 
+    private static void documents() throws BcsException {
+        Registry ring = Registry.open("{\"R\":{\"ENUM\":{\"0\":{\"Dot\":\"UNIT\"},\"1\":{\"Ring\":{\"NEWTYPE\":{\"OPTION\":\"U64\"}}}}}}");
+        equal(ring.example("R"), "\"Dot\"");
+        equal(ring.example("R", "Ring", true), "{\"Ring\":{\"some\":\"0\"}}");
+        equal(ring.schema("\"BOOL\"").contains("\"boolean\""), true);
+        equal(ring.show("R", Form.WAYS).contains("1 Ring: U64?"), true);
+        equal(ring.show("", Form.WAYS), ring.show("R", Form.WAYS));
+        equal(ring.show("", Form.JSON).startsWith("{\"R\":{\"ENUM\""), true);
+        equal(ring.decodePrefix("\"U16\"", new byte[] {1, 2, 3}), new Prefix("513", 2));
+        equal(ring.withLimits(Limits.STANDARD).decodePrefix("\"UNIT\"", NOTHING), new Prefix("null", 0));
+        equal(thrown(BcsException.class, () -> ring.decodePrefix("{\"SEQ\":\"UNIT\"}", unhex("ffffffff07"))).reason(), "TooManyNodes");
+    }
+
     private static void refusals() throws BcsException {
         Registry registry = Registry.open(SHAPES);
         String number = "wanted a whole number from 0 to 255 (U8)";
@@ -105,10 +119,20 @@ public final class Tests {
         refused(Kind.BYTES, "EndOfInput", 0, ".", "wanted BOOL", () -> registry.decode("\"BOOL\"", NOTHING));
         refused(Kind.BYTES, "UnknownVariant", 0, ".", "wanted number of a variant", () -> registry.scan("Shape", new byte[] {1}));
         refused(Kind.BYTES, "BadBool", 1, "[0]", "wanted BOOL", () -> registry.part("{\"SEQ\":\"BOOL\"}", new byte[] {1, 2}, "."));
-        refused(Kind.PATH, "BadPath", -1, null, null, () -> registry.part("Point", unhex("0700"), "x//"));
-        refused(Kind.FORMAT, "UnknownName", -1, null, null, () -> registry.check("Circle"));
+        refused(Kind.PATH, "BadPath", -1, "step 2", "an empty step", () -> registry.part("Point", unhex("0700"), "1/"));
+        refused(Kind.FORMAT, "BadShape", -1, "/SEQ", "wanted a format", () -> registry.check("{\"SEQ\":\"U7\"}"));
+        refused(Kind.FORMAT, "UnknownName", -1, "", "no container is called x: UnknownName: y",
+                () -> registry.decode("{\"SEQ\":{\"TYPENAME\":\"x: UnknownName: y\"}}", none));
+        refused(Kind.FORMAT, "UnknownName", -1, "", "no container is called Circle", () -> registry.show("Circle", Form.WAYS));
+        refused(Kind.EXAMPLE, "NoValue", -1, null, null, () -> registry.example("\"F32\""));
+        refused(Kind.EXAMPLE, "UnknownVariant", -1, null, null, () -> registry.example("Point", "Oval", false));
         refused(Kind.LIMITS, null, -1, null, null, () -> registry.withLimits(new Limits(501, 1)).check("Point"));
-        refused(Kind.GROWTH, "Missing", -1, null, null, () -> Registry.grows(shapes, none));
+        byte[] odd = "{\"a: Missing: b\":\"UNITSTRUCT\"}".getBytes(StandardCharsets.UTF_8);
+        refused(Kind.GROWTH, "Missing", -1, "a: Missing: b", "the newer registry has no container of that name",
+                () -> Registry.grows(odd, none));
+        equal(thrown(BcsException.class, () -> Registry.grows(shapes, none)).reason(), "Missing");
+        equal(Registry.differences(odd, none), List.of("a: Missing: b: Missing"));
+        equal(thrown(BcsException.class, () -> Registry.differences(none, NOTHING)).kind(), Kind.NEWER);
         equal(thrown(BcsException.class, () -> Registry.grows(NOTHING, none)).kind(), Kind.REGISTRY);
         equal(thrown(BcsException.class, () -> Registry.grows(none, NOTHING)).kind(), Kind.NEWER);
         BcsException unknown = thrown(BcsException.class, () -> Registry.open("{\"A\":{\"STRUCT\":[{\"x\":{\"TYPENAME\":\"B\"}}]}}"));
@@ -308,7 +332,7 @@ public final class Tests {
     public static void main(String[] words) throws Exception {
         examples = Path.of(words[0]);
         List<Test> tests = words.length > 1 ? List.of(Tests::memory)
-                : List.of(Tests::values, Tests::refusals, Tests::arguments, Tests::explanations, Tests::limits, Tests::sharing,
+                : List.of(Tests::values, Tests::documents, Tests::refusals, Tests::arguments, Tests::explanations, Tests::limits, Tests::sharing,
                         Tests::closing, Tests::collecting, Tests::stacks);
         for (Test test : tests) {
             test.run();

@@ -31,21 +31,27 @@ import os
 import pathlib
 import sys
 import weakref
-from typing import Any, Callable, Mapping, NamedTuple, Optional, Union
+from typing import Any, Callable, Generic, Literal, Mapping, NamedTuple, Optional, TypeVar, Union, overload
 
 from . import values
+
+__version__ = "0.1.0"
 
 __all__ = [
     "BcsError",
     "BytesError",
     "Data",
+    "ExampleError",
     "Form",
     "Format",
     "FormatError",
+    "GrowthError",
     "Library",
     "Limits",
+    "Name",
     "Part",
     "PathError",
+    "PlainName",
     "Registry",
     "RegistryError",
     "Text",
@@ -54,8 +60,27 @@ __all__ = [
 ]
 
 Text = Union[str, bytes]
-Format = Union[str, bytes, Mapping[str, Any]]
 Data = Union[bytes, bytearray, memoryview]
+_Value = TypeVar("_Value")
+
+
+class Name(Generic[_Value]):
+    """The name of a container, with the Python type of its values, as bcs_proved.types writes it for each container. As
+    a format it is the same as the name, and checkers know what `encode` accepts and `decode` returns."""
+
+    def __init__(self, name: str) -> None:
+        self.name = name
+
+    def __repr__(self) -> str:
+        return f"bcs_proved.Name({self.name!r})"
+
+
+class PlainName(Name[Any], Generic[_Value]):
+    """The same for types that were written with --plain-options, which `decode(.., plain_options=True)` returns."""
+
+
+_AnyName = Union[str, bytes, Mapping[str, Any]]
+Format = Union[str, bytes, Mapping[str, Any], Name[Any]]
 
 
 class BcsError(Exception):
@@ -116,9 +141,21 @@ class BytesError(BcsError):
 
 
 class PathError(BcsError):
-    """The path is none."""
+    """The path is invalid."""
 
     what = "no path"
+
+
+class GrowthError(BcsError):
+    """The newer registry doesn't keep what the older one has. `pointer` says where."""
+
+    what = "the registry doesn't grow"
+
+
+class ExampleError(BcsError):
+    """There is no example of the format: it has no values, no variant of that name, or none within the limits."""
+
+    what = "no example"
 
 
 _MOST_NODES = 4294967295
@@ -218,15 +255,22 @@ _CALLS: dict[str, list[Any]] = {
     "bcs_handle_scan": _ASK + _IN,
     "bcs_handle_part": _ASK + _IN + _IN,
     "bcs_handle_explain": _ASK + [ctypes.c_uint32] + _IN + _OUT,
-    "bcs_handle_text_place": _ASK + [ctypes.c_uint32] + _IN + _OUT,
-    "bcs_handle_stop_place": _ASK + [ctypes.c_uint32] + _IN + _OUT,
+    "bcs_handle_text_refusal": _ASK + _IN + _OUT,
+    "bcs_handle_stop_refusal": _ASK + _IN + _OUT,
+    "bcs_handle_schema": _ASK + _OUT,
+    "bcs_handle_example": _ASK + [ctypes.c_uint32] + _IN + _OUT,
+    "bcs_handle_show": _HANDLE + [ctypes.c_uint32] + _IN + _OUT,
+    "bcs_handle_format_place": _HANDLE + _IN + _OUT,
+    "bcs_path_place": _IN + _OUT,
+    "bcs_growth_list": _IN + _IN + _OUT,
+    "bcs_growth_place": _IN + _IN + _OUT,
     "bcs_registry_place": [ctypes.c_uint32] + _IN + _OUT,
     "bcs_fault_name": [ctypes.c_uint32] + _OUT,
 }
 # enum bcs_what of bcs.h.
 _WHERE, _WANTED = 0, 1
-# What tells of a refusal where it is, or what was wanted there, by its answer and its output.
-_Told = Callable[[int], "tuple[_Answer, bytes]"]
+# Returns the pointer of a refusal, and what was expected there.
+_Told = Callable[[], "tuple[Optional[str], Optional[str]]"]
 
 
 _IS_WINDOWS = sys.platform == "win32"
@@ -280,7 +324,7 @@ class Library:
         out = ctypes.create_string_buffer(max(room, 1))
         answer = self.ask(name, *words, out, room)
         # (`ctypes.string_at` takes a length of 32 bits, and cuts a longer one)
-        return answer, memoryview(out)[: answer.length].tobytes() if answer.status == _Status.DONE else b""
+        return (answer, memoryview(out)[: answer.length].tobytes() if answer.status == _Status.DONE else b"")
 
     def fault_name(self, fault: int) -> str:
         """The name of a fault by its number in bcs.h."""
@@ -290,11 +334,29 @@ class Library:
         return name.decode()
 
     def registry_place(self, text: bytes) -> _Told:
-        """What tells where a registry's text is refused."""
-        return lambda what: self.put("bcs_registry_place", 200, what, text, len(text))
+        """Says where the text of a registry is refused."""
+
+        def told() -> tuple[Optional[str], Optional[str]]:
+            pointer, expected = (
+                _told_text(*self.put("bcs_registry_place", 200, what, text, len(text))) for what in (_WHERE, _WANTED)
+            )
+            return pointer, expected
+
+        return told
+
+    def line(self, prefix: str, name: str, *words: Any) -> _Told:
+        """Says what a call reports in one line, such as "at FORMAT, /SEQ: BadShape: wanted a format"."""
+
+        def told() -> tuple[Optional[str], Optional[str]]:
+            answer, output = self.put(name, 200, *words)
+            if answer.status != _Status.DONE or not output:
+                return None, None
+            return _parts_of_line(output.decode(), prefix, self.fault_name(answer.fault))
+
+        return told
 
     def done(self, answer: _Answer, refused: type[BcsError], told: Optional[_Told] = None) -> None:
-        """Raises what the answer refuses: `refused` is of the input, and `told` says where it is."""
+        """Raises what the answer refuses: `refused` is the error for the input, and `told` says where it is."""
         if answer.status == _Status.DONE:
             return
         if answer.status == _Status.MEMORY:
@@ -308,13 +370,28 @@ class Library:
         }
         # Only where bytes stop being a value is there an offset: the faults from 401 on, below 501.
         place = answer.place if 401 <= answer.fault < 501 else None
-        is_placed = answer.status in (_Status.REGISTRY, _Status.NEWER, _Status.REFUSED)
-        where = [_told_text(*told(what)) for what in (_WHERE, _WANTED)] if told and is_placed else [None, None]
-        raise errors[answer.status](self.fault_name(answer.fault), place, where[0], where[1] or None)
+        pointer, expected = told() if told else (None, None)
+        raise errors[answer.status](self.fault_name(answer.fault), place, pointer, expected or None)
 
 
 def _told_text(answer: _Answer, output: bytes) -> Optional[str]:
     return output.decode() if answer.status == _Status.DONE else None
+
+
+def _parts_of_line(line: str, prefix: str, reason: str) -> tuple[str, Optional[str]]:
+    """The pointer and the words of a line of the program. Names in it may contain anything."""
+    line = line.removeprefix("at ")
+    # (only the words of UnknownName have a name in them, and only the place of the others)
+    where, _, expected = line.partition(f": {reason}") if reason == "UnknownName" else line.rpartition(f": {reason}")
+    return where.removeprefix(prefix).removeprefix(", "), expected.removeprefix(": ") or None
+
+
+def _refusal_of(answer: _Answer, output: bytes) -> tuple[Optional[str], Optional[str]]:
+    """The pointer and the words of a refusal. A pointer may contain the byte between them, and the words don't."""
+    if answer.status != _Status.DONE:
+        return None, None
+    where, _, expected = output.rpartition(b"\0")
+    return where.decode(), expected.decode()
 
 
 @functools.lru_cache(maxsize=None)
@@ -341,6 +418,8 @@ def _json_of_name(format: str) -> bytes:
 
 
 def _json_of_format(format: Format) -> bytes:
+    if isinstance(format, Name):
+        return values.json_of_format({"TYPENAME": format.name})
     if isinstance(format, str):
         # (what a class of its own calls equal may be another name)
         return _json_of_name(str.__str__(format))
@@ -349,6 +428,10 @@ def _json_of_format(format: Format) -> bytes:
 
 def _nodes_of(limits: Optional[Limits], most: int) -> int:
     return most if limits is None or limits.nodes is None else limits.nodes
+
+
+def _nodes_for(data: bytes) -> int:
+    return min(16 * len(data) + 1_000_000, _MOST_NODES)
 
 
 # A format's JSON with its length, a depth and a number of nodes.
@@ -374,8 +457,7 @@ class Registry:
     `library` is where the dynamic library is, or one that is loaded; without it, it is looked for as `Library` says.
 
     A registry holds memory of the library, and gives it back where nothing refers to it any more; or before, by `close`
-    or at the end of a `with`.
-    """
+    or at the end of a `with`."""
 
     def __init__(
         self,
@@ -390,8 +472,15 @@ class Registry:
             self._library = _standard_library()
         else:
             self._library = library if isinstance(library, Library) else Library(library)
-        self._handle: Optional[_Handle] = _Handle(self._library, self._text)
+        self._handle: Optional[_Handle] = self._opened(text)
         self._known_formats: dict[bytes, values.Format] = {}
+
+    @classmethod
+    def from_file(
+        cls, path: Union[str, os.PathLike[str]], library: Union[Library, str, os.PathLike[str], None] = None
+    ) -> Registry:
+        """The registry in a file. Raises RegistryError if it is invalid, and OSError if the file can't be read."""
+        return cls(pathlib.Path(path), library)
 
     def __reduce__(self) -> tuple[Any, ...]:
         own = None if self._library is _standard_library() else self._library.path
@@ -419,6 +508,20 @@ class Registry:
     def _native(self) -> values.Native:
         return values.Native(self._containers)
 
+    @functools.cached_property
+    def _plain_native(self) -> values.Native:
+        return values.Native(self._containers, self._formats)
+
+    def _opened(self, given: object) -> _Handle:
+        try:
+            return _Handle(self._library, self._text)
+        except RegistryError as fault:
+            # (a registry begins with a brace)
+            if fault.reason == "NotJson" and isinstance(given, str) and given.strip() and given.lstrip()[0] != "{":
+                hint = "a str is read as JSON; for the name of a file, use Registry.from_file(..)"
+                raise RegistryError(fault.reason, fault.place, fault.pointer, f"{fault.expected}; {hint}") from None
+            raise
+
     def close(self) -> None:
         """Frees the registry's memory, once no call of another thread uses it any more. Afterwards all methods except
         `grows` and `growth_fault` raise ValueError."""
@@ -443,9 +546,86 @@ class Registry:
         answer = self._library.ask("bcs_grows", self._text, len(self._text), newer._text, len(newer._text))
         if answer.status == _Status.REFUSED:
             return self._library.fault_name(answer.fault)
-        refused = newer._text if answer.status == _Status.NEWER else self._text
-        self._library.done(answer, RegistryError, self._library.registry_place(refused))
+        self._library.done(answer, RegistryError, self._refused_of(answer, newer))
         return None
+
+    def require_growth(self, newer: Registry) -> None:
+        """Raises GrowthError unless the newer registry keeps everything that this one has. The error says where it
+        doesn't."""
+        texts = self._text, len(self._text), newer._text, len(newer._text)
+        answer = self._library.ask("bcs_grows", *texts)
+        told = self._library.line("", "bcs_growth_place", *texts)
+        if answer.status != _Status.REFUSED:
+            told = self._refused_of(answer, newer)
+        self._library.done(answer, GrowthError, told)
+
+    def differences(self, newer: Registry) -> list[str]:
+        """All differences from this registry to a newer one, a line for each, as `bcs grows --list` prints them."""
+        answer, text = self._library.put(
+            "bcs_growth_list", 1000, self._text, len(self._text), newer._text, len(newer._text)
+        )
+        self._library.done(answer, RegistryError, self._refused_of(answer, newer))
+        return text.decode().split("\n")[:-1]
+
+    def _refused_of(self, answer: _Answer, newer: Registry) -> _Told:
+        return self._library.registry_place(newer._text if answer.status == _Status.NEWER else self._text)
+
+    def schema(self, format: Format, limits: Optional[Limits] = None) -> dict[str, Any]:
+        """A JSON Schema of the JSON of the format's values."""
+        ask = self._ask(_json_of_format(format), limits)
+        answer, text = self._put("bcs_handle_schema", 4000, ask)
+        self._library.done(answer, FormatError, self._told_of_format(ask))
+        schema: dict[str, Any] = json.loads(text)
+        return schema
+
+    def example(
+        self,
+        format: Format,
+        limits: Optional[Limits] = None,
+        *,
+        variant: str = "",
+        full: bool = False,
+        native: bool = False,
+        plain_options: bool = False,
+    ) -> Any:
+        """A value of the format, to start from: `decode` would return it. With `full`, each option, list and map has an
+        element. `variant` selects a variant of the enum that the format names. Raises ExampleError if the
+        format has no example."""
+        json_of_format = _json_of_format(format)
+        text = self.example_text(json_of_format, limits, variant=variant, full=full)
+        return self._read(json_of_format, text, native, plain_options)
+
+    def example_text(
+        self, format: Format, limits: Optional[Limits] = None, *, variant: str = "", full: bool = False
+    ) -> str:
+        """The JSON text of such a value, as `bcs example` prints it."""
+        ask, name = self._ask(_json_of_format(format), limits), _bytes_of_text(variant)
+        answer, text = self._put("bcs_handle_example", 1000, ask, int(full), name, len(name))
+        self._library.done(answer, ExampleError, self._told_of_format(ask))
+        return text.decode()
+
+    def show(self, name: str = "", *, as_json: bool = False) -> str:
+        """The registry in readable form, as `bcs show` prints it; or only the container of this name with what it
+        depends on. With `as_json` it is compact JSON. Raises FormatError if no container has the name."""
+        data = _bytes_of_text(name)
+        handle = self._open_handle()
+        answer, text = self._library.put(
+            "bcs_handle_show", 4000, handle.pointer, Form.JSON if as_json else 0, data, len(data)
+        )
+        self._library.done(answer, FormatError, lambda: ("", f"no container is called {name}"))
+        return text.decode()
+
+    @overload
+    def encode(self, format: PlainName[_Value], value: _Value, limits: Optional[Limits] = None) -> bytes:
+        ...
+
+    @overload
+    def encode(self, format: Name[_Value], value: _Value, limits: Optional[Limits] = None) -> bytes:
+        ...
+
+    @overload
+    def encode(self, format: _AnyName, value: Any, limits: Optional[Limits] = None) -> bytes:
+        ...
 
     def encode(self, format: Format, value: Any, limits: Optional[Limits] = None) -> bytes:
         """The bytes of a value. Raises TextError if it isn't a value of the format, and ValueTypeError, which is one of
@@ -457,20 +637,102 @@ class Registry:
         """The bytes of the value that a JSON text denotes. Raises TextError where it denotes none of the format."""
         return self._put_text("bcs_handle_to_bcs", _json_of_format(format), _bytes_of_text(text), limits)
 
-    def decode(self, format: Format, data: Data, limits: Optional[Limits] = None, *, native: bool = False) -> Any:
-        """The value whose bytes these are. Raises BytesError where they are no value's, or not one's alone.
+    @overload
+    def decode(
+        self, format: PlainName[_Value], data: Data, limits: Optional[Limits] = None, *, plain_options: Literal[True]
+    ) -> _Value:
+        ...
 
-        With `native`, whole numbers are `int`, and BYTES and lists of U8 `bytes`."""
+    @overload
+    def decode(
+        self, format: Name[_Value], data: Data, limits: Optional[Limits] = None, *, native: Literal[True]
+    ) -> _Value:
+        ...
+
+    @overload
+    def decode(
+        self,
+        format: Format,
+        data: Data,
+        limits: Optional[Limits] = None,
+        *,
+        native: bool = False,
+        plain_options: bool = False,
+    ) -> Any:
+        ...
+
+    def decode(
+        self,
+        format: Format,
+        data: Data,
+        limits: Optional[Limits] = None,
+        *,
+        native: bool = False,
+        plain_options: bool = False,
+    ) -> Any:
+        """The value whose bytes these are. Raises BytesError unless the bytes are exactly one value's.
+
+        With `native`, integers are `int`, and BYTES and lists of U8 are `bytes`. With `plain_options`, which implies
+        `native`, an option is None or its value, except where that could mean two values, as in nested options."""
         json_of_format = _json_of_format(format)
-        found = json.loads(self.decode_text(json_of_format, data, limits))
-        return self._native.value(json.loads(json_of_format), found) if native else found
+        return self._read(json_of_format, self.decode_text(json_of_format, data, limits), native, plain_options)
+
+    @overload
+    def decode_prefix(
+        self, format: PlainName[_Value], data: Data, limits: Optional[Limits] = None, *, plain_options: Literal[True]
+    ) -> tuple[_Value, int]:
+        ...
+
+    @overload
+    def decode_prefix(
+        self, format: Name[_Value], data: Data, limits: Optional[Limits] = None, *, native: Literal[True]
+    ) -> tuple[_Value, int]:
+        ...
+
+    @overload
+    def decode_prefix(
+        self,
+        format: Format,
+        data: Data,
+        limits: Optional[Limits] = None,
+        *,
+        native: bool = False,
+        plain_options: bool = False,
+    ) -> tuple[Any, int]:
+        ...
+
+    def decode_prefix(
+        self,
+        format: Format,
+        data: Data,
+        limits: Optional[Limits] = None,
+        *,
+        native: bool = False,
+        plain_options: bool = False,
+    ) -> tuple[Any, int]:
+        """The value at the beginning of `data`, and how many bytes it has. What follows isn't read."""
+        data = _bytes_of(data)
+        json_of_format = _json_of_format(format)
+        if limits is None or limits.nodes is None:
+            # (the default depends on all bytes, so both steps get the same one)
+            limits = Limits(Limits.depth if limits is None else limits.depth, _nodes_for(data))
+        length = self.scan(json_of_format, data, limits)
+        value = self.decode(json_of_format, data[:length], limits, native=native, plain_options=plain_options)
+        return value, length
+
+    def _read(self, format: bytes, text: str, native: bool, plain_options: bool) -> Any:
+        found = json.loads(text)
+        if not (native or plain_options):
+            return found
+        reader = self._plain_native if plain_options else self._native
+        return reader.value(json.loads(format), found)
 
     def decode_text(self, format: Format, data: Data, limits: Optional[Limits] = None) -> str:
         """The one normal JSON text of the value whose bytes these are. Raises BytesError as `decode` does."""
         data = _bytes_of(data)
         ask = self._ask(_json_of_format(format), limits, data)
         answer, text = self._put("bcs_handle_from_bcs", 4 * len(data) + 100, ask, data, len(data))
-        self._library.done(answer, BytesError, self._told("bcs_handle_stop_place", ask, data))
+        self._library.done(answer, BytesError, self._told_of("bcs_handle_stop_refusal", answer, ask, data))
         return text.decode()
 
     def normalise(self, format: Format, value: Any, limits: Optional[Limits] = None) -> Any:
@@ -497,9 +759,9 @@ class Registry:
         if answer.status == _Status.NO:
             return False
 
-        def told(what: int) -> tuple[_Answer, bytes]:
-            of_one = self._told("bcs_handle_text_place", ask, one)(what)
-            return self._told("bcs_handle_text_place", ask, other)(what) if of_one[0].status == _Status.NO else of_one
+        def told() -> tuple[Optional[str], Optional[str]]:
+            of_one = self._told_of("bcs_handle_text_refusal", answer, ask, one)()
+            return self._told_of("bcs_handle_text_refusal", answer, ask, other)() if of_one[0] is None else of_one
 
         self._library.done(answer, TextError, told)
         return True
@@ -509,7 +771,7 @@ class Registry:
         data = _bytes_of(data)
         ask = self._ask(_json_of_format(format), limits, data)
         answer = self._call("bcs_handle_scan", ask, data, len(data))
-        self._library.done(answer, BytesError, self._told("bcs_handle_stop_place", ask, data))
+        self._library.done(answer, BytesError, self._told_of("bcs_handle_stop_refusal", answer, ask, data))
         return answer.length
 
     def part(self, format: Format, data: Data, path: str, limits: Optional[Limits] = None) -> Optional[Part]:
@@ -520,7 +782,10 @@ class Registry:
         answer = self._call("bcs_handle_part", ask, data, len(data), steps, len(steps))
         if answer.status == _Status.NO:
             return None
-        self._library.done(answer, BytesError, self._told("bcs_handle_stop_place", ask, data))
+        told = self._told_of("bcs_handle_stop_refusal", answer, ask, data)
+        if answer.status == _Status.PATH:
+            told = self._library.line("PATH", "bcs_path_place", steps, len(steps))
+        self._library.done(answer, BytesError, told)
         return Part(answer.place, data[answer.place : answer.place + answer.length])
 
     def explain(self, format: Format, data: Data, limits: Optional[Limits] = None) -> list[dict[str, Any]]:
@@ -535,7 +800,7 @@ class Registry:
         ask = self._ask(_json_of_format(format), limits, data)
         room = min(100 * len(data) + 1000, 1000000)
         answer, text = self._put("bcs_handle_explain", room, ask, int(form), data, len(data))
-        self._library.done(answer, BytesError)
+        self._library.done(answer, BytesError, self._told_of_format(ask))
         return text.decode()
 
     def _json_of(self, format: bytes, value: Any, limits: Optional[Limits]) -> bytes:
@@ -553,12 +818,13 @@ class Registry:
             raise error(fault.reason, None, fault.pointer, fault.expected) from fault.__cause__
 
     def _check(self, format: bytes) -> None:
-        self._library.done(self._call("bcs_handle_check", self._ask(format, None)), FormatError)
+        ask = self._ask(format, None)
+        self._library.done(self._call("bcs_handle_check", ask), FormatError, self._told_of_format(ask))
 
     def _ask(self, format: bytes, limits: Optional[Limits], read: Optional[bytes] = None) -> _Ask:
         """`read` are the bytes that a call reads, if it doesn't read a text."""
-        most = _MOST_NODES if read is None else min(16 * len(read) + 1_000_000, _MOST_NODES)
-        return format, len(format), Limits.depth if limits is None else limits.depth, _nodes_of(limits, most)
+        most = _MOST_NODES if read is None else _nodes_for(read)
+        return (format, len(format), Limits.depth if limits is None else limits.depth, _nodes_of(limits, most))
 
     def _open_handle(self) -> _Handle:
         handle = self._handle
@@ -577,9 +843,15 @@ class Registry:
     def _put_text(self, call: str, format: bytes, text: bytes, limits: Optional[Limits]) -> bytes:
         ask = self._ask(format, limits)
         answer, output = self._put(call, 2 * len(text) + 100, ask, text, len(text))
-        self._library.done(answer, TextError, self._told("bcs_handle_text_place", ask, text))
+        self._library.done(answer, TextError, self._told_of("bcs_handle_text_refusal", answer, ask, text))
         return output
 
-    def _told(self, call: str, ask: _Ask, data: bytes) -> _Told:
-        """What tells where these bytes or this text is refused."""
-        return lambda what: self._put(call, 200, ask, what, data, len(data))
+    def _told_of(self, call: str, answer: _Answer, ask: _Ask, data: bytes) -> _Told:
+        """Says where these bytes, this text, or the format is refused."""
+        if answer.status == _Status.FORMAT:
+            return self._told_of_format(ask)
+        return lambda: _refusal_of(*self._put(call, 200, ask, data, len(data)))
+
+    def _told_of_format(self, ask: _Ask) -> _Told:
+        handle, format, length = self._open_handle(), ask[0], ask[1]
+        return self._library.line("FORMAT", "bcs_handle_format_place", handle.pointer, format, length)

@@ -1,10 +1,12 @@
 """Types of a registry's values, for mypy and other checkers, as a module of Python:
 
-    python -m bcs_proved.types registry.json > payments.py
+    python -m bcs_proved.types [--plain-options] registry.json > payments.py
 
-REGISTRY is a file, or the registry's JSON, which begins with `{`. Each container is a type: `decode(.., native=True)`
-gives its values, and `encode` takes them. The status is 2 of a registry that is refused, 3 of wrong words, and 4 of a
-file that can't be read; standard error says why.
+REGISTRY is a file, or the registry's JSON, which begins with `{`. Each container becomes a type: `decode(..,
+native=True)` returns its values, and `encode` accepts them. With --plain-options they are what `decode(..,
+plain_options=True)` returns. For each container there is also its name as a format, such as PAYMENT for Payment, which
+gives `encode` and `decode` the type. The status is 2 if the registry is refused, 3 for invalid arguments, and 4 if a
+file can't be read; standard error says why.
 """
 
 from __future__ import annotations
@@ -20,14 +22,17 @@ import sys
 from typing import Any, Iterable, Iterator, Mapping, Optional
 
 from bcs_proved import Registry, RegistryError, Text
+from bcs_proved.values import Formats
 
 __all__ = ["module_of"]
 
-_HEAD = '''"""Made of a registry by bcs_proved.types: what `decode(.., native=True)` gives, and `encode` takes."""
+_HEAD = '''"""Made from a registry by bcs_proved.types: what `decode(.., {flag}=True)` returns, and `encode` accepts."""
 
 from __future__ import annotations
 
 from typing import TYPE_CHECKING, Any, Literal, NoReturn, Optional, TypedDict, Union, final
+
+from bcs_proved import {name}
 
 if TYPE_CHECKING:
     from typing_extensions import TypeAlias
@@ -46,6 +51,8 @@ _TAKEN = [
         "final",
         "TypeAlias",
         "annotations",
+        "Name",
+        "PlainName",
     ],
     *[
         "aiter",
@@ -72,10 +79,10 @@ _PLAIN = re.compile(r"[A-Za-z][A-Za-z0-9_]*")
 _FIELD = re.compile(r"_?[A-Za-z][A-Za-z0-9_]*")
 
 
-def module_of(text: Text) -> str:
-    """The module for a registry, of its JSON. Raises RegistryError where it is none."""
+def module_of(text: Text, plain_options: bool = False) -> str:
+    """The module for a registry, from its JSON. Raises RegistryError if it is invalid."""
     with Registry(text):
-        return _Writer(json.loads(text)).text()
+        return _Writer(json.loads(text), plain_options).text()
 
 
 def _only(thing: Mapping[str, Any]) -> tuple[str, Any]:
@@ -113,8 +120,9 @@ class _Writer:
     """Writes the types of containers. In expressions that Python evaluates a type's name stands in quotes, since it may
     come later."""
 
-    def __init__(self, containers: Mapping[str, Any]) -> None:
+    def __init__(self, containers: Mapping[str, Any], plain_options: bool) -> None:
         self._containers = containers
+        self._formats = Formats(containers) if plain_options else None
         self._identifiers = _Identifiers()
         self._names = self._identifiers.of_all(containers)
         # what options hold, and the type of each
@@ -123,7 +131,16 @@ class _Writer:
     def text(self) -> str:
         declared = [self._container(name) for name in sorted(self._containers)]
         options = [self._dict(own, {"some": held}, is_final=True) for held, own in self._options.items()]
-        return "\n\n".join([_HEAD, *declared, *options])
+        flag, name = ("plain_options", "PlainName") if self._formats else ("native", "Name")
+        head = _HEAD.format(flag=flag, name=name)
+        return "\n\n".join([head, *declared, *options, "".join(self._constants(name))])
+
+    def _constants(self, kind: str) -> Iterator[str]:
+        """The names as formats: RAW_TRANSACTION for RawTransaction."""
+        for name in sorted(self._containers):
+            own = self._names[name]
+            constant = re.sub(r"(?<=[a-z0-9])(?=[A-Z])|(?<=[A-Z])(?=[A-Z][a-z])", "_", own).upper()
+            yield f'{self._identifiers.of(constant)} = {kind}["{own}"]({ascii(name)})\n'
 
     def _container(self, name: str) -> str:
         own, container = self._names[name], self._containers[name]
@@ -196,6 +213,8 @@ class _Writer:
         if kind == "TYPENAME":
             return f'"{self._names[inner]}"'
         if kind == "OPTION":
+            if self._formats and self._formats.is_plain(inner):
+                return f"Optional[{self._format(inner)}]"
             return f'Optional["{self._option(self._format(inner))}"]'
         if kind == "MAP":
             return f"list[{self._row([inner['KEY'], inner['VALUE']])}]"
@@ -224,8 +243,11 @@ class _Writer:
         """Whether a value may be a list or a dict."""
         while not isinstance(format, str):
             kind, inner = _only(format)
-            if kind == "OPTION":
+            if kind == "OPTION" and not (self._formats and self._formats.is_plain(inner)):
                 return "dict"
+            if kind == "OPTION":
+                format = inner
+                continue
             if kind != "TYPENAME":
                 return "" if self._format(format) == "bytes" else "list"
             container = self._containers[inner]
@@ -242,12 +264,14 @@ def main(words: list[str]) -> int:
     if words in (["--help"], ["-h"]):
         print(__doc__)
         return 0
+    plain_options = words[:1] == ["--plain-options"]
+    words = words[1:] if plain_options else words
     if len(words) != 1 or words[0].startswith("-"):
-        print("Usage: python -m bcs_proved.types REGISTRY > registry.py", file=sys.stderr)
+        print("Usage: python -m bcs_proved.types [--plain-options] REGISTRY > registry.py", file=sys.stderr)
         return 3
     try:
         text = os.fsencode(words[0]) if words[0].startswith("{") else pathlib.Path(words[0]).read_bytes()
-        print(module_of(text), end="")
+        print(module_of(text, plain_options), end="")
     except OSError as fault:
         print(f"fault: {fault}", file=sys.stderr)
         return 4

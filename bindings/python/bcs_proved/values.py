@@ -378,23 +378,11 @@ class _Struct(_Object):
 
 
 class _Tagged(_Object):
-    """OPTION and enums: None or a name, or an object with one member. The library rejects unknown names."""
+    """An object with one member, whose name says what its value is. The library rejects unknown names."""
 
     def __init__(self, word: str, variants: dict[str, Format]) -> None:
         self._word = word
         self._variants = variants
-        self._is_option = word == "OPTION"
-        takes = 'None or {"some": value}' if self._is_option else "a variant's name or a dict of one variant"
-        self.takes = f"{word} takes {takes}"
-
-    def open(self, value: Any, out: list[str]) -> _Parts:
-        if value is None and self._is_option:
-            out.append("null")
-        elif isinstance(value, str) and not self._is_option:
-            out.append(_text_of(value))
-        else:
-            return self._parts(self._members_of(value), out)
-        return None
 
     def _parts(self, members: dict[str, Any], out: list[str]) -> Iterator[_Part]:
         before = "{"
@@ -403,6 +391,39 @@ class _Tagged(_Object):
             before = ","
             yield name, self._variants.get(name, _UNSUPPORTED), part
         out.append("}" if members else "{}")
+
+
+class _Enum(_Tagged):
+    takes = "ENUM takes a variant's name or a dict of one variant"
+
+    def open(self, value: Any, out: list[str]) -> _Parts:
+        if isinstance(value, str):
+            out.append(_text_of(value))
+            return None
+        return self._parts(self._members_of(value), out)
+
+
+class _Option(_Tagged):
+    """None or {"some": value}; or the value alone, if `is_plain` says that it can't be mistaken for one of these."""
+
+    def __init__(self, inner: Format, is_plain: bool) -> None:
+        super().__init__("OPTION", {"some": inner})
+        self._inner = inner
+        self._is_plain = is_plain
+        self.takes = f'OPTION takes None{", a value" if is_plain else ""} or {{"some": value}}'
+
+    def open(self, value: Any, out: list[str]) -> _Parts:
+        if value is None:
+            out.append("null")
+            return None
+        if not self._is_plain:
+            return self._parts(self._members_of(value), out)
+        if isinstance(value, Mapping):
+            # (it is read once, since reading it may run the caller's code)
+            value = self._members_of(value)
+            if [*value] == ["some"] or not isinstance(self._inner.resolved(), _Object):
+                return self._parts(value, out)
+        return self._parts({"some": value}, out)
 
 
 class _Named(Format):
@@ -422,11 +443,18 @@ class _Named(Format):
         return self._held
 
 
+def _is_like_some(kind: str, inner: Any) -> bool:
+    """Whether the dict of a struct or enum may be {"some": value}."""
+    names = [name for part in (inner if kind == "STRUCT" else inner.values()) for name in part]
+    return names == ["some"] if kind == "STRUCT" else "some" in names
+
+
 _UNSUPPORTED = _Unsupported()
+_UNSUPPORTED_WORDS = ("CHAR", "F32", "F64")
 _WORDS: dict[str, Format] = {
     **{"UNIT": _Unit(), "BOOL": _Bool(), "STR": _Text(), "BYTES": _Bytes()},
     **{word: _Number(word) for word in (f"{sign}{8 << width}" for sign in "UI" for width in range(5))},
-    **{word: _UNSUPPORTED for word in ("CHAR", "F32", "F64")},
+    **{word: _UNSUPPORTED for word in _UNSUPPORTED_WORDS},
 }
 
 
@@ -445,13 +473,33 @@ class Formats:
         if kind == "TYPENAME":
             return self._named.setdefault(inner, _Named(self, inner))
         if kind == "OPTION":
-            return _Tagged(kind, {"some": self.format(inner)})
+            return _Option(self.format(inner), self.is_plain(inner))
         if kind == "TUPLE":
             return self._row(kind, inner)
         if kind == "MAP":
             return _Map(self.format(inner["KEY"]), self.format(inner["VALUE"]))
         element = inner["CONTENT"] if kind == "TUPLEARRAY" else inner
         return _List(kind, self.format(element), element == "U8")
+
+    def is_plain(self, format: Any) -> bool:
+        """Whether an option of this format may be written as None or its value: the value is never None, and never a
+        dict that could also be {"some": value}. The loop follows newtypes of newtypes."""
+        seen = set()
+        while not isinstance(format, str):
+            ((kind, inner),) = format.items()
+            if kind != "TYPENAME":
+                return kind in ("SEQ", "TUPLE", "TUPLEARRAY")
+            if inner in seen:
+                return False
+            seen.add(inner)
+            container = self._containers[inner]
+            if container == "UNITSTRUCT":
+                return False
+            ((kind, inner),) = container.items()
+            if kind != "NEWTYPESTRUCT":
+                return kind == "TUPLESTRUCT" or not _is_like_some(kind, inner)
+            format = inner
+        return format != "UNIT" and format not in _UNSUPPORTED_WORDS
 
     def container(self, name: str) -> Format:
         """What a container holds. The loop follows newtypes of newtypes."""
@@ -477,7 +525,7 @@ class Formats:
         if kind == "STRUCT":
             return _Struct([(name, self.format(format)) for field in inner for name, format in field.items()])
         carried = {name: payload for variant in inner.values() for name, payload in variant.items()}
-        return _Tagged(kind, {name: self._payload(payload) for name, payload in carried.items()})
+        return _Enum(kind, {name: self._payload(payload) for name, payload in carried.items()})
 
     def _payload(self, payload: Any) -> Format:
         if isinstance(payload, str):
@@ -531,8 +579,10 @@ class Native:
     """Walks through a format and the JSON of one of its values, which the library made. It recurses at most 100 levels
     deep, like the JSON; the loop follows newtypes of newtypes."""
 
-    def __init__(self, containers: Mapping[str, Any]) -> None:
+    def __init__(self, containers: Mapping[str, Any], plain_options: Optional[Formats] = None) -> None:
+        """With `plain_options`, an option is None or its value wherever these formats say that this is clear."""
         self._containers = containers
+        self._plain_options = plain_options
 
     def value(self, format: Any, found: Any) -> Any:
         while not isinstance(format, str):
@@ -552,13 +602,16 @@ class Native:
 
     def _part(self, kind: str, inner: Any, found: Any) -> Any:
         if kind == "OPTION":
-            return None if found is None else {"some": self.value(inner, found["some"])}
+            return None if found is None else self._some(inner, self.value(inner, found["some"]))
         if kind == "TUPLE":
             return self._row(inner, found)
         if kind == "MAP":
             return [[self.value(inner["KEY"], key), self.value(inner["VALUE"], held)] for key, held in found]
         element = inner["CONTENT"] if kind == "TUPLEARRAY" else inner
         return bytes.fromhex(found) if isinstance(found, str) else [self.value(element, part) for part in found]
+
+    def _some(self, format: Any, value: Any) -> Any:
+        return value if self._plain_options and self._plain_options.is_plain(format) else {"some": value}
 
     def _content(self, kind: str, inner: Any, found: Any) -> Any:
         if kind == "NEWTYPE":

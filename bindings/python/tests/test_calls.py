@@ -91,7 +91,7 @@ class Done(unittest.TestCase):
 
     def test_registries(self) -> None:
         one = '{"E":{"ENUM":{"0":{"A":"UNIT"}}}}'
-        texts: list[Format] = [one, one.encode(), json.loads(one), {"E": {"ENUM": {0: {"A": "UNIT"}}}}]
+        texts: list[Any] = [one, one.encode(), json.loads(one), {"E": {"ENUM": {0: {"A": "UNIT"}}}}]
         for text in texts:
             self.assertEqual(Registry(text).encode("E", "A"), b"\0")
 
@@ -295,7 +295,7 @@ class Refused(unittest.TestCase):
             with self.assertRaises(TypeError):
                 Registry(word)
         with self.assertRaises(TypeError):
-            self.registry.decode('"BYTES"', "00")  # type: ignore[arg-type]
+            self.registry.decode('"BYTES"', "00")  # type: ignore[call-overload]
 
     def test_paths(self) -> None:
         for path in ["", "01", "inner/", "key:0", "\udc80"]:

@@ -273,7 +273,8 @@ class Nesting(unittest.TestCase):
         link: dict[str, Any] = {}
         link["next"] = {"some": link}
         for format, value in [("T", cyclic), ("T", wide), ("L", link)]:
-            for call in [self.registry.encode, self.registry.normalise]:
+            calls: list[Callable[..., Any]] = [self.registry.encode, self.registry.normalise]
+            for call in calls:
                 with self.assertRaises(TextError) as raised:
                     call(format, value)
                 self.assertEqual((raised.exception.reason, raised.exception.pointer), ("TooNested", ""))
@@ -292,7 +293,8 @@ class Nesting(unittest.TestCase):
         value: list[Any] = []
         for _ in range(60):
             value = [value, value]
-        for call in [self.registry.encode, self.registry.normalise]:
+        calls: list[Callable[..., Any]] = [self.registry.encode, self.registry.normalise]
+        for call in calls:
             with self.assertRaises(TextError) as raised:
                 call("T", value, Limits(nodes=10000))
             self.assertEqual((raised.exception.reason, raised.exception.pointer), ("TooManyNodes", ""))

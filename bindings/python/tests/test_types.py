@@ -13,7 +13,7 @@ import tempfile
 import unittest
 from typing import Any, Callable
 
-from bcs_proved import Registry, RegistryError, TextError
+from bcs_proved import Name, Registry, RegistryError, TextError
 from bcs_proved.types import _Identifiers, module_of
 
 HERE = pathlib.Path(__file__).resolve().parent
@@ -103,10 +103,11 @@ class Values:
         return name if payload == "UNIT" else {name: self._content(payload, deep)}
 
 
-def random_values(name: str, containers: dict[str, Any]) -> list[str]:
+def random_values(name: str, containers: dict[str, Any], plain_options: bool = False) -> list[str]:
     """Lines of Python: what random values of each container are decoded to, with its type."""
     registry, values = Registry(containers), Values(containers)
-    lines = [f"import {name}"]
+    module = f"plain_{name}" if plain_options else name
+    lines = [f"import {module}"]
     for container, own in _Identifiers().of_all(containers).items():
         for _ in range(EACH):
             try:
@@ -116,9 +117,9 @@ def random_values(name: str, containers: dict[str, Any]) -> list[str]:
             except TextError as fault:
                 assert fault.reason == "RepeatedKey", fault
                 continue
-            back = registry.decode({"TYPENAME": container}, data, native=True)
+            back = registry.decode(Name[Any](container), data, native=True, plain_options=plain_options)
             assert registry.encode({"TYPENAME": container}, back) == data
-            lines.append(f"value{len(lines)}: {name}.{own} = {ascii(back)}")
+            lines.append(f"value{len(lines)}: {module}.{own} = {ascii(back)}")
     return lines
 
 
@@ -155,14 +156,17 @@ class Types(unittest.TestCase):
             lines = random_values(name, json.loads(path.read_text(encoding="utf-8")))
             self.assertGreater(len(lines), 30)
             self.write(f"values_of_{name}.py", "\n".join(lines) + "\n")
-            files += [f"{name}.py", f"values_of_{name}.py"]
+            self.write(f"plain_{name}.py", types("--plain-options", str(path)).stdout)
+            lines = random_values(name, json.loads(path.read_text(encoding="utf-8")), plain_options=True)
+            self.write(f"values_of_plain_{name}.py", "\n".join(lines) + "\n")
+            files += [f"{name}.py", f"values_of_{name}.py", f"plain_{name}.py", f"values_of_plain_{name}.py"]
         shutil.copy(HERE / "typed.py", self.folder)
         self.readme()
         options = ["--strict", "--no-error-summary", "--cache-dir", os.devnull]
         mypy = run("mypy", *options, *files, str(HERE.parent / "bcs_proved"), folder=self.folder)
         self.write("report", mypy.stdout + mypy.stderr)
         marked = run(sys.executable, str(ROOT / "tests/marked_errors.py"), "report", *files, folder=self.folder)
-        self.assertEqual((marked.stdout, marked.stderr), ("24 wrong lines are refused, and no others\n", ""))
+        self.assertEqual((marked.stdout, marked.stderr), ("32 wrong lines are refused, and no others\n", ""))
         ran = run(sys.executable, "typed.py", str(ROOT), folder=self.folder)
         self.assertEqual((ran.returncode, ran.stderr), (0, ""))
 
@@ -176,7 +180,7 @@ class Types(unittest.TestCase):
         self.assertEqual((ran.stdout, ran.stderr), ("8\n", ""))
 
     def test_the_command(self) -> None:
-        usage = "Usage: python -m bcs_proved.types REGISTRY > registry.py\n"
+        usage = "Usage: python -m bcs_proved.types [--plain-options] REGISTRY > registry.py\n"
         unknown = '{"A":{"NEWTYPESTRUCT":{"TYPENAME":"B"}}}'
         cases: list[tuple[int, str, list[str]]] = [
             (2, "no registry: UnknownName at A: no container is called B\n", [unknown]),
@@ -184,6 +188,8 @@ class Types(unittest.TestCase):
             (3, usage, []),
             (3, usage, ["a.json", "b.json"]),
             (3, usage, ["--other"]),
+            (3, usage, ["--plain-options"]),
+            (3, usage, ["a.json", "--plain-options"]),
             (4, "fault: [Errno 2] No such file or directory: '/none.json'\n", ["/none.json"]),
         ]
         for status, text, words in cases:

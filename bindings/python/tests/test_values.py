@@ -26,6 +26,7 @@ REGISTRY = Registry(
         "Pair": {"TUPLESTRUCT": ["U8", "BYTES"]},
         "Point": {"STRUCT": [{"x": "U8"}, {"y": "BOOL"}]},
         "Empty": {"STRUCT": []},
+        "Some": {"STRUCT": [{"some": "U8"}]},
         "Shape": {
             "ENUM": {
                 "0": {"Dot": "UNIT"},
@@ -39,6 +40,8 @@ REGISTRY = Registry(
 WIDTHS = {f"{sign}{width}": (width // 8, sign == "I") for sign in "UI" for width in (8, 16, 32, 64, 128)}
 UNSUPPORTED = ["CHAR", "F32", "F64"]
 DICT, SOME = "STRUCT takes a dict", 'OPTION takes None or {"some": value}'
+# Options that may also be written as None or their value: the column of the value.
+PLAIN_OPTIONS = {"OPTION": "U8", "OPTION Point": "Point", "OPTION Shape": "Shape"}
 VARIANT = "ENUM takes a variant's name or a dict of one variant"
 # A column's format, and what is said where a value isn't accepted there.
 COLUMNS: dict[str, tuple[Any, str]] = {
@@ -48,7 +51,13 @@ COLUMNS: dict[str, tuple[Any, str]] = {
     "BOOL": ('"BOOL"', "BOOL takes a bool"),
     "STR": ('"STR"', "STR takes a str"),
     "BYTES": ('"BYTES"', "BYTES takes bytes or hexadecimal digits"),
-    "OPTION": ({"OPTION": "U8"}, SOME),
+    "OPTION": ({"OPTION": "U8"}, ""),
+    "OPTION Point": ({"OPTION": {"TYPENAME": "Point"}}, ""),
+    "OPTION Shape": ({"OPTION": {"TYPENAME": "Shape"}}, ""),
+    "OPTION OPTION": ({"OPTION": {"OPTION": "U8"}}, SOME),
+    "OPTION UNIT": ({"OPTION": {"TYPENAME": "Unit"}}, SOME),
+    "OPTION MAP": ({"OPTION": {"MAP": {"KEY": "STR", "VALUE": "U8"}}}, SOME),
+    "OPTION Some": ({"OPTION": {"TYPENAME": "Some"}}, SOME),
     "SEQ U8": ({"SEQ": "U8"}, "SEQ of U8 takes bytes, hexadecimal digits or a list of int"),
     "ARRAY U8": (
         {"TUPLEARRAY": {"CONTENT": "U8", "SIZE": 2}},
@@ -181,7 +190,7 @@ def members(*names: str) -> Cells:
     """A dict with members of these names, which no format has."""
     is_one = len(names) == 1
     return {
-        "OPTION": Refusal("BadShape"),
+        **{column: Refusal("BadShape") for column in EXACT_OPTIONS},
         "Point": Refusal("MissingField"),
         "Empty": Refusal("UnknownField"),
         "Shape": Refusal("UnknownVariant" if is_one else "BadShape"),
@@ -192,11 +201,23 @@ def in_maps(cell: Cell) -> Cells:
     return {"MAP": cell, "MAP U8": cell}
 
 
+# Options of what isn't a dict: a dict is always the option itself.
+EXACT_OPTIONS = ["OPTION", "OPTION OPTION", "OPTION UNIT", "OPTION MAP", "OPTION Some"]
+
+
+def some_of(found: str) -> Cells:
+    """What {"some": value} is, where the value's type isn't accepted."""
+    takes = {"OPTION Point": DICT, "OPTION Some": DICT, "OPTION Shape": VARIANT, "OPTION UNIT": "UNIT takes None"}
+    takes |= {"OPTION": "U8 takes an int", "OPTION MAP": "MAP takes a dict or a list of pairs"}
+    return {column: Wrong("/some", f"{words}, not {found}") for column, words in takes.items()}
+
+
 def no_names(found: str) -> Cells:
     """A dict with a key of another type, and an int."""
     cells: Cells = {column: Wrong("", f"STRUCT takes names that are str, not {found}") for column in ["Point", "Empty"]}
     cells |= {"Shape": Wrong("", f"ENUM takes names that are str, not {found}")}
-    cells |= {"OPTION": Wrong("", f"OPTION takes names that are str, not {found}")}
+    options = [*EXACT_OPTIONS, *PLAIN_OPTIONS]
+    cells |= {column: Wrong("", f"OPTION takes names that are str, not {found}") for column in options}
     return {
         **cells,
         "MAP": Wrong("/0/0", f"STR takes a str, not {found}"),
@@ -281,11 +302,8 @@ EMPTY_LIST: Cells = {
     **{column: "00" for column in [*ELEMENTS, *ROW_ELEMENTS]},
     **{column: Refusal("BadShape") for column in ["ARRAY I16", "ARRAY U8", "TUPLE", "Pair"]},
 }
-POINT: Cells = {
-    **members("x", "y"),
-    "Point": "0101",
-    **in_maps(Wrong("/1/1", "U8 takes an int, not bool")),
-}
+POINT: Cells = {**members("x", "y"), "Point": "0101", **in_maps(Wrong("/1/1", "U8 takes an int, not bool"))}
+NO_OPTION: Cells = {column: "00" for column in COLUMNS if column.startswith("OPTION")}
 # A name at a map with numbers as keys.
 NAMED = Refusal("BadNumber", "/0/0")
 NUMPY_INTS = ["u1", "u2", "u4", "u8", "i1", "i2", "i4", "i8", "longlong", "ulonglong"]
@@ -329,7 +347,7 @@ SCALARS: dict[str, Value] = {
     "Decimal": Value(decimal.Decimal(5), "decimal.Decimal", {}),
     "Fraction": Value(fractions.Fraction(5), "fractions.Fraction", {}),
     "Enum": Value(Plain.RED, f"{HERE}.Plain", {}),
-    "None": Value(None, "NoneType", {"UNIT": "", "Unit": "", "OPTION": "00"}),
+    "None": Value(None, "NoneType", {"UNIT": "", "Unit": "", **NO_OPTION}),
     "dataclass": Value(Data(), f"{HERE}.Data", {}),
     "datetime": Value(datetime.datetime(2020, 1, 1), "datetime.datetime", {}),
     "object": Value(object(), "object", {}),
@@ -433,9 +451,7 @@ NUMPY: dict[str, Value] = {
     ),
     "numpy masked array, u1": Value(masked([1, 2], "u1"), "numpy.ma.core.MaskedArray", {}),
     "numpy masked array of no dimension": Value(
-        numpy.ma.array(5, mask=True, dtype="u1"),  # type: ignore[no-untyped-call]
-        "numpy.ma.core.MaskedArray",
-        {},
+        numpy.ma.array(5, mask=True, dtype="u1"), "numpy.ma.core.MaskedArray", {}  # type: ignore[no-untyped-call]
     ),
     "numpy masked array, u8": Value(
         masked([1, 2], "u8"), "numpy.ma.core.MaskedArray", rejected_array("numpy.ma.core.MaskedConstant")
@@ -512,15 +528,44 @@ DICTS: dict[str, Value] = {
         },
     ),
     "an option": Value(
-        {"some": 5}, "dict", {**members("some"), **in_maps(NAMED), "OPTION": "0105", "MAP": "0104736f6d6505"}
+        {"some": 5},
+        "dict",
+        {
+            **members("some"),
+            **some_of("int"),
+            **in_maps(NAMED),
+            **{"OPTION": "0105", "OPTION OPTION": "010105", "MAP": "0104736f6d6505"},
+        },
     ),
     "an option of None": Value(
         {"some": None},
         "dict",
         {
             **members("some"),
+            **some_of("NoneType"),
             **in_maps(Wrong("/0/1", "U8 takes an int, not NoneType")),
-            "OPTION": Wrong("/some", "U8 takes an int, not NoneType"),
+            **{"OPTION OPTION": "0100", "OPTION UNIT": "01"},
+        },
+    ),
+    "an option of a dict": Value(
+        {"some": {"some": 5}},
+        "dict",
+        {
+            **members("some"),
+            **some_of("dict"),
+            **in_maps(Wrong("/0/1", "U8 takes an int, not dict")),
+            **{"OPTION OPTION": "010105", "OPTION Some": "0105", "OPTION MAP": "010104736f6d6505"},
+            **{"OPTION Point": Refusal("MissingField", "/some"), "OPTION Shape": Refusal("UnknownVariant", "/some")},
+        },
+    ),
+    "some and another": Value(
+        {"some": 5, "x": 1},
+        "dict",
+        {
+            **members("some", "x"),
+            **{column: cell for column, cell in some_of("int").items() if column in EXACT_OPTIONS},
+            **in_maps(NAMED),
+            **{"OPTION": Refusal("BadShape"), "MAP": "0201780104736f6d6505"},
         },
     ),
     "a circle": Value(
@@ -566,11 +611,21 @@ DICTS: dict[str, Value] = {
 ROWS = {**SCALARS, **STRINGS, **BUFFERS, **NUMPY, **LISTS, **DICTS}
 
 
+def some(cell: Cell) -> Cell:
+    """An option of the value of a cell."""
+    if isinstance(cell, str):
+        return f"01{cell}"
+    is_json = cell != Refusal("NotJson")
+    return cell._replace(pointer=f"/some{cell.pointer}") if is_json else cell
+
+
 class Table(unittest.TestCase):
     def cell(self, column: str, row: Value) -> Cell:
         takes = COLUMNS[column][1]
         if takes in ("Unsupported", "TooDeep"):
             return Refusal(takes)
+        if column in PLAIN_OPTIONS and column not in row.cells:
+            return some(self.cell(PLAIN_OPTIONS[column], row))
         return row.cells.get(column, Wrong("", f"{takes}, not {row.found}"))
 
     def test_all(self) -> None:

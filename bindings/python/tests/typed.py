@@ -6,6 +6,7 @@ import sys
 from typing import Any, Union
 
 import aptos
+import plain_shapes
 import shapes
 import sui
 from bcs_proved import Registry
@@ -76,6 +77,31 @@ def right() -> None:
     chain: shapes.Chain = {"value": 1, "next": {"some": {"value": 2, "next": None}}}
     tree: shapes.Tree = [[], [[]]]
     assert SHAPES.encode("Chain", chain) == b"\1\1\2\0" and SHAPES.encode("Tree", tree) == b"\2\0\1\0"
+    named(bytes_of("aptos_transfer.hex"))
+
+
+def named(data: bytes) -> None:
+    """The names as formats have the types of the values."""
+    back = APTOS.decode(aptos.RAW_TRANSACTION, data, native=True)
+    assert back["sequence_number"] + 1 == 12 and APTOS.encode(aptos.RAW_TRANSACTION, back) == data
+    front, length = APTOS.decode_prefix(aptos.RAW_TRANSACTION, data + b"more", native=True)
+    assert front["chain_id"] == 4 and length == len(data)
+    plain = SHAPES.decode(plain_shapes.CHAIN, b"\1\1\2\0", plain_options=True)
+    assert plain["next"] == {"value": 2, "next": None} and SHAPES.encode(plain_shapes.CHAIN, plain) == b"\1\1\2\0"
+    prices: plain_shapes.Prices = [["a", 7], ["b", None]]
+    assert SHAPES.decode(plain_shapes.PRICES, SHAPES.encode(plain_shapes.PRICES, prices), plain_options=True) == prices
+
+
+def wrong_names(data: bytes, chain: plain_shapes.Chain) -> None:
+    APTOS.encode(aptos.RAW_TRANSACTION, {"sender": one})  # error: Cannot infer type argument 1 of "encode"
+    APTOS.encode(aptos.RAW_TRANSACTION, 7)  # error: Cannot infer type argument 1 of "encode"
+    SHAPES.encode(shapes.CHAIN, chain)  # error: Cannot infer type argument 1 of "encode"
+    one_field: str = APTOS.decode(aptos.RAW_TRANSACTION, data, native=True)["chain_id"]  # error: Incompatible types
+    APTOS.decode(aptos.RAW_TRANSACTION, data, native=True)["fee"]  # error: has no key "fee"
+    APTOS.decode_prefix(aptos.RAW_TRANSACTION, data, native=True)[0]["fee"]  # error: has no key "fee"
+    SHAPES.decode(plain_shapes.CHAIN, data, plain_options=True)["fee"]  # error: has no key "fee"
+    some: plain_shapes.Prices = [["a", {"some": 7}]]  # error: List item 1 has incompatible type
+    print(one_field, some)
 
 
 def wrong(script: aptos.Script, back: aptos.RawTransaction, prices: shapes.Prices) -> None:

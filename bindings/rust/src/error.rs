@@ -1,4 +1,4 @@
-use crate::faults::{GrowthFault, Reason, RegistryFault, Stop, TextFault};
+use crate::faults::{ExampleFault, GrowthFault, Reason, RegistryFault, Stop, TextFault};
 use crate::sys::{self, Answer};
 use std::fmt;
 
@@ -51,6 +51,8 @@ pub enum ErrorKind {
     TooNested,
     /// The path isn't one.
     Path,
+    /// The format has no such example.
+    Example(ExampleFault),
     /// Memory ran out, or the thread has too little stack left for a value that nests so deep.
     Memory,
     /// A value of a `serde` type isn't of the format, or a value of the format isn't one of the type: with the feature
@@ -75,8 +77,8 @@ impl Error {
     }
 
     /// Where it is refused: of a text a JSON Pointer (RFC 6901), as `/payload/args/1`, which is empty where the text is
-    /// refused as a whole; of bytes the way to where they stop by names, as `.payload.args[1]`; of a registry its place as
-    /// the program `bcs` prints it; of a `serde` type a JSON Pointer into the JSON of the value. Everything else has none.
+    /// refused as a whole; of bytes the way to where they stop by names, as `.payload.args[1]`; of a format a JSON Pointer;
+    /// of a registry, growth or a path its place as the program `bcs` prints it; of a `serde` type a JSON Pointer into the JSON of the value. Everything else has none.
     pub fn pointer(&self) -> Option<&str> {
         self.told.as_deref().map(|told| told.pointer.as_str())
     }
@@ -91,13 +93,9 @@ impl Error {
         ErrorKind::of(answer).into()
     }
 
-    /// The same with where it is, and what was wanted there, which the call tells by these numbers.
-    pub(crate) fn told_by(mut self, call: impl Fn(u32) -> Option<String>) -> Error {
-        let has_place = matches!(self.kind, ErrorKind::Registry(_) | ErrorKind::Text(_) | ErrorKind::Bytes(_));
-        if let Some(pointer) = has_place.then(|| call(sys::WHERE)).flatten() {
-            let expected = call(sys::WANTED).unwrap_or_default();
-            self.told = Some(Box::new(Told { pointer, expected }));
-        }
+    /// The same with where it is, and what was expected there, if that is reported.
+    pub(crate) fn told(mut self, told: Option<(String, String)>) -> Error {
+        self.told = told.map(|(pointer, expected)| Box::new(Told { pointer, expected }));
         self
     }
 }
@@ -112,6 +110,7 @@ impl ErrorKind {
             ErrorKind::Bytes(stop) => Some(stop.reason.name()),
             ErrorKind::TooNested => Some("TooNested"),
             ErrorKind::Path => Some("BadPath"),
+            ErrorKind::Example(fault) => Some(fault.name()),
             ErrorKind::Limits | ErrorKind::Memory | ErrorKind::Type => None,
         }
     }
@@ -134,6 +133,7 @@ impl ErrorKind {
             ErrorKind::Text(_) => "the text is refused",
             ErrorKind::Bytes(_) | ErrorKind::TooNested => "the bytes are refused",
             ErrorKind::Path => "the path is refused",
+            ErrorKind::Example(_) => "there is no example",
             ErrorKind::Memory => "memory ran out",
             ErrorKind::Type => "the type doesn't fit",
         }
@@ -162,6 +162,7 @@ fn refusal(answer: Answer) -> Option<ErrorKind> {
         .map(ErrorKind::Bytes)
         .or_else(|| TextFault::of(answer.fault).map(ErrorKind::Text))
         .or_else(|| GrowthFault::of(answer.fault).map(ErrorKind::Growth))
+        .or_else(|| ExampleFault::of(answer.fault).map(ErrorKind::Example))
 }
 
 /// Where bytes stop being a value, if the answer says that they do.
@@ -176,6 +177,7 @@ impl fmt::Display for ErrorKind {
             ErrorKind::Registry(fault) | ErrorKind::Format(fault) => write!(f, "{what}: {fault}"),
             ErrorKind::Limits => write!(f, "{what}: their depth is above 500"),
             ErrorKind::Growth(fault) => write!(f, "{what}: {fault}"),
+            ErrorKind::Example(fault) => write!(f, "{what}: {fault}"),
             ErrorKind::Text(fault) => write!(f, "{what}: {fault}"),
             ErrorKind::Bytes(stop) => write!(f, "{what}: {stop}"),
             ErrorKind::TooNested => write!(f, "{what}: TooNested: their text would nest more than 100 deep"),
@@ -199,11 +201,13 @@ impl fmt::Display for Error {
             let colon = if told.pointer.is_empty() { "" } else { ": " };
             return write!(f, "{}: {}{colon}{}", self.kind.what(), told.pointer, told.expected);
         };
-        let pointer = if told.pointer.is_empty() { "the whole text" } else { &told.pointer };
-        write!(f, "{}: {name} at ", self.kind.what())?;
+        let is_text = matches!(self.kind, ErrorKind::Text(_) | ErrorKind::Registry(_));
+        let pointer = if told.pointer.is_empty() && is_text { "the whole text" } else { &told.pointer };
+        write!(f, "{}: {name}", self.kind.what())?;
         match self.place() {
-            Some(place) => write!(f, "{place}, {pointer}")?,
-            None => f.write_str(pointer)?,
+            Some(place) => write!(f, " at {place}, {pointer}")?,
+            None if pointer.is_empty() => (),
+            None => write!(f, " at {pointer}")?,
         }
         match self.expected() {
             Some(words) => write!(f, ": {words}"),

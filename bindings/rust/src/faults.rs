@@ -101,6 +101,16 @@ faults! {
     }
 }
 
+faults! {
+    /// Why a format has no example.
+    ExampleFault {
+        UnknownVariant = 701: "the format's enum has no variant of that name, or it isn't an enum",
+        NoValue = 702: "no value has the format",
+        TooManyNodes = 703: "each value has more nodes than the limits allow",
+        TooNested = 704: "each value nests too deep",
+    }
+}
+
 /// Where bytes stop being a value, and why.
 #[derive(Clone, Copy, Debug, PartialEq, Eq, Hash)]
 pub struct Stop {

@@ -40,10 +40,10 @@ mod values;
 
 pub use error::{Error, ErrorKind};
 pub use explanation::{Explanation, Form, Piece, Pieces};
-pub use faults::{GrowthFault, Reason, RegistryFault, Stop, TextFault};
+pub use faults::{ExampleFault, GrowthFault, Reason, RegistryFault, Stop, TextFault};
 pub use format::Format;
 pub use limits::Limits;
-pub use registry::{Part, Registry};
+pub use registry::{Example, Part, Registry};
 
 /// The examples of the README are tested with those of the crate. One of them needs the feature.
 #[cfg(all(doctest, feature = "serde_json"))]

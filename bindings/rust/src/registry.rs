@@ -41,7 +41,10 @@ impl Registry {
     /// ```
     pub fn read(text: impl AsRef<[u8]>) -> Result<Registry, Error> {
         let text = text.as_ref();
-        let refused = |answer| Error::of(answer).told_by(|what| told(|out| sys::registry_place(what, text, out)));
+        let refused = |answer| {
+            let told = |what| told(|out| sys::registry_place(what, text, out));
+            Error::of(answer).told(told(sys::WHERE).map(|pointer| (pointer, told(sys::WANTED).unwrap_or_default())))
+        };
         let open = Open::read(text).map_err(refused)?;
         Ok(Registry {
             open: Arc::new(open),
@@ -98,7 +101,7 @@ impl Registry {
     /// ```
     pub fn check(&self, format: impl Into<Format>) -> Result<(), Error> {
         let format = format.into();
-        done(self.open.check(self.of_text(&format))).map(drop)
+        done(self.open.check(self.of_text(&format))).map(drop).map_err(|error| self.in_format(error, &format))
     }
 
     /// Says whether a newer registry keeps all that this one has, so that every old value stays one. Enums may have more
@@ -114,7 +117,81 @@ impl Registry {
     /// # Ok::<(), Error>(())
     /// ```
     pub fn grows(&self, newer: &Registry) -> Result<(), Error> {
-        done(self.open.grows(&newer.open)).map(drop)
+        let grown = done(self.open.grows(&newer.open)).map(drop);
+        grown.map_err(|error| in_line(error, "", |out| self.open.growth_place(&newer.open, out)))
+    }
+
+    /// All differences from this registry to a newer one, a line for each, as `bcs grows --list` prints them.
+    ///
+    /// ```
+    /// use bcs_proved::Registry;
+    ///
+    /// let newer = Registry::read(r#"{"Id":"UNITSTRUCT"}"#)?;
+    /// assert_eq!(Registry::read("{}")?.differences(&newer)?, ["Id: container added"]);
+    /// # Ok::<(), bcs_proved::Error>(())
+    /// ```
+    pub fn differences(&self, newer: &Registry) -> Result<Vec<String>, Error> {
+        let (text, _) = fill(1024, |out| self.open.growth_list(&newer.open, out))?;
+        Ok(into_text(text).lines().map(String::from).collect())
+    }
+
+    /// A JSON Schema of the JSON of the format's values.
+    ///
+    /// ```
+    /// let registry = bcs_proved::Registry::read("{}")?;
+    /// assert!(registry.schema(r#""BOOL""#)?.contains("\"boolean\""));
+    /// # Ok::<(), bcs_proved::Error>(())
+    /// ```
+    pub fn schema(&self, format: impl Into<Format>) -> Result<String, Error> {
+        let format = format.into();
+        let made = fill(4096, |out| self.open.schema(self.of_text(&format), out));
+        Ok(into_text(made.map_err(|error| self.in_format(error, &format))?.0))
+    }
+
+    /// The JSON text of a value of the format, to start from, as `bcs example` prints it.
+    ///
+    /// ```
+    /// use bcs_proved::{Example, Registry};
+    ///
+    /// let registry = Registry::read("{}")?;
+    /// assert_eq!(registry.example(r#"{"SEQ":"BOOL"}"#, Example::default())?, "[]");
+    /// assert_eq!(registry.example(r#"{"SEQ":"BOOL"}"#, Example { full: true, ..Example::default() })?, "[false]");
+    /// # Ok::<(), bcs_proved::Error>(())
+    /// ```
+    pub fn example(&self, format: impl Into<Format>, example: Example) -> Result<String, Error> {
+        let format = format.into();
+        let form = if example.full { sys::FULL } else { sys::LEAST };
+        let made = fill(1024, |out| self.open.example(self.of_text(&format), form, example.variant.as_bytes(), out));
+        Ok(into_text(made.map_err(|error| self.in_format(error, &format))?.0))
+    }
+
+    /// The registry in readable form, as `bcs show` prints it; or only the container of this name with what it depends on.
+    ///
+    /// ```
+    /// let registry = bcs_proved::Registry::read(r#"{"Id":{"NEWTYPESTRUCT":"U64"}}"#)?;
+    /// assert!(registry.show(None)?.starts_with("Id: NEWTYPESTRUCT, 8 bytes"));
+    /// # Ok::<(), bcs_proved::Error>(())
+    /// ```
+    pub fn show(&self, name: Option<&str>) -> Result<String, Error> {
+        self.shown(sys::WAYS, name.unwrap_or_default())
+    }
+
+    /// The same as compact JSON, which two registries share exactly if they are the same.
+    ///
+    /// ```
+    /// let registry = bcs_proved::Registry::read(r#"{ "Id": "UNITSTRUCT" }"#)?;
+    /// assert_eq!(registry.show_json(None)?.trim_end(), r#"{"Id":"UNITSTRUCT"}"#);
+    /// # Ok::<(), bcs_proved::Error>(())
+    /// ```
+    pub fn show_json(&self, name: Option<&str>) -> Result<String, Error> {
+        self.shown(sys::JSON, name.unwrap_or_default())
+    }
+
+    fn shown(&self, form: u32, name: &str) -> Result<String, Error> {
+        let shown = fill(4096, |out| self.open.show(form, name.as_bytes(), out));
+        let told = || Some((String::new(), format!("no container is called {name}")));
+        let refused = |error: Error| if error.name().is_some() { error.told(told()) } else { error };
+        Ok(into_text(shown.map_err(refused)?.0))
     }
 
     /// The bytes of the value that a JSON text denotes.
@@ -150,6 +227,22 @@ impl Registry {
         let room = bytes.len().saturating_mul(4).saturating_add(256);
         let decoded = fill(room, |out| self.open.decode(self.of_bytes(&format, bytes), bytes, out));
         Ok(into_text(decoded.map_err(|error| self.in_bytes(error, &format, bytes))?.0))
+    }
+
+    /// The normal JSON text of the value at the beginning of the bytes, and how many bytes it has. What follows isn't read.
+    ///
+    /// ```
+    /// let registry = bcs_proved::Registry::read("{}")?;
+    /// assert_eq!(registry.decode_prefix(r#""U16""#, [1, 2, 3])?, ("513".to_owned(), 2));
+    /// # Ok::<(), bcs_proved::Error>(())
+    /// ```
+    pub fn decode_prefix(&self, format: impl Into<Format>, bytes: impl AsRef<[u8]>) -> Result<(String, usize), Error> {
+        let (format, bytes) = (format.into(), bytes.as_ref());
+        let length = self.scan(&format, bytes)?;
+        // (the default limit depends on all bytes, so both steps get the same one)
+        let nodes = Some(self.limits.nodes_of_bytes(bytes.len()));
+        let limited = self.with_limits(Limits { nodes, ..self.limits });
+        Ok((limited.decode(&format, &bytes[..length])?, length))
     }
 
     /// The one normal JSON text of the value that a JSON text denotes.
@@ -233,8 +326,11 @@ impl Registry {
         path: impl AsRef<[u8]>,
     ) -> Result<Option<Part<'b>>, Error> {
         let (format, bytes) = (format.into(), bytes.as_ref());
-        let answer = self.open.part(self.of_bytes(&format, bytes), bytes, path.as_ref());
-        let found = done_unless_no(answer).map_err(|error| self.in_bytes(error, &format, bytes));
+        let (path, question) = (path.as_ref(), self.of_bytes(&format, bytes));
+        let found = done_unless_no(self.open.part(question, bytes, path)).map_err(|error| match error.kind() {
+            ErrorKind::Path => in_line(error, "PATH", |out| sys::path_place(path, out)),
+            _ => self.in_bytes(error, &format, bytes),
+        });
         Ok(found?.map(|answer| {
             let place = sys::to_place(answer.place);
             Part { place, bytes: &bytes[place..place + answer.length] }
@@ -279,7 +375,8 @@ impl Registry {
         // A line of some 110 signs may tell a single byte, and mostly tells more.
         let room = bytes.len().saturating_mul(24).saturating_add(1024);
         let question = self.of_bytes(&format, bytes);
-        let (text, answer) = fill(room, |out| self.open.explain(question, form.number(), bytes, out))?;
+        let explained = fill(room, |out| self.open.explain(question, form.number(), bytes, out));
+        let (text, answer) = explained.map_err(|error| self.in_format(error, &format))?;
         Ok(Explanation { text: into_text(text), stop: stop(answer) })
     }
 
@@ -290,12 +387,29 @@ impl Registry {
 
     /// The error of a text, with where it is rejected.
     fn in_text(&self, error: Error, format: &Format, text: &[u8]) -> Error {
-        error.told_by(|what| told(|out| self.open.text_place(self.of_text(format), what, text, out)))
+        match error.kind() {
+            ErrorKind::Text(_) => error.told(refusal(|out| self.open.text_refusal(self.of_text(format), text, out))),
+            _ => self.in_format(error, format),
+        }
     }
 
     /// The error of bytes, with the way to where they stop.
     fn in_bytes(&self, error: Error, format: &Format, bytes: &[u8]) -> Error {
-        error.told_by(|what| told(|out| self.open.stop_place(self.of_bytes(format, bytes), what, bytes, out)))
+        match error.kind() {
+            ErrorKind::Bytes(_) => {
+                let question = self.of_bytes(format, bytes);
+                error.told(refusal(|out| self.open.stop_refusal(question, bytes, out)))
+            }
+            _ => self.in_format(error, format),
+        }
+    }
+
+    /// The error of a format, with where it is rejected. Any other stays as it is.
+    fn in_format(&self, error: Error, format: &Format) -> Error {
+        match error.kind() {
+            ErrorKind::Format(_) => in_line(error, "FORMAT", |out| self.open.format_place(format.as_json(), out)),
+            _ => error,
+        }
     }
 
     /// The parameters of a call that reads JSON.
@@ -315,6 +429,15 @@ impl fmt::Debug for Registry {
     fn fmt(&self, f: &mut fmt::Formatter<'_>) -> fmt::Result {
         f.debug_struct("Registry").field("limits", &self.limits).finish_non_exhaustive()
     }
+}
+
+/// Which example [`Registry::example`] makes.
+#[derive(Clone, Copy, Debug, Default, PartialEq, Eq)]
+pub struct Example<'a> {
+    /// Selects this variant of the enum that the format names. An empty name selects none.
+    pub variant: &'a str,
+    /// Gives each option, list and map an element.
+    pub full: bool,
 }
 
 /// A part of a value's bytes.
@@ -367,6 +490,28 @@ fn put(room: usize, call: impl Fn(&mut [u8]) -> Answer) -> Result<(Vec<u8>, Answ
 fn told(call: impl Fn(&mut [u8]) -> Answer) -> Option<String> {
     let (text, answer) = put(200, call).ok()?;
     (answer.status == sys::DONE).then(|| into_text(text))
+}
+
+/// Where an input is refused, and what was expected there. A pointer may contain the byte between them, and the words don't.
+fn refusal(call: impl Fn(&mut [u8]) -> Answer) -> Option<(String, String)> {
+    let text = told(call)?;
+    text.rsplit_once('\0').map(|(pointer, expected)| (pointer.to_owned(), expected.to_owned()))
+}
+
+/// The error with what a call reports in a line of the program, such as `at FORMAT, /SEQ: BadShape: wanted a format`.
+fn in_line(error: Error, prefix: &str, call: impl Fn(&mut [u8]) -> Answer) -> Error {
+    let parts = told(call).and_then(|line| parts_of_line(&line, prefix, error.name()?));
+    error.told(parts)
+}
+
+/// The parts of such a line. Names in it may contain anything.
+fn parts_of_line(line: &str, prefix: &str, reason: &str) -> Option<(String, String)> {
+    let (line, middle) = (line.strip_prefix("at ").unwrap_or(line), format!(": {reason}"));
+    // (only the words of UnknownName have a name in them, and only the place of the others)
+    let split = if reason == "UnknownName" { line.split_once(&middle) } else { line.rsplit_once(&middle) };
+    let (place, words) = split?;
+    let pointer = place.strip_prefix(prefix).map_or(place, |rest| rest.strip_prefix(", ").unwrap_or(rest));
+    Some((pointer.to_owned(), words.strip_prefix(": ").unwrap_or(words).to_owned()))
 }
 
 fn into_text(text: Vec<u8>) -> String {

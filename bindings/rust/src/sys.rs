@@ -25,6 +25,10 @@ pub(crate) const JSON: u32 = 3;
 pub(crate) const WHERE: u32 = 0;
 pub(crate) const WANTED: u32 = 1;
 
+// What an example has in options, lists and maps: `enum bcs_example`.
+pub(crate) const LEAST: u32 = 0;
+pub(crate) const FULL: u32 = 1;
+
 /// The one fault of `enum bcs_fault` that belongs to no enum of `faults`, beside that of a path, which its status tells.
 pub(crate) const SHOWN_TOO_NESTED: u32 = 501;
 
@@ -126,27 +130,78 @@ unsafe extern "C" {
         out: *mut u8,
         out_length: usize,
     ) -> Answer;
-    fn bcs_handle_text_place(
+    fn bcs_handle_text_refusal(
         handle: *mut Handle,
         format: *const u8,
         format_length: usize,
         depth: u32,
         nodes: u32,
-        what: u32,
         text: *const u8,
         text_length: usize,
         out: *mut u8,
         out_length: usize,
     ) -> Answer;
-    fn bcs_handle_stop_place(
+    fn bcs_handle_stop_refusal(
         handle: *mut Handle,
         format: *const u8,
         format_length: usize,
         depth: u32,
         nodes: u32,
-        what: u32,
         bytes: *const u8,
         bytes_length: usize,
+        out: *mut u8,
+        out_length: usize,
+    ) -> Answer;
+    fn bcs_handle_schema(
+        handle: *mut Handle,
+        format: *const u8,
+        format_length: usize,
+        depth: u32,
+        nodes: u32,
+        out: *mut u8,
+        out_length: usize,
+    ) -> Answer;
+    fn bcs_handle_example(
+        handle: *mut Handle,
+        format: *const u8,
+        format_length: usize,
+        depth: u32,
+        nodes: u32,
+        form: u32,
+        variant: *const u8,
+        variant_length: usize,
+        out: *mut u8,
+        out_length: usize,
+    ) -> Answer;
+    fn bcs_handle_show(
+        handle: *mut Handle,
+        form: u32,
+        name: *const u8,
+        name_length: usize,
+        out: *mut u8,
+        out_length: usize,
+    ) -> Answer;
+    fn bcs_handle_format_place(
+        handle: *mut Handle,
+        format: *const u8,
+        format_length: usize,
+        out: *mut u8,
+        out_length: usize,
+    ) -> Answer;
+    fn bcs_path_place(path: *const u8, path_length: usize, out: *mut u8, out_length: usize) -> Answer;
+    fn bcs_growth_list(
+        older: *const u8,
+        older_length: usize,
+        newer: *const u8,
+        newer_length: usize,
+        out: *mut u8,
+        out_length: usize,
+    ) -> Answer;
+    fn bcs_growth_place(
+        older: *const u8,
+        older_length: usize,
+        newer: *const u8,
+        newer_length: usize,
         out: *mut u8,
         out_length: usize,
     ) -> Answer;
@@ -267,17 +322,54 @@ impl Open {
         }
     }
 
-    pub(crate) fn text_place(&self, question: Question, what: u32, text: &[u8], out: &mut [u8]) -> Answer {
+    pub(crate) fn text_refusal(&self, question: Question, text: &[u8], out: &mut [u8]) -> Answer {
+        // SAFETY: the handle is open, and the slices are borrowed for the call, `out` for writing.
+        unsafe { ask!(bcs_handle_text_refusal(self, question, text.as_ptr(), text.len(), out.as_mut_ptr(), out.len())) }
+    }
+
+    pub(crate) fn stop_refusal(&self, question: Question, bytes: &[u8], out: &mut [u8]) -> Answer {
         // SAFETY: the handle is open, and the slices are borrowed for the call, `out` for writing.
         unsafe {
-            ask!(bcs_handle_text_place(self, question, what, text.as_ptr(), text.len(), out.as_mut_ptr(), out.len()))
+            ask!(bcs_handle_stop_refusal(self, question, bytes.as_ptr(), bytes.len(), out.as_mut_ptr(), out.len()))
         }
     }
 
-    pub(crate) fn stop_place(&self, question: Question, what: u32, bytes: &[u8], out: &mut [u8]) -> Answer {
+    pub(crate) fn schema(&self, question: Question, out: &mut [u8]) -> Answer {
         // SAFETY: the handle is open, and the slices are borrowed for the call, `out` for writing.
+        unsafe { ask!(bcs_handle_schema(self, question, out.as_mut_ptr(), out.len())) }
+    }
+
+    pub(crate) fn example(&self, question: Question, form: u32, variant: &[u8], out: &mut [u8]) -> Answer {
+        let (name, length) = (variant.as_ptr(), variant.len());
+        // SAFETY: the handle is open, and the slices are borrowed for the call, `out` for writing.
+        unsafe { ask!(bcs_handle_example(self, question, form, name, length, out.as_mut_ptr(), out.len())) }
+    }
+
+    pub(crate) fn show(&self, form: u32, name: &[u8], out: &mut [u8]) -> Answer {
+        let handle = self.handle.as_ptr();
+        // SAFETY: the handle is open, and the slices are borrowed for the call, `out` for writing.
+        unsafe { bcs_handle_show(handle, form, name.as_ptr(), name.len(), out.as_mut_ptr(), out.len()) }
+    }
+
+    pub(crate) fn format_place(&self, format: &[u8], out: &mut [u8]) -> Answer {
+        let handle = self.handle.as_ptr();
+        // SAFETY: the handle is open, and the slices are borrowed for the call, `out` for writing.
+        unsafe { bcs_handle_format_place(handle, format.as_ptr(), format.len(), out.as_mut_ptr(), out.len()) }
+    }
+
+    pub(crate) fn growth_list(&self, newer: &Open, out: &mut [u8]) -> Answer {
+        let (older, newer) = (&self.text, &newer.text);
+        // SAFETY: the slices are borrowed for the call, `out` for writing.
         unsafe {
-            ask!(bcs_handle_stop_place(self, question, what, bytes.as_ptr(), bytes.len(), out.as_mut_ptr(), out.len()))
+            bcs_growth_list(older.as_ptr(), older.len(), newer.as_ptr(), newer.len(), out.as_mut_ptr(), out.len())
+        }
+    }
+
+    pub(crate) fn growth_place(&self, newer: &Open, out: &mut [u8]) -> Answer {
+        let (older, newer) = (&self.text, &newer.text);
+        // SAFETY: the slices are borrowed for the call, `out` for writing.
+        unsafe {
+            bcs_growth_place(older.as_ptr(), older.len(), newer.as_ptr(), newer.len(), out.as_mut_ptr(), out.len())
         }
     }
 
@@ -285,6 +377,11 @@ impl Open {
     pub(crate) fn text(&self) -> &[u8] {
         &self.text
     }
+}
+
+pub(crate) fn path_place(path: &[u8], out: &mut [u8]) -> Answer {
+    // SAFETY: the slices are borrowed for the call, `out` alone for writing.
+    unsafe { bcs_path_place(path.as_ptr(), path.len(), out.as_mut_ptr(), out.len()) }
 }
 
 pub(crate) fn registry_place(what: u32, text: &[u8], out: &mut [u8]) -> Answer {

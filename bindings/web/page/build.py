@@ -17,12 +17,17 @@ import re
 import sys
 
 HERE = pathlib.Path(__file__).resolve().parent
+sys.dont_write_bytecode = True
+sys.path.insert(0, str(HERE.parent))
+from joining import joined  # noqa: E402 (the folder has to be known first)
+
 EXAMPLES = HERE.parent.parent.parent / "examples"
 
 # Each module comes after those that it imports.
 WORKER = ["../errors", "../hex", "../octets", "../shapes", "../values", "../calls", "../support", "../loader"]
-WORKER += ["layout", "blank", "outline", "worker"]
-SCRIPT = ["../hex", "../support", "names", "reasons", "lights", "link", "pane", "places", "questions", "digits", "tree"]
+WORKER += ["coding", "roots", "layout", "blank", "outline", "worker"]
+SCRIPT = ["../hex", "../octets", "../support", "coding", "names", "reasons", "lights", "link", "pane", "places"]
+SCRIPT += ["questions", "digits", "tree"]
 SCRIPT += ["main"]
 
 # The title, the registry, the container, the side, and the file with the value; without a file the value is blank.
@@ -37,24 +42,8 @@ LISTED = [
 ]
 
 
-def joined(names: list[str]) -> str:
-    parts = [plain((HERE / f"{name}.mjs").read_text(encoding="utf-8")) for name in names]
-    script = '"use strict";\n' + "\n".join(parts)
-    raise_at_repeated_names(script)
-    return script
-
-
-def plain(module: str) -> str:
-    """A module as a part of a script."""
-    module = re.sub(r"^import\s[^;]*;\n", "", module, flags=re.MULTILINE)
-    return re.sub(r"^export ", "", module, flags=re.MULTILINE)
-
-
-def raise_at_repeated_names(script: str) -> None:
-    names = re.findall(r"^(?:async )?(?:function|class|const|let) (\w+)", script, flags=re.MULTILINE)
-    repeated = {name for name in names if names.count(name) > 1}
-    if repeated:
-        sys.exit(f"two modules of one script have the names: {', '.join(sorted(repeated))}")
+def script_of(names: list[str]) -> str:
+    return joined(HERE / f"{name}.mjs" for name in names)
 
 
 def example(title: str, registry: str, container: str, side: str, file: str | None) -> dict[str, str]:
@@ -97,13 +86,13 @@ def within_script(text: str) -> str:
 def main(folder: str) -> None:
     room = pathlib.Path(folder)
     module = gzip.compress((room / "bcs.wasm").read_bytes(), 9, mtime=0)
-    script, style = joined(SCRIPT), (HERE / "page.css").read_text(encoding="utf-8")
+    script, style = script_of(SCRIPT), (HERE / "page.css").read_text(encoding="utf-8")
     values = {
         "POLICY": policy(script, style),
         "STYLE": style,
         "EXAMPLES": json.dumps([example(*row) for row in LISTED]).replace("<", "\\u003c"),
         "MODULE": base64.b64encode(module).decode(),
-        "WORKER": within_script(joined(WORKER)),
+        "WORKER": within_script(script_of(WORKER)),
         "SCRIPT": within_script(script),
     }
     page = (HERE / "page.html").read_text(encoding="utf-8")

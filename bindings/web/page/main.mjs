@@ -1,6 +1,7 @@
 // The page: what is typed goes to the worker, and its answers into the boxes and the two views.
 import { hexOf } from '../hex.mjs';
 import { isSupported } from '../support.mjs';
+import { coded, decoded } from './coding.mjs';
 import { Digits } from './digits.mjs';
 import { Lights } from './lights.mjs';
 import { fragmentOf, stateOf } from './link.mjs';
@@ -26,6 +27,8 @@ class Page {
   #digits = new Digits($('digits'), this.#lights);
   #tree = new Tree($('tree'), this.#lights);
   #side = 'text';
+  #coding = 'hex';
+  #part = '';
   #explained = NO_PIECES;
   #pauses = new Map();
 
@@ -55,6 +58,8 @@ class Page {
     $('blank').addEventListener('click', () => this.#fill('blank', {}));
     $('take').addEventListener('click', () => this.#takeForComparing());
     $('link').addEventListener('click', () => this.#link());
+    $('coding').addEventListener('change', () => this.#recode($('coding').value));
+    $('part').addEventListener('click', async () => flash($('part'), (await copied(this.#part)) ? 'Copied' : 'Not allowed'));
     for (const button of document.querySelectorAll('[data-copy]')) {
       button.addEventListener('click', () => this.#copy(button, button.dataset.copy));
     }
@@ -97,6 +102,7 @@ class Page {
 
   /** Takes over a whole state: that of an example, or of a link. */
   async #show({ registry, format, side, content }) {
+    this.#coding = $('coding').value = 'hex';
     this.panes.registry.content = registry;
     this.#side = side;
     this.panes[side].content = content;
@@ -104,12 +110,15 @@ class Page {
     await this.#readRegistry(format);
   }
 
+  /** A registry without the container that was chosen gets its own root, and a blank value of that. */
   async #readOwnRegistry() {
     $('example').value = OWN;
-    await this.#readRegistry(this.#format);
+    const isOther = await this.#readRegistry(this.#format, true);
+    if (isOther) await this.#fill('blank', {});
   }
 
-  async #readRegistry(format) {
+  /** Whether the format is now the root of the registry, in place of one that isn't there. */
+  async #readRegistry(format, seeksRoot = false) {
     const told = await this.#questions.ask('registry', { text: this.panes.registry.content });
     if (told === undefined) return;
     const { answer, refusal } = told;
@@ -117,8 +126,10 @@ class Page {
     verdict.className = refusal ? 'bad' : 'good';
     verdict.textContent = refusal ? toldOfRefusal(refusal) : toldOfContainers(answer);
     this.panes.registry.mark(refusal && rangeOf(this.panes.registry.content, refusal));
-    this.#listContainers(answer?.names ?? [], format);
-    await this.#answer();
+    const isMissing = seeksRoot && answer?.root !== undefined && !hasContainer(answer.names, format);
+    this.#listContainers(answer?.names ?? [], isMissing ? JSON.stringify({ TYPENAME: answer.root }) : format);
+    if (!isMissing) await this.#answer();
+    return isMissing;
   }
 
   #listContainers(names, format) {
@@ -142,7 +153,15 @@ class Page {
   }
 
   get #asked() {
-    return { registry: this.panes.registry.content, format: jsonOfFormat(this.#format) };
+    return { registry: this.panes.registry.content, format: jsonOfFormat(this.#format), coding: this.#coding };
+  }
+
+  /** Writes the bytes in the other way. What isn't bytes stays as it is. */
+  async #recode(coding) {
+    const { bytes } = this.#side === 'bytes' ? decoded(this.panes.bytes.content, this.#coding) : {};
+    this.#coding = coding;
+    if (bytes !== undefined) this.panes.bytes.content = coded(bytes, coding);
+    await this.#answer();
   }
 
   // The two sides
@@ -176,6 +195,7 @@ class Page {
     markStale(this.#otherSide, fault !== undefined);
     if (!fault) this.#fillOtherSide(answer);
     this.#explained = explained;
+    $('pieces').hidden = explained.pieces.length === 0 && explained.stop === undefined;
     this.#digits.show(explained);
     this.#tree.show(explained);
     this.#tellLit(-1, -1);
@@ -196,6 +216,7 @@ class Page {
     if (kind === 'page' || kind === 'stack' || kind === 'memory') return tellVerdict('bad', 'No answer:', ` ${reason}.`);
     if (kind === 'digits') return tellVerdict('bad', 'No bytes:', ` ${DIGIT_FAULTS[reason]}`);
     if (kind === 'text') return this.#tellTextFault(fault);
+    if (kind === 'format') return tellVerdict('bad', `Refused: ${reason}.`, ` ${formatFault(this.#format, fault)}`);
     const where = place === undefined ? '' : ` at byte ${shownNumber(place)}`;
     const wanted = stop ? ` Wanted there: ${shownName(stop.want)}, at ${shownName(stop.name, 400)}.` : '';
     tellVerdict('bad', `Refused${where}: ${reason}.`, ` ${sentenceOn(kind, reason)}${wanted}`);
@@ -224,6 +245,21 @@ class Page {
     const { pieces } = this.#explained;
     const lit = pieces.slice(Math.max(from, 0), Math.max(to, 0));
     $('detail').textContent = lit.length === 0 ? 'Point at digits or at a row, or go there by the arrow keys.' : detailOf(lit);
+    // No path leads to a key.
+    const path = lit.length === 1 ? lit[0].path : null;
+    $('part').hidden = path === null;
+    this.#part = path === null ? '' : `bcs part registry.json ${quoted(this.#wordOfFormat)} ${quoted(path)} value.hex`;
+  }
+
+  /** The format as an argument of the program. */
+  get #wordOfFormat() {
+    const { format } = this.#asked;
+    try {
+      const { TYPENAME: name } = JSON.parse(format);
+      return typeof name === 'string' && !/^[{"]/.test(name) ? name : format;
+    } catch {
+      return format;
+    }
   }
 
   async #fill(question, asked) {
@@ -262,7 +298,10 @@ class Page {
 
   async #link() {
     const { registry, format } = this.#asked;
-    const [content, first, second] = [this.#side, 'first', 'second'].map((name) => this.panes[name].content);
+    const [shown, first, second] = [this.#side, 'first', 'second'].map((name) => this.panes[name].content);
+    // (a link has hexadecimal digits)
+    const { bytes } = this.#side === 'bytes' && this.#coding !== 'hex' ? decoded(shown, this.#coding) : {};
+    const content = bytes === undefined ? shown : coded(bytes, 'hex');
     const fragment = await fragmentOf({ registry, format, side: this.#side, content, first, second });
     if (fragment === undefined) return flash($('link'), 'Too long for a link');
     history.replaceState(null, '', `#${fragment}`);
@@ -286,7 +325,7 @@ class Page {
   async #whole(side) {
     const pane = this.panes[side];
     if (!pane.isCut || side === this.#side) return pane.content;
-    const { answer } = await this.#questions.ask('whole', { side });
+    const { answer } = await this.#questions.ask('whole', { side, coding: this.#coding });
     return answer?.content ?? '';
   }
 
@@ -297,7 +336,7 @@ class Page {
   async #save(side) {
     const link = document.createElement('a');
     link.href = URL.createObjectURL(new Blob([await this.#whole(side)], { type: 'text/plain' }));
-    link.download = side === 'text' ? 'value.json' : 'value.hex';
+    link.download = side === 'text' ? 'value.json' : `value.${this.#coding}`;
     link.click();
     setTimeout(() => URL.revokeObjectURL(link.href), 60_000);
   }
@@ -314,14 +353,17 @@ class Page {
     if (file.size > MOST_OPENED) return tellVerdict('bad', 'No answer:', ' the file is above 256 MiB.');
     const { pane } = $('file').dataset;
     const bytes = new Uint8Array(await file.arrayBuffer());
+    if (pane === 'bytes') this.#coding = $('coding').value = 'hex';
     this.panes[pane].content = pane === 'bytes' ? digitsIn(bytes) : new TextDecoder().decode(bytes);
     this.panes[pane].whenChanged();
   }
 }
 
+const FORMAT_WORDS = /^(UNIT|BOOL|STR|BYTES|CHAR|[UI](8|16|32|64|128)|F32|F64)$/;
 const DIGIT_FAULTS = {
   sign: 'two hexadecimal digits stand for each byte, 0 to 9 and a to f. There is another sign.',
   odd: 'two hexadecimal digits stand for each byte. One is missing.',
+  base64: 'this isn’t base64 with its padding, or choose hexadecimal.',
 };
 
 /** A side that is not in step keeps what it shows, but nobody should sign it. */
@@ -334,6 +376,23 @@ function markStale(side, isStale) {
 function digitsIn(bytes) {
   const text = new TextDecoder('latin1').decode(bytes);
   return /^(0x)?[0-9a-fA-F\s]*$/.test(text) ? text : hexOf(bytes);
+}
+
+function hasContainer(names, format) {
+  return names.some((name) => format === JSON.stringify({ TYPENAME: name }));
+}
+
+/** What is wrong with a format that is refused. */
+function formatFault(format, { kind, reason, expected, pointer }) {
+  const word = format.trim();
+  if (FORMAT_WORDS.test(word)) return `${word} isn’t JSON: write "${word}".`;
+  const told = expected === undefined ? sentenceOn(kind, reason) : `${shownName(expected, 400)}.`;
+  return pointer ? `At ${shownName(pointer, 400)}: ${told}` : told;
+}
+
+/** A word for a shell. */
+function quoted(word) {
+  return `'${word.replaceAll("'", "'\\''")}'`;
 }
 
 /** A name stands for the container, as in the program. */
@@ -418,9 +477,13 @@ async function copied(text) {
 
 /** Says for a moment on a button what came of it. */
 function flash(button, text) {
-  button.dataset.name ??= button.textContent;
-  button.textContent = text;
-  setTimeout(() => (button.textContent = button.dataset.name), 2000);
+  const [name, label] = [(button.dataset.name ??= button.textContent), (button.dataset.label ??= button.ariaLabel ?? '')];
+  const show = (shown, told) => {
+    button.textContent = shown;
+    if (label !== '') button.ariaLabel = told;
+  };
+  show(text, text);
+  setTimeout(() => show(name, label), 2000);
 }
 
 if (isSupported()) {

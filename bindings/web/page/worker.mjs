@@ -1,10 +1,12 @@
 // What runs beside the page, so that the page never waits: each message is a question, and is answered by one message.
 import { BcsError } from '../errors.mjs';
 import { load } from '../loader.mjs';
-import { bytesOfHex, hexOf } from '../hex.mjs';
+import { hexOf } from '../hex.mjs';
+import { coded, decoded } from './coding.mjs';
 import { blankOf } from './blank.mjs';
 import { laidOut } from './layout.mjs';
 import { outlineOf } from './outline.mjs';
+import { rootOf } from './roots.mjs';
 
 // A few bytes can announce two billion nodes without any: the page takes on no more than a large text has.
 const MOST_NODES = 4_000_000;
@@ -56,25 +58,25 @@ function opened(text) {
 /** Whether a registry is good, and the names of its containers. */
 function registry({ text }) {
   const names = [...opened(text).containers.keys()];
-  return { count: names.length, names: names.slice(0, MOST_NAMES) };
+  return { count: names.length, names: names.slice(0, MOST_NAMES), root: rootOf(open.containers) };
 }
 
 /** A value by its text or by its bytes: the other side, and the pieces. */
-function value({ registry: text, format, side, content }) {
+function value({ registry: text, format, side, content, coding }) {
   const { registry } = opened(text);
   registry.check(format);
-  return side === 'text' ? valueOfText(registry, format, content) : valueOfBytes(registry, format, content);
+  return side === 'text' ? valueOfText(registry, format, content, coding) : valueOfBytes(registry, format, content, coding);
 }
 
-function valueOfText(registry, format, text) {
+function valueOfText(registry, format, text, coding) {
   const bytes = registry.encodeText(format, text);
   last = { text, bytes };
-  return { length: bytes.length, digits: digitsOf(bytes), explained: explained(registry, format, bytes) };
+  return { length: bytes.length, digits: digitsOf(bytes, coding), explained: explained(registry, format, bytes) };
 }
 
-function valueOfBytes(registry, format, digits) {
-  const bytes = bytesOfHex(digits.replace(/\s+/g, '').replace(/^0x/i, ''));
-  if (bytes === undefined) throw new BcsError('digits', digits.match(/[^0-9a-f\s]/i) ? 'sign' : 'odd');
+function valueOfBytes(registry, format, digits, coding) {
+  const { bytes, fault } = decoded(digits, coding);
+  if (fault !== undefined) throw new BcsError('digits', fault);
   last = { text: '', bytes };
   try {
     last.text = registry.decodeText(format, bytes);
@@ -87,8 +89,8 @@ function valueOfBytes(registry, format, digits) {
 }
 
 /** The other side is handed to the page in full where it can be shown in full, and else a front of it. */
-function digitsOf(bytes) {
-  return { front: hexOf(bytes.subarray(0, MOST_LAID_OUT / 2)), isCut: bytes.length > MOST_LAID_OUT / 2 };
+function digitsOf(bytes, coding) {
+  return { front: coded(bytes.subarray(0, MOST_LAID_OUT / 2), coding), isCut: bytes.length > MOST_LAID_OUT / 2 };
 }
 
 function shownText(text) {
@@ -146,6 +148,6 @@ function compare({ registry: text, format, first, second }) {
 }
 
 /** The whole of the last value, for the clipboard or a file. */
-function whole({ side }) {
-  return { content: side === 'text' ? last.text : hexOf(last.bytes) };
+function whole({ side, coding }) {
+  return { content: side === 'text' ? last.text : coded(last.bytes, coding) };
 }

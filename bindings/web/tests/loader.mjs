@@ -42,7 +42,7 @@ test('the module imports nothing, and has the proved calls alone', () => {
   assert.deepEqual(WebAssembly.Module.imports(module), []);
   const header = readFileSync(new URL('../../c/proved.h', import.meta.url), 'utf8');
   const calls = Array.from(header.matchAll(/^(?:bcs_answer|void) (bcs_c_\w+)\(/gm), (found) => found[1]);
-  assert.equal(calls.length, 25);
+  assert.equal(calls.length, 34);
   const exported = WebAssembly.Module.exports(module).map(({ name }) => name);
   assert.deepEqual(exported.sort(), [...calls, 'memory', 'take_memory', 'give_memory'].sort());
 });
@@ -113,6 +113,47 @@ test('texts, bytes, lists and options', () => {
   coded(none, { OPTION: { OPTION: 'BOOL' } }, { some: { some: true } }, '010101');
   coded(none, { OPTION: { OPTION: 'BOOL' } }, { some: null }, '0100');
   coded(none, { TUPLE: ['UNIT', 'BOOL', 'U64'] }, [null, false, 1n], '000100000000000000');
+});
+
+// A format of an option, a value of it, the same with `plainOptions`, and its bytes.
+const OPTIONS = [
+  [{ OPTION: 'U64' }, { some: 7n }, 7n, '010700000000000000'],
+  [{ OPTION: 'BOOL' }, { some: false }, false, '0100'],
+  [{ OPTION: 'STR' }, { some: '' }, '', '0100'],
+  [{ OPTION: { SEQ: 'U8' } }, { some: Uint8Array.of(1) }, Uint8Array.of(1), '010101'],
+  [{ OPTION: { SEQ: { OPTION: 'U8' } } }, { some: [null, { some: 5 }] }, [null, 5], '0102000105'],
+  [{ OPTION: { MAP: { KEY: 'STR', VALUE: 'U8' } } }, { some: new Map([['some', 1]]) }, new Map([['some', 1]]), '010104736f6d6501'],
+  [{ OPTION: { TYPENAME: 'Point' } }, { some: { x: 1, y: -1 } }, { x: 1, y: -1 }, '0101ff'],
+  [{ OPTION: { TYPENAME: 'Shape' } }, { some: 'Dot' }, 'Dot', '0100'],
+  [{ OPTION: { TYPENAME: 'Shape' } }, { some: { Circle: 5 } }, { Circle: 5 }, '010205'],
+  [{ OPTION: 'U8' }, null, null, '00'],
+  [{ OPTION: 'UNIT' }, { some: null }, { some: null }, '01'],
+  [{ OPTION: { TYPENAME: 'Nothing' } }, { some: null }, { some: null }, '01'],
+  [{ OPTION: { OPTION: 'U8' } }, { some: null }, { some: null }, '0100'],
+  [{ OPTION: { OPTION: 'U8' } }, { some: { some: 5 } }, { some: 5 }, '010105'],
+];
+
+test('options as null or their value, where that is clear', () => {
+  for (const [format, exact, plain, digits] of OPTIONS) {
+    coded(shapes, format, exact, digits);
+    coded(shapes, format, plain, digits, exact);
+    assert.deepEqual(shapes.decode(format, bytesOfHex(digits), { plainOptions: true }), plain);
+  }
+});
+
+test('the value at the beginning of longer bytes', () => {
+  for (const rest of [[], [0], Array(100).fill(255)]) {
+    assert.deepEqual(none.decodePrefix('"U16"', [1, 2, ...rest]), { value: 513, length: 2 });
+    assert.deepEqual(none.decodePrefix('"U64"', [7, 0, 0, 0, 0, 0, 0, 0, ...rest]), { value: 7n, length: 8 });
+    assert.deepEqual(none.decodePrefix('"U64"', [7, 0, 0, 0, 0, 0, 0, 0, ...rest], { json: true }), { value: '7', length: 8 });
+    assert.deepEqual(none.decodePrefix({ OPTION: 'U8' }, [1, 5, ...rest], { plainOptions: true }), { value: 5, length: 2 });
+    assert.deepEqual(none.decodePrefixText('"U16"', [1, 2, ...rest]), { text: '513', length: 2 });
+    assert.deepEqual(none.decodePrefix('"UNIT"', rest), { value: null, length: 0 });
+  }
+  assert.throws(() => none.decodePrefix('"U16"', [1]), refusal('bytes', 'EndOfInput', 1));
+  assert.throws(() => none.decodePrefix('Nope', [1]), refusal('format', 'UnknownName'));
+  assert.throws(() => none.decodePrefix('{"SEQ":"UNIT"}', [255, 255, 255, 255, 7]), { reason: 'TooManyNodes' });
+  assert.throws(() => none.withLimits({ nodes: 3 }).decodePrefix('{"SEQ":"UNIT"}', [3, 1]), { reason: 'TooManyNodes' });
 });
 
 test('maps', () => {
@@ -243,13 +284,55 @@ test('where something is refused, and what was wanted there', () => {
   assert.throws(() => registry.decode('Point', [7, 1, 2, 5]), told('.~/[0]', 'wanted 2 bytes of BYTES'));
   assert.throws(() => registry.scan('Point', [7, 1, 2, 5]), told('.~/[0]', 'wanted 2 bytes of BYTES'));
   assert.throws(() => registry.part('Point', [7, 1, 2, 5], '.'), told('.~/[0]', 'wanted 2 bytes of BYTES'));
-  assert.throws(() => registry.check('Line'), told(undefined, undefined));
+  for (const call of [() => registry.check('Line'), () => registry.encode('Line', 7), () => registry.decode('Line', []), () => registry.schema('Line')]) {
+    assert.throws(call, { kind: 'format', pointer: '', expected: /^no container is called Line/ });
+  }
+  assert.throws(() => registry.scan({ SEQ: { TYPENAME: 'x: UnknownName: y' } }, []), told('', 'no container is called x: UnknownName: y'));
+  assert.throws(() => registry.check({ TUPLE: ['U8', {}] }), told('/TUPLE/1', 'wanted a format'));
+  assert.throws(() => registry.show('Line'), { kind: 'format', reason: 'UnknownName', expected: 'no container is called Line' });
+  const step = 'wanted a number, inner, or key: and hexadecimal digits';
+  assert.throws(() => registry.part('"U8"', [7], '1/x: BadPath: y'), { kind: 'path', pointer: 'step 2 x: BadPath: y', expected: step });
+  assert.throws(() => bcs.grows('{"a: Missing: b":"UNITSTRUCT"}', '{}'), {
+    kind: 'growth', reason: 'Missing', pointer: 'a: Missing: b', expected: 'the newer registry has no container of that name',
+  });
   assert.throws(() => bcs.registry('{"S":{"STRUCT":[{"side":{"TYPENAME":"Sid"}}]}}'), told('S, field side', 'no container is called Sid'));
   assert.throws(() => bcs.grows('{}', '{"S":7}'), told('/S', 'wanted a container'));
   assert.throws(() => registry.encode('Point', { x: 256, '~/': [] }), { message: `text refused: BadNumber at /x: ${wanted}` });
   assert.throws(() => registry.encode('Point', 7), { message: 'value refused: WrongType at the whole value: Point takes an object, not number' });
   assert.throws(() => registry.encodeText('Point', '7'), { message: /^text refused: BadShape at the whole text: wanted an object/ });
   assert.throws(() => registry.decode('Point', []), { message: 'bytes refused: EndOfInput at 0, .x: wanted U8' });
+});
+
+test('schemas, examples, registries in readable form, and differences', () => {
+  const read = (name) => JSON.parse(readFileSync(new URL(`../../../examples/${name}.json`, import.meta.url), 'utf8'));
+  const aptos = bcs.registry(JSON.stringify(read('aptos_registry')));
+  assert.deepEqual(aptos.schema('RawTransaction'), read('aptos_transaction.schema'));
+  for (const name of aptos.names) {
+    const value = aptos.example(name, { full: true });
+    const bytes = aptos.encode(name, value);
+    assert.deepEqual(bytes, aptos.encodeText(name, aptos.exampleText(name, { full: true })));
+    assert.deepEqual(aptos.decode(name, bytes), value);
+  }
+  const ring = bcs.registry('{"Shape":{"ENUM":{"0":{"Dot":"UNIT"},"1":{"Ring":{"NEWTYPE":{"OPTION":"U64"}}}}}}');
+  assert.equal(ring.example('Shape'), 'Dot');
+  assert.deepEqual(ring.example('Shape', { variant: 'Ring', full: true }), { Ring: { some: 0n } });
+  assert.deepEqual(ring.example('Shape', { variant: 'Ring', full: true, plainOptions: true }), { Ring: 0n });
+  assert.throws(() => ring.example('Shape', { variant: 'Oval' }), refusal('example', 'UnknownVariant'));
+  assert.throws(() => ring.example('"F32"'), refusal('example', 'NoValue'));
+  assert.throws(() => ring.withLimits({ nodes: 0 }).exampleText('Shape'), refusal('example', 'TooManyNodes'));
+  assert.match(ring.show('Shape'), /1 Ring: U64\?/);
+  assert.equal(ring.show(), ring.show('Shape'));
+  assert.deepEqual(Object.keys(JSON.parse(ring.show('', { json: true }))), ['Shape']);
+  for (const name of ['shape', 'Shape\0', 'Shape ']) assert.throws(() => ring.show(name), { kind: 'format' });
+  assert.throws(() => ring.show('\ud800'), TypeError);
+  const newer = '{"Shape":{"ENUM":{"0":{"Dot":{"NEWTYPE":"U8"}}}},"a: Missing: b":"UNITSTRUCT"}';
+  const older = ring.show('', { json: true });
+  const lines = ['Shape, variant 0 Dot: VariantChanged', 'Shape, variant 1 Ring: VariantMissing', 'a: Missing: b: container added'];
+  assert.deepEqual(bcs.differences(older, newer), lines);
+  assert.deepEqual(bcs.differences(older, older), []);
+  assert.throws(() => bcs.differences(older, '{'), refusal('newer', 'NotJson'));
+  ring.close();
+  for (const call of [() => ring.show(), () => ring.schema('Shape'), () => ring.example('Shape')]) assert.throws(call, /closed/);
 });
 
 // (five bytes that announce 2147483647 units, which have no bytes)

@@ -463,3 +463,62 @@ for (const scheme of ['light', 'dark']) {
     });
   }
 }
+
+const REGISTRY = '{"Inner":{"NEWTYPESTRUCT":"U64"},"Small":"UNITSTRUCT","Outer":{"STRUCT":[{"a":{"TYPENAME":"Inner"}},{"b":{"SEQ":"U8"}}]}}';
+
+test('a registry of one’s own selects its root, with a blank value', async () => {
+  const page = await opened();
+  await page.ask("document.getElementById('registry-box').open = true");
+  await replace(page, 'registry', REGISTRY);
+  await page.until(`${valueOf('container')} === '{"TYPENAME":"Outer"}' && ${valueOf('bytes')} === '000000000000000000'`);
+  await choose(page, 'container', 'Inner');
+  await page.until(`${verdict}.includes('Refused')`);
+  await replace(page, 'registry', REGISTRY.replace('Small', 'Other'));
+  await page.until("document.getElementById('registry-verdict').textContent === '3 containers'");
+  assert.equal(await page.ask(valueOf('container')), '{"TYPENAME":"Inner"}', 'a container that is there stays selected');
+  await isQuiet(page);
+});
+
+test('bytes are written as hexadecimal digits or base64, whichever is chosen', async () => {
+  const page = await opened();
+  const [digits, base64] = [read('aptos_transfer.hex'), Buffer.from(read('aptos_transfer.hex'), 'hex').toString('base64')];
+  await choose(page, 'coding', 'base64');
+  await page.until(`${valueOf('bytes')} === '${base64}'`);
+  await replace(page, 'bytes', digits);
+  await page.until(`${verdict}.includes('base64') || ${verdict}.includes('Refused')`);
+  await replace(page, 'bytes', base64);
+  await page.until(`${verdict}.includes('the one encoding')`);
+  await choose(page, 'coding', 'hexadecimal');
+  await page.until(`${valueOf('bytes')} === '${digits}'`);
+  await isQuiet(page);
+});
+
+test('a wrong format says which, and a refused text has no empty panels', async () => {
+  const page = await opened();
+  await choose(page, 'container', 'another format');
+  await replace(page, 'format', 'U64');
+  await page.until(`${verdict}.includes('U64 isn’t JSON: write "U64".')`);
+  assert.ok(await page.ask("document.getElementById('pieces').hidden"));
+  await replace(page, 'format', '"U64"');
+  await replace(page, 'text', '7');
+  await page.until(`${verdict}.includes('8 bytes')`);
+  assert.ok(!(await page.ask("document.getElementById('pieces').hidden")));
+  await replace(page, 'text', '"x"');
+  await page.until(`${verdict}.includes('Refused')`);
+  assert.ok(await page.ask("document.getElementById('pieces').hidden"));
+  await isQuiet(page);
+});
+
+test('no two buttons have one name, and a piece leads to the command part', async () => {
+  const page = await opened();
+  const names = await page.ask("[...document.querySelectorAll('button:not([hidden])')].map((it) => it.ariaLabel ?? it.textContent)");
+  assert.equal(new Set(names).size, names.length, names.join());
+  await focus(page, 'digits');
+  await page.press('ArrowRight');
+  await page.until("!document.getElementById('part').hidden");
+  await page.ask("Object.defineProperty(navigator, 'clipboard', { value: { writeText: async (text) => { globalThis.taken = text; } } })");
+  await page.ask("document.getElementById('part').click()");
+  await page.until('globalThis.taken');
+  assert.match(await page.ask('globalThis.taken'), /^bcs part registry\.json 'RawTransaction' '[a-z0-9\/]+' value\.hex$/);
+  await isQuiet(page);
+});

@@ -8,6 +8,7 @@ import type {
 } from './aptos.mjs';
 import type { GasData, TransactionData, TransactionKind, Types as Sui } from './sui.mjs';
 import type { Types as Shapes } from './shapes.mjs';
+import type { Prices as PlainPrices, Types as PlainShapes } from './plain_shapes.mjs';
 
 const [, , wasm, examples] = process.argv;
 const read = (name: string): string => readFileSync(`${examples}/${name}`, 'utf8').trim();
@@ -81,7 +82,7 @@ function nameOf(payload: TransactionPayload): string {
 }
 
 /** Formats that are no container's name have `Value`, and names are those of the types. */
-function rightFormats(shapes: Registry<Shapes>): void {
+function rightFormats(shapes: Registry<Shapes>, plainShapes: Registry<PlainShapes>): void {
   const value: Value = aptos.decode({ SEQ: { TYPENAME: 'TypeTag' } }, aptos.encode('{"SEQ":{"TYPENAME":"TypeTag"}}', ['U8']));
   equal(JSON.stringify(value), '["U8"]');
   const names: (keyof Aptos)[] = aptos.names;
@@ -100,6 +101,12 @@ function rightFormats(shapes: Registry<Shapes>): void {
   equal(shapes.encode('Prices', new Map([['a', { some: 7 }], ['b', null]])).length, 15);
   equal(shapes.encode('Shape', 'Dot').length + shapes.encode('Shape', { Box: [1, 2n] }).length, 19);
   equal(shapes.encode('Empty', {}).length, 0);
+  equal(shapes.encode('Prices', new Map([['a', 7n], ['b', null]])).length, 15);
+  const plain: PlainPrices = plainShapes.decode('Prices', [1, 1, 97, 1, 7, 0, 0, 0, 0, 0, 0, 0], { plainOptions: true });
+  const price: bigint | null | undefined = plain.get('a');
+  equal(price, 7n);
+  const { value: first, length } = shapes.decodePrefix('Id', [7, 0, 0, 0, 0, 0, 0, 0, 9]);
+  equal(first + BigInt(length), 15n);
 }
 
 export function wrongInput(shapes: Registry<Shapes>): void {
@@ -114,7 +121,7 @@ export function wrongInput(shapes: Registry<Shapes>): void {
   aptos.encode('RawTransaction', { ...transfer, payload: { Script: call } }); // error: Property 'code' is missing in type 'EntryFunction' but required in type 'ScriptInput'
   aptos.encode('TypeTag', 'U512'); // error: Argument of type '"U512"' is not assignable to parameter of type 'TypeTagInput'
   aptos.encode('TypeTag', { Vector: [] }); // error: is not assignable to type 'TypeTagInput'
-  aptos.encode('Multisig', { multisig_address: one, transaction_payload: { EntryFunction: call } }); // error: 'EntryFunction' does not exist in type '{ some: MultisigTransactionPayloadInput; }'
+  aptos.encode('Multisig', { multisig_address: one, transaction_payload: { EntryFunction: one } }); // error: Type 'Uint8Array' is missing the following properties from type 'EntryFunctionInput'
   aptos.encode('Multisig', { multisig_address: one, transaction_payload: undefined }); // error: Type 'undefined' is not assignable
   aptos.encode('Ed25519PublicKey', [1, 2]); // error: is not assignable to parameter of type 'Ed25519PublicKeyInput'
   aptos.encode('Ed25519PublicKey', '0102'); // error: is not assignable to parameter of type 'Ed25519PublicKeyInput'
@@ -125,7 +132,7 @@ export function wrongInput(shapes: Registry<Shapes>): void {
   aptos.check('Transaction'); // error: '"Transaction"' is not assignable to parameter of type 'Format<
   sui.encode('TransactionData', transfer); // error: Argument of type 'RawTransaction' is not assignable to parameter of type 'TransactionDataInput'
   shapes.encode('Prices', { a: null }); // error: is not assignable to parameter of type 'PricesInput'
-  shapes.encode('Prices', new Map([['a', 7n]])); // error: Type 'bigint' is not assignable to type '{ some: number | bigint; }'
+  shapes.encode('Prices', new Map([['a', '7']])); // error: Type 'string' is not assignable to type
   shapes.encode('Shape', { Box: [1] }); // error: Source has 1 element(s) but target requires 2
   shapes.encode('Shape', { Named: {} }); // error: Property 'side' is missing in type '{}'
   shapes.encode('Shape', { Dot: null }); // error: 'Dot' does not exist in type
@@ -145,9 +152,10 @@ export function wrongValues(shapes: Registry<Shapes>): void {
   const other: TransactionData = aptos.decode('RawTransaction', []); // error: Property 'V1' is missing in type 'RawTransaction'
   const typed: Registry<Sui> = aptos; // error: Types of property 'names' are incompatible
   const narrow: RawTransaction = { ...transfer, sequence_number: 11 }; // error: Type 'number' is not assignable to type 'bigint'
-  console.log(number, wide, sender, fee, script, price, other, typed, narrow);
+  const plain: bigint = shapes.decode('Id', [], { plainOptions: true }); // error: is not assignable to type 'bigint'
+  console.log(plain, number, wide, sender, fee, script, price, other, typed, narrow);
 }
 
 rightInput();
 rightValues();
-rightFormats(bcs.registry(read('../bindings/web/tests/shapes.json')));
+rightFormats(bcs.registry(read('../bindings/web/tests/shapes.json')), bcs.registry(read('../bindings/web/tests/shapes.json')));

@@ -22,6 +22,8 @@ fail() {
 declare_types() {
     node types.mjs "$2" >"$1.d.mts" || fail "the declarations of $1"
     BCS_WASM=bcs.wasm node "$here/typed_values.mjs" "$2" "$1" >"values_of_$1.mts" || fail "values of $1"
+    node types.mjs --plain-options "$2" >"plain_$1.d.mts" || fail "the plain declarations of $1"
+    BCS_WASM=bcs.wasm node "$here/typed_values.mjs" "$2" "plain_$1" >"values_of_plain_$1.mts" || fail "plain values of $1"
 }
 
 # refuses STATUS TEXT ARGUMENT..: it ends with this status, prints this text in the first line of standard error, and
@@ -51,12 +53,13 @@ node types.mjs "$reversed" | cmp - aptos.d.mts || fail "the order of a registry'
 
 refuses 2 'registry refused: UnknownName at A: no container is called B' '{"A":{"NEWTYPESTRUCT":{"TYPENAME":"B"}}}'
 refuses 2 'registry refused: NotJson at line 1, column 1: serde_json stops reading there' '{'
-refuses 3 'Usage: bcs-types REGISTRY >registry.d.mts'
-refuses 3 'Usage: bcs-types REGISTRY >registry.d.mts' a.json b.json
-refuses 3 'Usage: bcs-types REGISTRY >registry.d.mts' --other
+refuses 3 'Usage: bcs-types [--plain-options] REGISTRY >registry.d.mts'
+refuses 3 'Usage: bcs-types [--plain-options] REGISTRY >registry.d.mts' a.json b.json
+refuses 3 'Usage: bcs-types [--plain-options] REGISTRY >registry.d.mts' --other
+refuses 3 'Usage: bcs-types [--plain-options] REGISTRY >registry.d.mts' --plain-options
 refuses 4 'fault: open in the file none.json: No such file or directory' none.json
 node types.mjs --help >help || fail "help"
-[ "$(head -n 1 help)" = 'Usage: bcs-types REGISTRY >registry.d.mts' ] || fail "help"
+[ "$(head -n 1 help)" = 'Usage: bcs-types [--plain-options] REGISTRY >registry.d.mts' ] || fail "help"
 
 # The program in the README, and the commands before it, which make its registry.
 code_of_readme sh >commands
@@ -75,8 +78,8 @@ cp "$here/typed.mts" .
 tsc --strict --noUncheckedIndexedAccess --target es2022 --lib es2022,dom --module nodenext --moduleResolution nodenext \
     --pretty false --outDir made ./*.d.mts values_of_*.mts readme.mts typed.mts node.d.ts >report || true
 told=$("$root/tests/marked_errors.py" report readme.mts typed.mts) || fail "$told"
-[ "$told" = "38 wrong lines are refused, and no others" ] || fail "$told"
-cp ./*.mjs made
+[ "$told" = "39 wrong lines are refused, and no others" ] || fail "$told"
+cp ./*.mjs bcs.wasm made
 node made/typed.mjs bcs.wasm "$root/examples" || fail "right values of the examples"
 if node made/readme.mjs >said 2>&1; then
     fail "the wrong value of the README is encoded"

@@ -4,13 +4,16 @@
 import assert from 'node:assert/strict';
 import { readFileSync } from 'node:fs';
 import { BcsError, load } from '../bcs.mjs';
+import { Shapes } from '../shapes.mjs';
 
 const [file, types] = process.argv.slice(2);
 const EACH = 3;
+const plainOptions = types.startsWith('plain_');
 const bcs = await load(readFileSync(process.env.BCS_WASM));
 const text = readFileSync(file, 'utf8');
 const registry = bcs.registry(text);
 const containers = new Map(Object.entries(JSON.parse(text)));
+const shapes = new Shapes(containers);
 
 // A generator with a seed, so that each run is the same.
 let state = 12345;
@@ -55,7 +58,7 @@ function value(format, deep) {
       if (deep === 0) throw new NoValue();
       return content(containers.get(inner), deep - 1);
     case 'OPTION':
-      return orNone(() => ({ some: value(inner, deep) }), null);
+      return orNone(() => some(format, value(inner, deep)), null);
     case 'SEQ':
       return orNone(() => list(inner, below(3), deep), []);
     case 'TUPLEARRAY':
@@ -65,6 +68,12 @@ function value(format, deep) {
     default:
       return inner.map((part) => value(part, deep));
   }
+}
+
+/** An option of a value, which is written in both ways where there are two. */
+function some(option, held) {
+  const isPlain = shapes.isPlainOption(shapes.of(option)) && below(2) === 0;
+  return isPlain ? held : { some: held };
 }
 
 /** What is made, or sometimes, and where there is no value, the other. */
@@ -122,7 +131,7 @@ function tried(name) {
   try {
     const given = value(format, 8);
     const bytes = registry.encode(format, given);
-    const back = registry.decode(format, bytes);
+    const back = registry.decode(format, bytes, { plainOptions });
     assert.deepEqual(registry.encode(format, back), bytes);
     return [given, back];
   } catch (error) {
@@ -138,7 +147,7 @@ for (const name of containers.keys()) {
   for (const [given, back] of Array.from({ length: EACH }, () => tried(name)).filter((pair) => pair !== undefined)) {
     const [at, of] = [lines.length, `T[${ascii(name)}]`];
     lines.push(`export const given${at}: ${of}['encode'] = ${written(given)};`);
-    lines.push(`export const back${at}: ${of}['decode'] = ${written(back)};`);
+    lines.push(`export const back${at}: ${of}['${plainOptions ? 'plain' : 'decode'}'] = ${written(back)};`);
     lines.push(`export const again${at}: ${of}['encode'] = back${at};`);
   }
 }

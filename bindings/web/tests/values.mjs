@@ -14,9 +14,13 @@ const CONTAINERS = {
   Pair: { TUPLESTRUCT: ['U8', 'U8'] },
   Empty: { STRUCT: [] },
   Point: { STRUCT: [{ a: 'U8' }] },
+  Some: { STRUCT: [{ some: 'U8' }] },
   Shape: { ENUM: { 0: { Dot: 'UNIT' }, 1: { Circle: { NEWTYPE: 'U8' } }, 2: { Box: { TUPLE: ['U8', 'U8'] } }, 3: { Named: { STRUCT: [{ a: 'U8' }] } } } },
 };
 
+// The columns of options, with those of what they hold. The first ones are also accepted as `null` or their value.
+const PLAIN_OPTIONS = { option: 'U8', optionPoint: 'Point', optionShape: 'Shape', optionMap: 'mapSTR' };
+const EXACT_OPTIONS = ['optionOption', 'optionNothing', 'optionSome'];
 // By the name of an integer type: its bytes, and whether it has negative numbers.
 const INTEGERS = {
   U8: [1, false], U16: [2, false], U32: [4, false], U64: [8, false], U128: [16, false],
@@ -24,6 +28,9 @@ const INTEGERS = {
 };
 const OCTETS_OR_LIST = 'bytes, hexadecimal digits or an array';
 const NUMBERS = 'an array or a typed array of integers';
+
+const at = (pointer, expected) => ({ pointer, expected });
+const eachColumn = (names, cell) => Object.fromEntries(names.map((name) => [name, cell]));
 
 // By the name of a column: its format, and what a rejection says that it takes.
 const COLUMNS = {
@@ -33,7 +40,13 @@ const COLUMNS = {
   BYTES: ['BYTES', 'BYTES takes bytes or hexadecimal digits'],
   ...Object.fromEntries(Object.keys(INTEGERS).map((name) => [name, [name, `${name} takes an integer`]])),
   F32: ['F32'], F64: ['F64'], CHAR: ['CHAR'],
-  option: [{ OPTION: 'U8' }, 'OPTION takes null or { some: value }'],
+  option: [{ OPTION: 'U8' }, 'OPTION takes null, a value or { some: value }'],
+  optionPoint: [{ OPTION: { TYPENAME: 'Point' } }, 'OPTION takes null, a value or { some: value }'],
+  optionShape: [{ OPTION: { TYPENAME: 'Shape' } }, 'OPTION takes null, a value or { some: value }'],
+  optionMap: [{ OPTION: { MAP: { KEY: 'STR', VALUE: 'U8' } } }, 'OPTION takes null, a value or { some: value }'],
+  optionOption: [{ OPTION: { OPTION: 'U8' } }, 'OPTION takes null or { some: value }'],
+  optionNothing: [{ OPTION: { TYPENAME: 'Nothing' } }, 'OPTION takes null or { some: value }'],
+  optionSome: [{ OPTION: { TYPENAME: 'Some' } }, 'OPTION takes null or { some: value }'],
   octets: [{ SEQ: 'U8' }, `SEQ takes ${OCTETS_OR_LIST}`],
   twoOctets: [{ TUPLEARRAY: { CONTENT: 'U8', SIZE: 2 } }, `TUPLEARRAY takes ${OCTETS_OR_LIST}`],
   listI8: [{ SEQ: 'I8' }, `SEQ takes ${NUMBERS}`],
@@ -73,8 +86,6 @@ const string = (digits, others) => ({
   ...NO_INTEGER, STR: digits, BYTES: 'BadHex', octets: 'BadHex', twoOctets: 'BadHex', Shape: 'UnknownVariant', ...others,
 });
 const BYTES_0102 = { BYTES: '020102', octets: '020102', twoOctets: '0102' };
-const at = (pointer, expected) => ({ pointer, expected });
-const eachColumn = (names, cell) => Object.fromEntries(names.map((name) => [name, cell]));
 /** A rejection of an item that is no integer, in columns of lists. */
 const numbersAt = (pointer, names, found) => Object.fromEntries(names.map((name) => [
   name, at(pointer, `${{ listI8: 'I8', listU16: 'U16', listI64: 'I64', twoU16: 'U16', ids: 'U64' }[name] ?? 'U8'} takes an integer, not ${found}`),
@@ -90,8 +101,14 @@ const ARRAY_1_2 = {
   ...eachColumn(['mapSTR', 'mapU8'], at('/v/0', 'an entry of MAP takes an array, not number')),
 };
 /** An object that has no known members. */
-const OTHER_MEMBERS = { Empty: 'UnknownField', Point: 'MissingField', option: 'BadShape', Shape: 'UnknownVariant' };
-const NO_MEMBERS = { Empty: '', Point: 'MissingField', option: 'BadShape', Shape: 'BadShape' };
+const NO_OPTION = eachColumn(['option', 'optionMap', ...EXACT_OPTIONS], 'BadShape');
+const OTHER_MEMBERS = { Empty: 'UnknownField', Point: 'MissingField', Shape: 'UnknownVariant', ...NO_OPTION };
+const NO_MEMBERS = { Empty: '', Point: 'MissingField', Shape: 'BadShape', ...NO_OPTION };
+/** What `{ some: value }` is, where the value's type isn't accepted. */
+const someOf = (found) => Object.fromEntries([
+  ['option', 'U8 takes an integer'], ['optionPoint', 'Point takes an object'], ['optionMap', COLUMNS.mapSTR[1]],
+  ['optionShape', COLUMNS.Shape[1]], ['optionNothing', 'UNIT takes null'], ['optionSome', 'Some takes an object'],
+].map(([name, takes]) => [name, at('/v/some', `${takes}, not ${found}`)]));
 const MEMBER_A = { ...OTHER_MEMBERS, Point: '01' };
 
 class Instance {
@@ -137,7 +154,7 @@ const WIDE = (number) => `the number ${number}: above 2 ** 53 - 1 only a bigint 
 // A row: what it is, the value, how a rejection calls it, and the cells where it isn't rejected with that: the bytes, the fault of
 // the proved call, or another place and message.
 const ROWS = [
-  ['null', null, 'null', { UNIT: '', Nothing: '', option: '00' }],
+  ['null', null, 'null', { UNIT: '', Nothing: '', ...eachColumn([...Object.keys(PLAIN_OPTIONS), ...EXACT_OPTIONS], '00') }],
   ['undefined', undefined, 'undefined', {}],
   ['true', true, 'boolean', { BOOL: '01' }],
   ['false', false, 'boolean', { BOOL: '00' }],
@@ -266,9 +283,15 @@ const ROWS = [
   ['{ a: 1 }', { a: 1 }, 'Object', MEMBER_A],
   ['{ a: undefined }', { a: undefined }, 'Object', { ...OTHER_MEMBERS, Point: at('/v/a', 'U8 takes an integer, not undefined') }],
   ['{ a: 1, b: undefined }', { a: 1, b: undefined }, 'Object', { ...OTHER_MEMBERS, Point: 'UnknownField', Shape: 'BadShape' }],
-  ['{ some: 7 }', { some: 7 }, 'Object', { ...OTHER_MEMBERS, option: '0107' }],
-  ['{ some: null }', { some: null }, 'Object', { ...OTHER_MEMBERS, option: at('/v/some', 'U8 takes an integer, not null') }],
-  ['{ some: 7, more: 1 }', { some: 7, more: 1 }, 'Object', { ...OTHER_MEMBERS, Shape: 'BadShape' }],
+  ['{ some: 7 }', { some: 7 }, 'Object', { ...OTHER_MEMBERS, ...someOf('number'), option: '0107', optionOption: '010107' }],
+  ['{ some: null }', { some: null }, 'Object', { ...OTHER_MEMBERS, ...someOf('null'), optionOption: '0100', optionNothing: '01' }],
+  ['{ some: { some: 7 } }', { some: { some: 7 } }, 'Object', {
+    ...OTHER_MEMBERS, ...someOf('Object'), optionOption: '010107', optionSome: '0107', optionPoint: 'MissingField', optionShape: 'UnknownVariant',
+  }],
+  ['{ some: 7, more: 1 }', { some: 7, more: 1 }, 'Object', {
+    ...OTHER_MEMBERS, Shape: 'BadShape',
+    ...Object.fromEntries(['optionMap', 'optionNothing', 'optionSome'].map((name) => [name, someOf('number')[name]])),
+  }],
   ['{ Dot: null }', { Dot: null }, 'Object', { ...OTHER_MEMBERS, Shape: '00' }],
   ['{ Dot: undefined }', { Dot: undefined }, 'Object', { ...OTHER_MEMBERS, Shape: at('/v/Dot', 'UNIT takes null, not undefined') }],
   ['{ Circle: 7 }', { Circle: 7 }, 'Object', { ...OTHER_MEMBERS, Shape: '0107' }],
@@ -277,7 +300,7 @@ const ROWS = [
   ['{ Named: .. }', { Named: { a: '1' } }, 'Object', { ...OTHER_MEMBERS, Shape: '0301' }],
   ['{ Named: Map }', { Named: new Map([['a', 1]]) }, 'Object', { ...OTHER_MEMBERS, Shape: at('/v/Named', 'Shape::Named takes an object, not Map') }],
   ['{ Dot: null, Circle: 7 }', { Dot: null, Circle: 7 }, 'Object', { ...OTHER_MEMBERS, Shape: 'BadShape' }],
-  ['a half in a name', { 'a\ud800': 1 }, 'Object', Object.fromEntries(['Empty', 'Point', 'option', 'Shape'].map((name) => [
+  ['a half in a name', { 'a\ud800': 1 }, 'Object', Object.fromEntries(['Empty', 'Point', 'option', 'optionMap', ...EXACT_OPTIONS, 'Shape'].map((name) => [
     name, at('/v', `${COLUMNS[name][1]}, not one with half of a surrogate pair in a name`),
   ]))],
   ['own __proto__', JSON.parse('{"__proto__":1}'), 'Object', OTHER_MEMBERS],
@@ -335,12 +358,27 @@ function isExpected(outcome, column, found, cell) {
   assert.equal(outcome.message, `value refused: WrongType at ${pointer}: ${expected}`);
 }
 
+/** An option of the value of a cell: its bytes, or its rejection one member deeper. */
+function cellOfOption(inner, found, cell) {
+  if (found === 'undefined') return undefined;
+  if (/^([0-9a-f]{2})*$/.test(cell ?? '-')) return `01${cell}`;
+  if (typeof cell === 'string') return cell;
+  const { pointer, expected } = cell ?? at('/v', `${COLUMNS[inner][1]}, not ${found}`);
+  return at(pointer.replace('/v', '/v/some'), expected);
+}
+
+function cellAt(column, found, cells) {
+  if (UNSUPPORTED.has(column)) return 'Unsupported';
+  const inner = column in cells ? undefined : PLAIN_OPTIONS[column];
+  return inner === undefined ? cells[column] : cellOfOption(inner, found, cells[inner]);
+}
+
 test('every type at every format', () => {
   let count = 0;
   for (const [name, value, found, cells] of ROWS) {
     for (const column of Object.keys(cells)) assert.ok(column in COLUMNS, `${name}: ${column}`);
     for (const column of Object.keys(COLUMNS)) {
-      const cell = UNSUPPORTED.has(column) ? 'Unsupported' : cells[column];
+      const cell = cellAt(column, found, cells);
       const outcome = outcomeOf(column, value);
       try {
         isExpected(outcome, column, found, cell);

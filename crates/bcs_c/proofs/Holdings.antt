@@ -1,16 +1,16 @@
--- A handle as the machine has it, taken apart and made, and the two cases of what it owns.
+-- The machine value of a handle, taken apart and put together, and the two cases of what it owns.
 use Rattle.bcs_c.proofs.Steps.{◌≡◌, ℕ, List, [], ◌∷◌, ◌++◌, refl, subst, lit<, true, ◌&&◌, T, Ura, bare, impl, tnil, dnil, ty_ptr, Val, vstruct, of_list, has_ty, WT, Fml, full_share, ent, guard, guard_i, via, fst∗, snd∗, never, Logic, sem, Item, Goal, Seq, Step, step, ‵, given, ◌$◌, move, drop, fsplit, fjoin, fpick, fpack, learn, use1, feq_i, feq_l, fact_use, RawPtr, lone, layout, Laws, RattleType, Valss, Ptr, block_ptr, null_ptr, ptr_val, lies_at, in_a_block, Testable, nothing, shape, to, within, Al, handle_tells, Good, dealloc_token-Testable, and_tt, box_owns, Global, Option, None, Some}
 use Rattle.std.proofs.alloc.Global.TheLaws as heap_laws
 use Rattle.std.specs.contracts.alloc.Global as heap
 use Rattle.bcs_c.proofs.Prelude.{ghosts, holds, Handle}
-use Rattle.bcs_registry.specs.contracts.registry.Registry as registry
+use Rattle.bcs_c.specs.contracts.open_registry.OpenRegistry as opened
 use Rattle.bcs_c.proofs.RawBoxes as raw
 use Rattle.bcs_c.proofs.RawBoxes.{both}
 use Rattle.bcs_c.specs.contracts.handle.Handle as handle
 
--- the registry's type, the allocator's with its laws, and that of a box of a registry as its pointer
+-- the types of an open registry, of the allocator with its laws, and of a box of an open registry as a raw pointer
 abbrev pub R : RattleType
-R = registry.the_row
+R = opened.the_row
 
 abbrev pub Z : RattleType
 Z = heap.the_row

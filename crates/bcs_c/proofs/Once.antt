@@ -1,14 +1,17 @@
--- One thing at most is asked for, and then it isn't refused. What is answered of a registry is answered of its text too, and of
--- a handle in which it is open.
+-- The arguments have at most one meaning, and then they aren't refused. What holds of the parsed arguments holds of the call.
 use Rattle.bcs_c.proofs.Prelude.{◌≡◌, ◌∙◌, ℕ, List, Option, Some, None, ap, arith, refl, subst, sym, Entries, Shape, one_fault, one_format_fault, same_format, same_registry, Bounds, plain, AnswersIfAsked, AsksFor, Has, RefusesAsk, RefusesSource, Request, Source, Whatever, by_texts, given, kept, no_format, no_limits, no_registry, on_handle, refused, rest, written, IsFormat, IsRegistry, RefusesFormat, RefusesRegistry, has_fault, Answer, Ask, HandleAsk, Status, Memory, Registry}
 use Rattle.bcs_c.specs.Registries.{no_memory}
+use Rattle.bcs_c.specs.Asking.{On}
+use Rattle.bcs_c.specs.declared.asked.Asked.{Asked}
+use Rattle.bcs_c.specs.declared.asked.Lent.{Lent}
+use Rattle.bcs_registry_model.specs.View.{shape_of}
 
 -- ---- registries and formats
 
 pub one_registry : (text : List ℕ) (r q : Entries) → IsRegistry text r → IsRegistry text q → r ≡ q
 one_registry text r q h k = same_registry text r q h.0 k.0
 
--- a registry's text is refused for want of memory alone
+-- a registry that can be read is refused only if memory runs out
 pub registry_stands : (text : List ℕ) (r : Entries) (status : Status) (a : Answer) → IsRegistry text r → RefusesRegistry text status a → a ≡ plain Memory
 registry_stands text r status a h (has_fault e fault is) = absurd (one_fault.1 text r e h.0 h.1 fault)
 registry_stands text r status a h (no_memory is) = is
@@ -17,14 +20,14 @@ format_stands : (r : Entries) (text : List ℕ) (s : Shape) (a : Answer) → IsF
 format_stands r text s a h (has_fault e fault is) = absurd (one_format_fault.1 r text s e h.0 h.1 fault)
 format_stands r text s a h (no_memory is) = is
 
--- ---- what is asked for
+-- ---- arguments
 
 same_bounds : (l m : Bounds) → l.depth ≡ m.depth → l.nodes ≡ m.nodes → l ≡ m
 same_bounds l m depth nodes =
     let Same : ℕ → ℕ → Type 0 = λ d n. l ≡ record { depth = d; nodes = n } in
     subst (λ (n : ℕ). Same m.depth n) nodes (subst (λ (d : ℕ). Same d l.nodes) depth refl)
 
--- a source has one registry, which is refused for want of memory alone
+-- a source has one registry, which is refused only if memory runs out
 one_source : (from : Source) (r q : Entries) → Has from r → Has from q → r ≡ q
 one_source (written text) r q h k = one_registry text r q h k
 one_source (kept registry) r q h k = let same : Some r ≡ Some q = sym h ∙ k in cc
@@ -34,7 +37,7 @@ source_stands (written text) r a h why = registry_stands text r Registry a h why
 source_stands (kept registry) r a h why = let none : Some r ≡ None = sym h ∙ why.0 in cc
 
 module _ (q : Request) where
-  -- so is what a call is asked for
+  -- arguments that can be read are refused only if memory runs out
   pub ask_stands : (r : Entries) (l : Bounds) (s : Shape) (a : Answer) → AsksFor q r l s → RefusesAsk q a → a ≡ plain Memory
   ask_stands r l s a h (no_registry why) = source_stands q.source r a h.has why
   ask_stands r l s a h (no_format x is why) =
@@ -42,7 +45,7 @@ module _ (q : Request) where
       format_stands r q.format s a h.is_format (subst (λ (y : Entries). RefusesFormat y q.format a) same why)
   ask_stands r l s a h (no_limits x t is form over same) = absurd (omega (arith, h.allowed, over))
 
-  -- what holds of what was read holds of whatever is asked for
+  -- what holds of the parsed arguments holds of every meaning of the arguments
   pub whatever : (P : Entries → Bounds → Shape → Type 0) (r : Entries) (l : Bounds) (s : Shape) → AsksFor q r l s → P r l s → Whatever q P
   whatever P r l s h p x m t k =
       let registry : r ≡ x = one_source q.source r x h.has k.has in
@@ -52,19 +55,15 @@ module _ (q : Request) where
       let limits = same_bounds l m depth nodes in
       subst (λ (y : Shape). P x m y) shape (subst (λ (y : Bounds). P x y s) limits (subst (λ (y : Entries). P y l s) registry p))
 
--- ---- a registry's text, once it is read
+-- ---- a registry, once it is parsed
 
 module _ (ask : Ask) (r : Entries) (is : IsRegistry ask.registry.now r) where
-  by_text : (x : Entries) (l : Bounds) (s : Shape) → AsksFor (on_handle (Some r) (rest ask)) x l s → AsksFor (by_texts ask) x l s
+  pub by_text : (x : Entries) (l : Bounds) (s : Shape) → AsksFor (on_handle (Some r) (rest ask)) x l s → AsksFor (by_texts ask) x l s
   by_text x l s h =
       let same : r ≡ x = let k : Some r ≡ Some x = h.has in cc in
       record { has = subst (λ (y : Entries). IsRegistry ask.registry.now y) same is; is_format = h.is_format; depth = h.depth; nodes = h.nodes; allowed = h.allowed }
 
-  once_read : (x : Entries) (l : Bounds) (s : Shape) → AsksFor (by_texts ask) x l s → AsksFor (on_handle (Some r) (rest ask)) x l s
-  once_read x l s h =
-      record { has = ap Some (one_registry ask.registry.now r x is h.has); is_format = h.is_format; depth = h.depth; nodes = h.nodes; allowed = h.allowed }
-
-  refuses : (a : Answer) → RefusesAsk (on_handle (Some r) (rest ask)) a → RefusesAsk (by_texts ask) a
+  pub refuses : (a : Answer) → RefusesAsk (on_handle (Some r) (rest ask)) a → RefusesAsk (by_texts ask) a
   refuses a (no_registry why) = let none : Some r ≡ None = why.0 in cc
   refuses a (no_format x has why) =
       let same : r ≡ x = let k : Some r ≡ Some x = has in cc in
@@ -73,23 +72,16 @@ module _ (ask : Ask) (r : Entries) (is : IsRegistry ask.registry.now r) where
       let same_registry : r ≡ x = let k : Some r ≡ Some x = has in cc in
       no_limits x s (subst (λ (y : Entries). IsRegistry ask.registry.now y) same_registry is) form over same
 
-  answers_rest : (a : Answer) (P : Entries → Bounds → Shape → Type 0) → AnswersIfAsked (on_handle (Some r) (rest ask)) a P → AnswersIfAsked (by_texts ask) a P
-  answers_rest a P (given x l s h p) = given x l s (by_text x l s h) p
-  answers_rest a P (refused h) = refused (refuses a h)
+-- ---- parsed arguments
 
-  -- what is answered of the registry is answered of its text
-  pub answers_text : (w : HandleAsk) (a : Answer) (P : Entries → Bounds → Shape → Type 0) → w ≡ rest ask → AnswersIfAsked (on_handle (Some r) w) a P → AnswersIfAsked (by_texts ask) a P
-  answers_text w a P same h = answers_rest a P (subst (λ (v : HandleAsk). AnswersIfAsked (on_handle (Some r) v) a P) same h)
+module _ (q : Request) (lent : Lent) (asked : Asked) (asks : AsksFor q lent.opened.value lent.limits (shape_of lent.known.format))
+    (is : (asked.registry.now ≡ lent.opened.value) × (asked.format.now ≡ lent.known.format) × (asked.limits ≡ lent.limits)) where
+  asks_asked : AsksFor q asked.registry.now asked.limits (shape_of asked.format.now)
+  asks_asked = rw (is.0, is.1, is.2) asks
 
-  pub whatever_text : (w : HandleAsk) (P : Entries → Bounds → Shape → Type 0) → w ≡ rest ask → Whatever (on_handle (Some r) w) P → Whatever (by_texts ask) P
-  whatever_text w P same h x l s k = subst (λ (v : HandleAsk). Whatever (on_handle (Some r) v) P) same h x l s (once_read x l s k)
+  -- the answer is what holds of them
+  pub answers_asked : (a : Answer) (P : Entries → Bounds → Shape → Type 0) → On asked P → AnswersIfAsked q a P
+  answers_asked a P h = given asked.registry.now asked.limits (shape_of asked.format.now) asks_asked h
 
--- ---- a registry that is open
-
-module _ (ask : HandleAsk) (r : Entries) (held : Option Entries) (is : Some r ≡ held) where
-  -- what is answered of the registry is answered of the handle in which it is open
-  pub answers_handle : (a : Answer) (P : Entries → Bounds → Shape → Type 0) → AnswersIfAsked (on_handle (Some r) ask) a P → AnswersIfAsked (on_handle held ask) a P
-  answers_handle a P h = subst (λ (x : Option Entries). AnswersIfAsked (on_handle x ask) a P) is h
-
-  pub whatever_handle : (P : Entries → Bounds → Shape → Type 0) → Whatever (on_handle (Some r) ask) P → Whatever (on_handle held ask) P
-  whatever_handle P h = subst (λ (x : Option Entries). Whatever (on_handle x ask) P) is h
+  pub whatever_asked : (P : Entries → Bounds → Shape → Type 0) → On asked P → Whatever q P
+  whatever_asked P h = whatever q P asked.registry.now asked.limits (shape_of asked.format.now) asks_asked h

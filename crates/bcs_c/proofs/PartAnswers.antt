@@ -1,10 +1,10 @@
--- The answers to a path, by what `part` hands out.
+-- The answers to a path, from what `part` returns.
 use Rattle.bcs_c.proofs.Prelude.{◌≡◌, ◌≢◌, ℕ, List, Option, Some, None, length, drop, take, ap, subst, ◌∙◌, Entries, of, Shape, Bounds, Tree, bytes_of, Accepts, Stops, Reason, accepts_once_is, no_two_verdicts_are, stops_once_is, Part, part_at, GivesPart, one_path, placed, plain, stop_at, IsUnlessMemory, AnswersPart, AnswersSteps, Finds, IsPath, RefusesPath, Steps, found, no_path, no_text, out_of_memory, stepped, stopped, Answer, Memory, No}
 use Rattle.bcs_decode_parts.specs.declared.part.Part as declared
 use Rattle.bcs_c.specs.Parts.{no_memory, refused}
 
 module _ (registry : Entries) (b : List ℕ) (a : Answer) where
-  -- what is handed out is told
+  -- a part that is returned is reported
   pub finds : (p : Option Part) (r : declared.Part) → GivesPart registry b p (Some r) → a ≡ placed r.place (length r.bytes.now) → Finds registry b p a
   finds (Some x) r h is =
       let own = bytes_of registry x.value x.content in
@@ -14,12 +14,12 @@ module _ (registry : Entries) (b : List ℕ) (a : Answer) where
       )
   finds None r h is = absurd h
 
-  -- and so is it where nothing is
+  -- and so is the absence of a part
   pub finds_none : (p : Option Part) → GivesPart registry b p None → a ≡ plain No → Finds registry b p a
   finds_none (Some x) h is = absurd h
   finds_none None h is = is
 
--- a path that spells steps is refused for want of memory alone
+-- a valid path is refused only if memory runs out
 pub path_stands : (path : List ℕ) (steps : Steps) (a : Answer) → IsPath path steps → RefusesPath path a → a ≡ plain Memory
 path_stands path steps a h (no_text never is) = absurd (never h.0)
 path_stands path steps a h (no_path never is) = absurd (never steps h.1)
@@ -37,11 +37,11 @@ module _ (registry : Entries) (limits : Bounds) (s : Shape) (b : List ℕ) (step
       is ∙ ap (λ (x : Reason). stop_at x i) same.0 ∙ ap (λ (x : ℕ). stop_at e x) same.1
 
 module _ (registry : Entries) (limits : Bounds) (s : Shape) (b path : List ℕ) (a : Answer) where
-  -- the answer to the steps that the path spells
+  -- the answer to the steps of the path
   pub by_steps : (spelled steps : Steps) → IsPath path spelled → steps ≡ spelled → AnswersSteps registry limits s b steps a → AnswersPart registry limits s b path a
   by_steps spelled steps is same h = stepped spelled is (subst (λ (x : Steps). AnswersSteps registry limits s b x a) same h)
 
-  -- where a value stands, the part to which the steps lead is found
+  -- if the input starts with a value, the part that the steps lead to is found
   pub part_only : (steps : Steps) (n : ℕ) (c : Tree) → IsPath path steps → Accepts registry limits s b n c → a ≢ plain Memory
       → AnswersPart registry limits s b path a → Finds registry b (part_at registry steps (of s) c) a
   part_only steps n c is h memory (refused why) = absurd (memory (path_stands path steps a is why))
@@ -50,7 +50,7 @@ module _ (registry : Entries) (limits : Bounds) (s : Shape) (b path : List ℕ) 
       (steps_only registry limits s b others a n c h answers)
   part_only steps n c is h memory (out_of_memory none) = absurd (memory none)
 
-  -- where the bytes stop, so does the answer
+  -- if the bytes stop being a value, the answer is that stop
   pub part_stopped : (steps : Steps) (e : Reason) (o : ℕ) → IsPath path steps → Stops registry limits s b e o
       → AnswersPart registry limits s b path a → IsUnlessMemory a (stop_at e o)
   part_stopped steps e o is h (refused why) memory = absurd (memory (path_stands path steps a is why))

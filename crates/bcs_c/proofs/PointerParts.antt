@@ -1,7 +1,7 @@
--- What was put of a row, before what is left of it.
+-- The appended part of a list, followed by the rest of it.
 use Rattle.bcs_c.proofs.Prelude.{◌≡◌, ◌∙◌, ℕ, ◌+◌, ◌<◌, ◌≤◌, List, ◌∷◌, ◌++◌, ap, sym, drop, drop_of_length-le, get_or, length, append_assoc, append-nil, flat_map, map, drop_more, pointer_step_of, JsonStep, marked, marked_sign, pointer, pointer_step}
 
--- one byte more was put
+-- one more byte is appended
 pub sign_more : (put name : List ℕ) (i d : ℕ) → i < length name
     → (put ++ marked_sign (get_or name i d)) ++ marked (drop (i + 1) name) ≡ put ++ marked (drop i name)
 sign_more put name i d within = append_assoc put _ _ ∙ ap (λ (left : List ℕ). put ++ marked left) (sym (drop_more name i d within))
@@ -9,7 +9,7 @@ sign_more put name i d within = append_assoc put _ _ ∙ ap (λ (left : List ℕ
 pub signs_all : (put name : List ℕ) (i : ℕ) → length name ≤ i → put ++ marked (drop i name) ≡ put
 signs_all put name i past = ap (λ (left : List ℕ). put ++ marked left) (drop_of_length-le name past) ∙ append-nil put
 
--- one step more was put
+-- one more step is appended
 pub step_more : (put : List ℕ) (steps : List JsonStep) (i : ℕ) (x : JsonStep) → i < length steps → x ≡ get_or steps i x
     → (put ++ pointer_step (pointer_step_of x)) ++ pointer (map pointer_step_of (drop (i + 1) steps)) ≡ put ++ pointer (map pointer_step_of (drop i steps))
 step_more put steps i x within is =

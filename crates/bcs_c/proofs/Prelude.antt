@@ -1,4 +1,4 @@
--- What the proofs use of other crates, and of this crate's definitions.
+-- The imports that the proofs share.
 pub use Rattle.std.proofs.BoxSteps.Steps.{box_in, box_out}
 pub use Rattle.std.proofs.Common.{ap, append-nil, append_assoc, arith, Bool, drop, drop_of_length-le, Err, flat_map, get_or, inl, inr, length, List, map, None, Ok, Option, refl, Result, rules, Some, string_bytes, subst, sym, take, ℕ, ◌++◌, ◌+◌, ◌<◌, ◌∙◌, ◌∷◌, ◌≡◌, ◌≢◌, ◌≤◌, ◌⊎◌}
 pub use Rattle.std.proofs.Crossing.{crosses, frees, Vec-send}
@@ -23,7 +23,7 @@ pub use Rattle.bcs_json.specs.Showing.{Shows}
 pub use Rattle.bcs_json.specs.declared.from_fault.FromFault.{FromFault}
 pub use Rattle.bcs_json_spec.specs.Headline.{Compares, HasBytes, Normalises}
 pub use Rattle.bcs_json_spec.specs.Place.{pointer_step_of}
-pub use Rattle.bcs_json_spec.specs.Texts.{Denotes, RefusesText}
+pub use Rattle.bcs_json_spec.specs.Texts.{Denotes, MisspellsAt, RefusesText}
 pub use Rattle.bcs_json_spec.specs.declared.json_fault.JsonFault.{JsonFault}
 pub use Rattle.bcs_json_spec.specs.declared.json_fault.JsonFault.TheVariants.{OutOfMemory}
 pub use Rattle.bcs_json_spec.specs.declared.json_step.JsonStep.{JsonStep}

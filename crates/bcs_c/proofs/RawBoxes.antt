@@ -1,11 +1,11 @@
--- A box's pointer with its allocator, as the machine has them: two words in a struct.
+-- The machine value of a box's pointer with its allocator: two words in a struct.
 use Rattle.bcs_c.proofs.Steps.{◌≡◌, ℕ, List, [], ◌∷◌, ◌++◌, refl, subst, true, ◌&&◌, T, Ura, bare, impl, tnil, dnil, Val, vptr, vstruct, vcons, vnil, of_list, has_ty, WT, fst∗, never, Logic, sem, Item, Goal, Seq, Step, step, ‵, ◌$◌, move, drop, fsplit, fjoin, fpick, fpack, feq_i, feq_l, RawPtr, lone, layout, Laws, RattleType, Valss, block_ptr, null_ptr, Ptr, ptr_val, in_a_block, nothing, shape, within, Al, handle_tells, Good, and_tt, box_owns, Ghosts}
 use Rattle.bcs_c.specs.contracts.raw_box.RawBox as raw_box
 
 abbrev pub both : Val → Val → Val
 both v w = vstruct (vcons v (vcons w vnil))
 
--- R is the type of what the box holds, Z that of its allocator
+-- R is the type of the box's content, Z that of its allocator
 module _ (R Z : RattleType) (L : Laws Z) (g : Ghosts Z.Denot) where
   abbrev pub RawBox : RattleType
   RawBox = raw_box.the_row R Z g

@@ -1,4 +1,4 @@
--- A registry may go to another thread, since all that it is made of may. `search` finds no more than a layer or two at once.
+-- An open registry may move to another thread, since all its parts may. `search` finds only a layer or two at once.
 use Rattle.bcs_c.proofs.Prelude.{shape, IsSend, enum_send, recorded_send, sendable, Vec-send, crosses, ghosts, send-Format}
 use Rattle.std.proofs.MapsCrossing as maps
 use Rattle.std.specs.contracts.alloc.Global as Global
@@ -8,6 +8,8 @@ use Rattle.bcs_registry_model.specs.contracts.format.Format as Format
 use Rattle.bcs_registry_model.specs.contracts.named.Named as Named
 use Rattle.bcs_registry_model.specs.contracts.variant_format.VariantFormat as VariantFormat
 use Rattle.bcs_registry.specs.contracts.registry.Registry as Registry
+use Rattle.bcs_c.specs.contracts.known.Known as Known
+use Rattle.bcs_c.specs.contracts.open_registry.OpenRegistry as OpenRegistry
 
 format : IsSend Format.the_field.row
 format = search (send-Format, sendable, crosses, maps.crosses) depth 40
@@ -32,5 +34,11 @@ container =
     recorded_send _ _ _ Container.the_type.to_one (enum_send (shape Container.the_type)
     (tt, ((format, tt), ((formats, tt), ((fields, tt), ((search (variant, sendable, crosses, maps.crosses) depth 40, tt), tt))))))
 
-pub registry : IsSend Registry.the_row
+registry : IsSend Registry.the_row
 registry = search (container, sendable, crosses, maps.crosses) depth 40
+
+known : IsSend Known.the_row
+known = search (format, sendable, crosses, maps.crosses) depth 40
+
+pub opened : IsSend OpenRegistry.the_row
+opened = search (registry, known, sendable, crosses, maps.crosses) depth 40

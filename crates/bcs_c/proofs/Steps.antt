@@ -1,4 +1,4 @@
--- The names that the proofs by hand cite, passed on.
+-- Re-exports the names that the hand-written proofs use.
 pub use Rattle.std.proofs.Common.{◌≡◌, ℕ, List, [], ◌∷◌, ◌++◌, refl, sym, ap, ◌∙◌, subst, lit<}
 pub use mathlib.Core.Bool.{true, ◌&&◌}
 pub use lib.Dec.{T}

@@ -71,7 +71,7 @@ Whatever q P = (r : Entries) (l : Bounds) (s : Shape) → AsksFor q r l s → P 
 
 -- this holds of what was read
 abbrev pub On : Asked → (Entries → Bounds → Shape → Type 0) → Type 0
-On asked P = P asked.registry.now asked.limits (shape_of asked.format)
+On asked P = P asked.registry.now asked.limits (shape_of asked.format.now)
 
 -- the answer is this one, unless memory ran out
 abbrev pub IsUnlessMemory : Answer → Answer → Type 0

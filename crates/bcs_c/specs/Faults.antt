@@ -12,7 +12,7 @@ use Rattle.bcs_json_spec.specs.FaultNames.{json_fault_name}
 use Rattle.bcs_json_spec.specs.declared.json_fault.JsonFault.{JsonFault}
 use Rattle.bcs_json_spec.specs.declared.json_fault.JsonFault.TheVariants as json
 use Rattle.bcs_c.specs.declared.fault.Fault.{Fault}
-use Rattle.bcs_c.specs.declared.fault.Fault.TheVariants.{Registry, Growth, Text, Stop, ShownTooNested, BadPath}
+use Rattle.bcs_c.specs.declared.fault.Fault.TheVariants.{Registry, Growth, Text, Stop, ShownTooNested, BadPath, ExampleUnknownVariant, ExampleNoValue, ExampleTooManyNodes, ExampleTooNested}
 
 abbrev pub registry_number : RegistryFault → ℕ
 registry_number registry.NotJson = 101
@@ -68,6 +68,10 @@ fault_number (Text e) = text_number e
 fault_number (Stop e) = reason_number e
 fault_number ShownTooNested = 501
 fault_number BadPath = 601
+fault_number ExampleUnknownVariant = 701
+fault_number ExampleNoValue = 702
+fault_number ExampleTooManyNodes = 703
+fault_number ExampleTooNested = 704
 
 -- as the program `bcs` prints them
 abbrev pub fault_name : Fault → List ℕ
@@ -77,3 +81,7 @@ fault_name (Text e) = json_fault_name e
 fault_name (Stop e) = reason_name e
 fault_name ShownTooNested = codes "TooNested"
 fault_name BadPath = codes "BadPath"
+fault_name ExampleUnknownVariant = codes "UnknownVariant"
+fault_name ExampleNoValue = codes "NoValue"
+fault_name ExampleTooManyNodes = codes "TooManyNodes"
+fault_name ExampleTooNested = codes "TooNested"

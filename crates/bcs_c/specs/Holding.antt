@@ -8,9 +8,9 @@ use Rattle.std.specs.contracts.impls.GlobalAllocator.TheImpl.{ghosts}
 use base.Fml.{Fml, feq}
 use denote.RawPtr.{Ptr, null_ptr}
 use Rattle.bcs_registry_model.specs.Container.{Entries}
-use Rattle.bcs_registry.specs.contracts.registry.Registry.{the_row}
+use Rattle.bcs_c.specs.contracts.open_registry.OpenRegistry.{the_row}
 
--- with no registry the pointer is null, and nothing is owned; else what a box of the registry owns
+-- with no registry the pointer is null, and nothing is owned; else what a box of the open registry owns
 abbrev pub holds : Global → Ptr → Option Entries → Fml
 holds alloc pointer None = feq Ptr pointer null_ptr
 holds alloc pointer (Some registry) = box_owns (ghosts.dealloc_token alloc) the_row pointer registry

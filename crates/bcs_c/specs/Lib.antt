@@ -2,6 +2,7 @@ pub mod Statuses
 pub mod Faults
 pub mod Answers
 pub mod Registries
+pub mod Keeping
 pub mod Asking
 pub mod Opened
 pub mod Output

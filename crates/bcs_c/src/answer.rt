@@ -1,4 +1,4 @@
-//! What a call answers.
+//! The answer of a call.
 ghost use Rattle.std.specs.Prelude.{◌≡◌, ◌≢◌};
 ghost use Rattle.bcs_registry_model.specs.declared.fault.RegistryFault.TheVariants as registry_fault;
 ghost use Rattle.bcs_json_spec.specs.declared.json_fault.JsonFault.TheVariants as json_fault;
@@ -12,7 +12,7 @@ use bcs_decode_spec::Stop;
 use bcs_json_spec::JsonFault;
 use bcs_registry_model::RegistryFault;
 
-/// What a call answers. `status` says how it went, and which of the other fields tell something; the others are 0.
+/// The answer of a call. `status` says how it went, and which of the other fields are used; those that aren't are 0.
 #[repr(C)]
 #[derive(Clone, Copy)]
 pub struct Answer {
@@ -22,7 +22,7 @@ pub struct Answer {
     pub fault: u32,
     /// Where bytes stop being a value, or where a part begins.
     pub place: u64,
-    /// How many bytes there are.
+    /// The number of bytes.
     pub length: usize,
 }
 
@@ -39,7 +39,7 @@ impl Answer {
         }
     }
 
-    /// There are so many bytes.
+    /// The result has `length` bytes.
     pub(crate) fn sized(status: Status, length: usize) -> Answer
         ensures { result ≡ sized status length }
     {
@@ -51,7 +51,7 @@ impl Answer {
         }
     }
 
-    /// There are so many bytes at this place.
+    /// The result is the `length` bytes at this place.
     pub(crate) fn placed(place: usize, length: usize) -> Answer
         ensures { result ≡ placed place length }
     {
@@ -87,7 +87,7 @@ impl Answer {
         }
     }
 
-    /// A text is refused, or memory ran out.
+    /// A document is refused, or memory ran out.
     pub(crate) fn text_refusal(fault: JsonFault) -> Answer
         ensures memory { fault ≡ json_fault.OutOfMemory → result ≡ plain Memory }
         ensures refusal { fault ≢ json_fault.OutOfMemory → result ≡ refusal Refused (Text fault) }
@@ -111,7 +111,17 @@ impl Answer {
         }
     }
 
-    /// The same answer, which tells too where bytes stop being a value, if they do.
+    /// The same answer, with the reason why something is refused.
+    pub(crate) fn with_fault(self, fault: Fault) -> Answer
+        ensures { result.status ≡ self.status }
+    {
+        Answer {
+            fault: fault.number(),
+            ..self
+        }
+    }
+
+    /// The same answer, with the place where bytes stop being a value, if they do.
     pub(crate) fn with_stop(self, stop: Option<Stop>) -> Answer
         ensures { result ≡ with_stop stop self }
     {

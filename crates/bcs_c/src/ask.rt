@@ -1,45 +1,46 @@
-//! What a call is asked for, beside its input.
+//! The arguments of a call besides its input.
 ghost use Rattle.std.specs.Prelude.{◌≡◌, IfErr, IfOk};
 ghost use Rattle.std.specs.declared.option.Option.TheVariants.{Some};
 ghost use Rattle.bcs_registry_model.specs.View.{shape_of};
-ghost use Rattle.bcs_c.specs.Asking.{AsksFor, RefusesAsk, on_handle, rest};
+ghost use Rattle.bcs_c.specs.Asking.{AsksFor, RefusesAsk, by_texts, on_handle, rest};
+ghost use Rattle.bcs_c.specs.Keeping.{Knows};
 
 use crate::answer::Answer;
-use crate::asked::Asked;
-use crate::registries::read_format;
+use crate::asked::Lent;
+use crate::handle::Handle;
+use crate::open_registry::{OpenRegistry, open_registry};
 use crate::status::Status;
-use bcs_registry::Registry;
 use bcs_value::Limits;
 use std::alloc::Global;
 
-/// The registry's JSON, the format's, and the limits.
+/// The JSON of the registry and of the format, and the limits.
 #[repr(C)]
 #[derive(Clone, Copy)]
 pub struct Ask<'a> {
-    /// The JSON text of the registry.
+    /// The JSON of the registry.
     pub registry: &'a [u8],
-    /// The JSON text of the format.
+    /// The JSON of the format.
     pub format: &'a [u8],
-    /// How many containers may be open at once, at most 500.
+    /// The number of containers that may be open at once, at most 500.
     pub depth: u32,
-    /// How many nodes a value may have.
+    /// The number of nodes that a value may have.
     pub nodes: u32,
 }
 
-/// The same of a registry that is open.
+/// The same arguments for an open registry.
 #[repr(C)]
 #[derive(Clone, Copy)]
 pub struct HandleAsk<'a> {
-    /// The JSON text of the format.
+    /// The JSON of the format.
     pub format: &'a [u8],
-    /// How many containers may be open at once, at most 500.
+    /// The number of containers that may be open at once, at most 500.
     pub depth: u32,
-    /// How many nodes a value may have.
+    /// The number of nodes that a value may have.
     pub nodes: u32,
 }
 
 impl<'a> Ask<'a> {
-    /// What is asked for beside the registry.
+    /// The arguments besides the registry.
     pub(crate) fn rest(&self) -> HandleAsk<'a>
         ensures { result ≡ rest self.now }
     {
@@ -51,22 +52,64 @@ impl<'a> Ask<'a> {
     }
 }
 
-/// Reads what is asked for of a registry: the format, then the limits.
-pub(crate) fn read_ask<'a>(
-    alloc: Global,
-    registry: &'a Registry,
-    ask: &HandleAsk,
-) -> Result<Asked<'a>, Answer>
-    ensures ok { IfOk result (λ a. AsksFor (on_handle (Some registry.now) ask.now) a.registry.now a.limits (shape_of a.format)) }
-    ensures err { IfErr result (λ a. RefusesAsk (on_handle (Some registry.now) ask.now) a) }
+/// Parses the arguments: the registry, the format, then the limits.
+pub(crate) fn read_ask(alloc: Global, ask: &Ask) -> Result<Lent, Answer>
+    ensures ok { IfOk result (λ lent. AsksFor (by_texts ask.now) lent.opened.value lent.limits (shape_of lent.known.format)) }
+    ensures knows { IfOk result (λ lent. Knows lent.opened.value lent.known) }
+    ensures err { IfErr result (λ a. RefusesAsk (by_texts ask.now) a) }
 {
-    let format = read_format(alloc, registry, ask.format)?;
+    let opened = match open_registry(alloc, ask.registry) {
+        Ok(opened) => opened,
+        Err(fault) => return Err(Answer::registry_refusal(Status::Registry, fault)),
+    };
+    match lend(alloc, opened, &ask.rest()) {
+        Ok(lent) => Ok(lent),
+        Err(refused) => Err(refused.1),
+    }
+}
+
+/// Parses the arguments for an open registry: the format, then the limits. If one is refused, returns the registry.
+pub(crate) fn lend(
+    alloc: Global,
+    mut opened: Box<OpenRegistry>,
+    ask: &HandleAsk,
+) -> Result<Lent, (Box<OpenRegistry>, Answer)>
+    ensures ok { IfOk result (λ lent. AsksFor (on_handle (Some opened.value) ask.now) lent.opened.value lent.limits (shape_of lent.known.format)) }
+    ensures knows { IfOk result (λ lent. Knows lent.opened.value lent.known) }
+    ensures err { IfErr result (λ x. RefusesAsk (on_handle (Some opened.value) ask.now) x.1 × (x.0.value ≡ opened.value)) }
+{
+    let known = match opened.format(alloc, ask.format) {
+        Ok(known) => known,
+        Err(answer) => return Err((opened, answer)),
+    };
     match Limits::new(ask.depth, ask.nodes) {
-        Some(limits) => Ok(Asked {
-            registry,
-            format,
+        Some(limits) => Ok(Lent {
+            opened,
+            known,
             limits,
         }),
-        None => Err(Answer::plain(Status::Limits)),
+        None => {
+            opened.keep(known);
+            Err((opened, Answer::plain(Status::Limits)))
+        }
+    }
+}
+
+/// Takes the open registry out of a handle and parses the format, then the limits. If one is refused, the handle is
+/// unchanged.
+pub(crate) fn take_ask(alloc: Global, handle: &mut Handle, ask: &HandleAsk) -> Result<Lent, Answer>
+    ensures ok { IfOk result (λ lent. AsksFor (on_handle handle.old.registry ask.now) lent.opened.value lent.limits (shape_of lent.known.format)) }
+    ensures knows { IfOk result (λ lent. Knows lent.opened.value lent.known) }
+    ensures err { IfErr result (λ a. RefusesAsk (on_handle handle.old.registry ask.now) a × (handle.new.registry ≡ handle.old.registry)) }
+{
+    let Some(opened) = handle.take(alloc) else {
+        return Err(Answer::plain(Status::Closed));
+    };
+    match lend(alloc, opened, ask) {
+        Ok(lent) => Ok(lent),
+        Err(refused) => {
+            handle.put(refused.0);
+            Err(refused.1)
+        }
     }
 }

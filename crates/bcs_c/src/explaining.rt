@@ -1,22 +1,20 @@
 //! Bytes piece by piece, for C.
 ghost use Rattle.std.specs.Prelude.{◌≡◌, ◌≢◌};
-ghost use Rattle.std.specs.declared.option.Option.TheVariants.{Some};
-ghost use Rattle.bcs_c.specs.Asking.{AnswersIfAsked, by_texts, on_handle};
+ghost use Rattle.bcs_c.specs.Asking.{AnswersIfAsked, On, by_texts};
 ghost use Rattle.bcs_c.specs.Explained.{AnswersExplained, form_numbered};
 ghost use Rattle.bcs_c.specs.Statuses.{status_number};
 ghost use Rattle.bcs_c.specs.declared.status.Status.TheVariants.{Done};
 
 use crate::answer::Answer;
-use crate::ask::{Ask, HandleAsk, read_ask};
+use crate::ask::{Ask, read_ask};
+use crate::asked::Asked;
 use crate::output::put;
-use crate::registries::read_registry;
 use crate::status::Status;
 use bcs_display_pieces::explain_text;
 use bcs_display_text::style::{Form, Paint, Style};
-use bcs_registry::Registry;
 use std::alloc::Global;
 
-/// The input piece by piece, at the front of the output. Where it stops being a value, the answer tells so too.
+/// Writes the pieces of the input to the start of the output. The answer also reports where it stops being a value.
 #[unsafe(no_mangle)]
 pub extern "C" fn bcs_c_explain(
     alloc: Global,
@@ -28,28 +26,24 @@ pub extern "C" fn bcs_c_explain(
     ensures answers { AnswersIfAsked (by_texts ask.now) result (λ r l s. AnswersExplained r l s bytes.now out.old out.new result) }
     ensures untouched { result.status ≢ status_number Done → out.new ≡ out.old }
 {
-    match read_registry(alloc, ask.registry, Status::Registry) {
-        Ok(registry) => explanation(alloc, &registry, &ask.rest(), form, bytes, out),
-        Err(answer) => answer,
-    }
+    let lent = match read_ask(alloc, ask) {
+        Ok(lent) => lent,
+        Err(answer) => return answer,
+    };
+    explanation(alloc, &lent.asked(), form, bytes, out)
 }
 
-/// The input piece by piece, at the front of the output.
+/// Writes the pieces of the input to the start of the output.
 pub(crate) fn explanation(
     alloc: Global,
-    registry: &Registry,
-    ask: &HandleAsk,
+    asked: &Asked,
     form: u32,
     bytes: &[u8],
     out: &mut [u8],
 ) -> Answer
-    ensures answers { AnswersIfAsked (on_handle (Some registry.now) ask.now) result (λ r l s. AnswersExplained r l s bytes.now out.old out.new result) }
+    ensures answers { On asked.now (λ r l s. AnswersExplained r l s bytes.now out.old out.new result) }
     ensures untouched { result.status ≢ status_number Done → out.new ≡ out.old }
 {
-    let asked = match read_ask(alloc, registry, ask) {
-        Ok(asked) => asked,
-        Err(answer) => return answer,
-    };
     let style = Style {
         form: numbered_form(form),
         paint: Paint::Plain,
@@ -57,7 +51,7 @@ pub(crate) fn explanation(
     match explain_text(
         alloc,
         asked.registry,
-        &asked.format,
+        asked.format,
         &asked.limits,
         style,
         bytes,
@@ -67,7 +61,7 @@ pub(crate) fn explanation(
     }
 }
 
-/// The form of this number.
+/// The form with this number.
 fn numbered_form(form: u32) -> Form
     ensures { result ≡ form_numbered form }
 {

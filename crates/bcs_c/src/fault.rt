@@ -9,22 +9,30 @@ use bcs_registry_model::{GrowthFault, RegistryFault};
 /// Why something is refused. C sees its number.
 #[derive(Clone, Copy)]
 pub(crate) enum Fault {
-    /// A text is no registry, or no format of one.
+    /// A registry or a format is invalid.
     Registry(RegistryFault),
-    /// A registry doesn't grow to another.
+    /// A registry doesn't grow into another one.
     Growth(GrowthFault),
-    /// A text denotes no value.
+    /// A JSON document doesn't represent a value.
     Text(JsonFault),
-    /// Bytes are no value.
+    /// Bytes don't encode a value.
     Stop(Reason),
-    /// The text of bytes would nest more than 100 deep.
+    /// The JSON of a decoded value would nest more than 100 deep.
     ShownTooNested,
-    /// A path spells no steps.
+    /// A path is invalid.
     BadPath,
+    /// The format isn't the name of an enum with the requested variant.
+    ExampleUnknownVariant,
+    /// No value of the format is within the limits.
+    ExampleNoValue,
+    /// The example has too many nodes.
+    ExampleTooManyNodes,
+    /// The JSON of the example would nest more than 100 deep.
+    ExampleTooNested,
 }
 
 impl Fault {
-    /// The fault's number. Want of memory has none: it is a status.
+    /// The fault's number. Running out of memory has none: it is a status.
     pub(crate) fn number(self) -> u32
         ensures { result ≡ fault_number self }
     {
@@ -35,6 +43,10 @@ impl Fault {
             Fault::Stop(reason) => reason_number(reason),
             Fault::ShownTooNested => 501,
             Fault::BadPath => 601,
+            Fault::ExampleUnknownVariant => 701,
+            Fault::ExampleNoValue => 702,
+            Fault::ExampleTooManyNodes => 703,
+            Fault::ExampleTooNested => 704,
         }
     }
 
@@ -47,8 +59,11 @@ impl Fault {
             Fault::Growth(fault) => fault.name(),
             Fault::Text(fault) => fault.name(),
             Fault::Stop(reason) => reason.name(),
-            Fault::ShownTooNested => "TooNested",
+            Fault::ShownTooNested | Fault::ExampleTooNested => "TooNested",
             Fault::BadPath => "BadPath",
+            Fault::ExampleUnknownVariant => "UnknownVariant",
+            Fault::ExampleNoValue => "NoValue",
+            Fault::ExampleTooManyNodes => "TooManyNodes",
         }
     }
 }

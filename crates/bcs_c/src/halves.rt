@@ -1,13 +1,15 @@
-//! Lines of refusals in two: where something is refused, and what was wanted there.
+//! Splits the line of a refusal in two: where something is refused, and what was expected there.
 
 use std::alloc::Global;
 use std::str::from_utf8;
 
-// What asks for the words.
-const WANTED: u32 = 1;
+/// Requests the place.
+pub(crate) const WHERE: u32 = 0;
+/// Requests the message.
+pub(crate) const WANTED: u32 = 1;
 
-/// Of `at PLACE: FAULT: WORDS` the words, where the number asks for them, or else the place. Of any other line all of it.
-/// None: memory ran out.
+/// Returns the message of `at PLACE: FAULT: MESSAGE` if the number requests it, and otherwise the place. Returns any
+/// other line whole, and `None` if memory runs out.
 pub(crate) fn half_of<'a>(
     alloc: Global,
     what: u32,
@@ -18,7 +20,7 @@ pub(crate) fn half_of<'a>(
     Some(chosen(what, line, halves(line, mark.as_str())))
 }
 
-/// The same of `at WAY: REASON: wanted WHAT`.
+/// The same for `at PATH: REASON: wanted WHAT`.
 pub(crate) fn half_of_stop(what: u32, line: &[u8]) -> &[u8] {
     chosen(what, line, stop_halves(line))
 }

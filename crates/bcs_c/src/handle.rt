@@ -9,15 +9,16 @@ ghost use Rattle.bcs_registry.specs.Faults.{IsLeastFault};
 ghost use Rattle.bcs_registry_json.specs.Text.{WritesRegistry};
 ghost use Rattle.bcs_c.specs.Holding.{entries_coded, holds};
 
+use crate::open_registry::{OpenRegistry, open_registry};
 use crate::raw_box::RawBox;
-use bcs_registry::{Registry, RegistryFault};
+use bcs_registry::RegistryFault;
 use std::alloc::Global;
 use std::marker::Model;
 use std::mem::replace;
 use std::ptr::null_mut;
 
-/// A place of C's in which a registry is kept between calls. It is one pointer there, and null where no registry is
-/// open. A clause reads the registry that is open as `registry`.
+/// A variable of C that stores a registry between calls. It is one pointer, which is null if no registry is open.
+/// Contracts call the open registry `registry`.
 #[repr(C)]
 pub struct Handle {
     pointer: *mut u8,
@@ -30,7 +31,7 @@ impl Model for Handle {
 }
 
 impl Handle {
-    /// A handle with no registry.
+    /// A handle without a registry.
     pub fn closed(alloc: Global) -> Handle
         ensures { result.registry ≡ None }
     {
@@ -40,24 +41,19 @@ impl Handle {
         }
     }
 
-    /// Reads a registry and keeps it, in the place of one that was open. After a refusal the handle is as it was.
+    /// Parses a registry and stores it instead of the one that was open. After a refusal the handle is unchanged.
     pub fn open(&mut self, alloc: Global, text: &[u8]) -> Result<(), RegistryFault>
         ensures opened { IfOk result (λ _. (r : Entries) × (self.new.registry ≡ Some r)
             × WritesRegistry text.now r × IsWellFormed r × IsOrderly r) }
         ensures fault { IfErr result (λ e. e ≢ RegistryFault.OutOfMemory → IsLeastFault text.now e) }
         ensures kept { IfErr result (λ _. self.new ≡ self.old) }
     {
-        let registry = Registry::read(alloc, text)?;
-        match Box::new(alloc, registry) {
-            Ok(registry) => {
-                self.put(registry);
-                Ok(())
-            }
-            Err(_) => Err(RegistryFault::OutOfMemory),
-        }
+        let opened = open_registry(alloc, text)?;
+        self.put(opened);
+        Ok(())
     }
 
-    /// Lets the registry go, and gives its memory back. A handle with none stays as it is.
+    /// Closes the registry and frees its memory. Does nothing if none is open.
     pub fn close(&mut self, alloc: Global)
         ensures { self.new.registry ≡ None }
     {
@@ -65,21 +61,21 @@ impl Handle {
     }
 
     /// Takes the registry out, for a call that uses it and puts it back.
-    pub fn take(&mut self, alloc: Global) -> Option<Box<Registry>>
+    pub(crate) fn take(&mut self, alloc: Global) -> Option<Box<OpenRegistry>>
         ensures taken { option_map (λ b. b.value) result ≡ self.old.registry }
         ensures closed { self.new.registry ≡ None }
     {
         replace(self, Handle::closed(alloc)).into_box()
     }
 
-    /// Keeps a registry, in the place of one that was open.
-    pub fn put(&mut self, registry: Box<Registry>)
-        ensures { self.new.registry ≡ Some registry.value }
+    /// Stores a registry instead of the one that was open.
+    pub(crate) fn put(&mut self, opened: Box<OpenRegistry>)
+        ensures { self.new.registry ≡ Some opened.value }
     {
-        *self = Handle::of_raw(RawBox::of(registry));
+        *self = Handle::of_raw(RawBox::of(opened));
     }
 
-    fn into_box(self) -> Option<Box<Registry>>
+    fn into_box(self) -> Option<Box<OpenRegistry>>
         ensures { option_map (λ b. b.value) result ≡ self.registry }
     {
         match self.into_raw() {
@@ -88,7 +84,7 @@ impl Handle {
         }
     }
 
-    fn of_raw(raw: RawBox<Registry, Global>) -> Handle
+    fn of_raw(raw: RawBox<OpenRegistry, Global>) -> Handle
         ensures { result.registry ≡ Some raw.value }
     {
         let RawBox { pointer, alloc } = raw;
@@ -98,7 +94,7 @@ impl Handle {
         }
     }
 
-    fn into_raw(self) -> Option<RawBox<Registry, Global>>
+    fn into_raw(self) -> Option<RawBox<OpenRegistry, Global>>
         ensures { option_map (λ raw. raw.value) result ≡ self.registry }
     {
         let Handle { pointer, alloc } = self;
@@ -106,7 +102,7 @@ impl Handle {
             None
         } else {
             Some(RawBox {
-                pointer: pointer.cast::<Registry>(),
+                pointer: pointer.cast::<OpenRegistry>(),
                 alloc,
             })
         }
@@ -119,5 +115,5 @@ impl Drop for Handle {
     }
 }
 
-/// C may hand it to another thread.
+/// C may pass it to another thread.
 unsafe impl Send for Handle {}

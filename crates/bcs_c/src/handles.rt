@@ -1,4 +1,4 @@
-//! A registry that is open between calls, for C, and the calls on it.
+//! A registry that stays open between calls, for C, and the calls that use it.
 ghost use Rattle.std.specs.Prelude.{◌≡◌, ◌≢◌, ℕ};
 ghost use Rattle.std.specs.declared.option.Option.TheVariants.{None};
 ghost use Rattle.bcs_registry_model.specs.Container.{Entries, of};
@@ -24,10 +24,9 @@ ghost use Rattle.bcs_c.specs.declared.status.Status.TheVariants.{Done, Memory};
 
 use crate::Handle;
 use crate::answer::Answer;
-use crate::ask::HandleAsk;
-use crate::checking::soundness;
+use crate::ask::{HandleAsk, take_ask};
 use crate::explaining::explanation;
-use crate::parts::part_place;
+use crate::parts::path_place;
 use crate::places::{place_of_stop, text_place};
 use crate::scanning::value_length;
 use crate::showing::bytes_text;
@@ -35,7 +34,7 @@ use crate::status::Status;
 use crate::texts::{comparison, normal_text, text_bytes};
 use std::alloc::Global;
 
-/// Reads a registry and keeps it in the handle, in the place of one that was open.
+/// Parses a registry and stores it in the handle, instead of the one that was open.
 #[unsafe(no_mangle)]
 pub extern "C" fn bcs_c_open(alloc: Global, handle: &mut Handle, registry: &[u8]) -> Answer
     ensures answers { AnswersOpening registry.now handle.old.registry handle.new.registry result }
@@ -47,7 +46,7 @@ pub extern "C" fn bcs_c_open(alloc: Global, handle: &mut Handle, registry: &[u8]
     }
 }
 
-/// Lets the registry go that is open, if one is.
+/// Closes the open registry, if there is one.
 #[unsafe(no_mangle)]
 pub extern "C" fn bcs_c_close(alloc: Global, handle: &mut Handle)
     ensures { handle.new.registry ≡ None }
@@ -55,22 +54,22 @@ pub extern "C" fn bcs_c_close(alloc: Global, handle: &mut Handle)
     handle.close(alloc);
 }
 
-/// Whether the format and the limits are good.
+/// Checks the format and the limits.
 #[unsafe(no_mangle)]
 pub extern "C" fn bcs_c_handle_check(alloc: Global, handle: &mut Handle, ask: &HandleAsk) -> Answer
     ensures answers { AnswersIfAsked (on_handle handle.old.registry ask.now) result (λ r l s. result ≡ plain Done) }
     ensures good { Whatever (on_handle handle.old.registry ask.now) (λ r l s. IsUnlessMemory result (plain Done)) }
     ensures kept { handle.new.registry ≡ handle.old.registry }
 {
-    let Some(registry) = handle.take(alloc) else {
-        return Answer::plain(Status::Closed);
+    let lent = match take_ask(alloc, handle, ask) {
+        Ok(lent) => lent,
+        Err(answer) => return answer,
     };
-    let answer = soundness(alloc, &registry, ask);
-    handle.put(registry);
-    answer
+    handle.put(lent.back());
+    Answer::plain(Status::Done)
 }
 
-/// The bytes of the value that a JSON text denotes, at the front of the output.
+/// Writes the bytes of the value that a JSON document represents to the start of the output.
 #[unsafe(no_mangle)]
 pub extern "C" fn bcs_c_handle_to_bcs(
     alloc: Global,
@@ -83,15 +82,16 @@ pub extern "C" fn bcs_c_handle_to_bcs(
     ensures untouched { result.status ≢ status_number Done → out.new ≡ out.old }
     ensures kept { handle.new.registry ≡ handle.old.registry }
 {
-    let Some(registry) = handle.take(alloc) else {
-        return Answer::plain(Status::Closed);
+    let lent = match take_ask(alloc, handle, ask) {
+        Ok(lent) => lent,
+        Err(answer) => return answer,
     };
-    let answer = text_bytes(alloc, &registry, ask, text, out);
-    handle.put(registry);
+    let answer = text_bytes(alloc, &lent.asked(), text, out);
+    handle.put(lent.back());
     answer
 }
 
-/// The text of the value whose bytes are the whole input, at the front of the output.
+/// Writes the JSON of the value that the whole input encodes to the start of the output.
 #[unsafe(no_mangle)]
 pub extern "C" fn bcs_c_handle_from_bcs(
     alloc: Global,
@@ -104,15 +104,16 @@ pub extern "C" fn bcs_c_handle_from_bcs(
     ensures untouched { result.status ≢ status_number Done → out.new ≡ out.old }
     ensures kept { handle.new.registry ≡ handle.old.registry }
 {
-    let Some(registry) = handle.take(alloc) else {
-        return Answer::plain(Status::Closed);
+    let lent = match take_ask(alloc, handle, ask) {
+        Ok(lent) => lent,
+        Err(answer) => return answer,
     };
-    let answer = bytes_text(alloc, &registry, ask, bytes, out);
-    handle.put(registry);
+    let answer = bytes_text(alloc, &lent.asked(), bytes, out);
+    handle.put(lent.back());
     answer
 }
 
-/// The one normal text of what a JSON text denotes, at the front of the output.
+/// Writes the normal JSON of the value that a document represents to the start of the output.
 #[unsafe(no_mangle)]
 pub extern "C" fn bcs_c_handle_normalise(
     alloc: Global,
@@ -125,15 +126,16 @@ pub extern "C" fn bcs_c_handle_normalise(
     ensures untouched { result.status ≢ status_number Done → out.new ≡ out.old }
     ensures kept { handle.new.registry ≡ handle.old.registry }
 {
-    let Some(registry) = handle.take(alloc) else {
-        return Answer::plain(Status::Closed);
+    let lent = match take_ask(alloc, handle, ask) {
+        Ok(lent) => lent,
+        Err(answer) => return answer,
     };
-    let answer = normal_text(alloc, &registry, ask, text, out);
-    handle.put(registry);
+    let answer = normal_text(alloc, &lent.asked(), text, out);
+    handle.put(lent.back());
     answer
 }
 
-/// Whether two JSON texts denote equal values.
+/// Whether two JSON documents represent equal values.
 #[unsafe(no_mangle)]
 pub extern "C" fn bcs_c_handle_compare(
     alloc: Global,
@@ -145,15 +147,16 @@ pub extern "C" fn bcs_c_handle_compare(
     ensures answers { AnswersIfAsked (on_handle handle.old.registry ask.now) result (λ r l s. AnswersComparing r l s first.now second.now result) }
     ensures kept { handle.new.registry ≡ handle.old.registry }
 {
-    let Some(registry) = handle.take(alloc) else {
-        return Answer::plain(Status::Closed);
+    let lent = match take_ask(alloc, handle, ask) {
+        Ok(lent) => lent,
+        Err(answer) => return answer,
     };
-    let answer = comparison(alloc, &registry, ask, first, second);
-    handle.put(registry);
+    let answer = comparison(alloc, &lent.asked(), first, second);
+    handle.put(lent.back());
     answer
 }
 
-/// How many bytes the value at the front of the input has.
+/// Returns the length of the value at the start of the input.
 #[unsafe(no_mangle)]
 pub extern "C" fn bcs_c_handle_scan(
     alloc: Global,
@@ -168,15 +171,16 @@ pub extern "C" fn bcs_c_handle_scan(
         → IsUnlessMemory result (stop_at e o)) }
     ensures kept { handle.new.registry ≡ handle.old.registry }
 {
-    let Some(registry) = handle.take(alloc) else {
-        return Answer::plain(Status::Closed);
+    let lent = match take_ask(alloc, handle, ask) {
+        Ok(lent) => lent,
+        Err(answer) => return answer,
     };
-    let answer = value_length(alloc, &registry, ask, bytes);
-    handle.put(registry);
+    let answer = value_length(&lent.asked(), bytes);
+    handle.put(lent.back());
     answer
 }
 
-/// Where the part of the value at the front of the input stands to which the path leads.
+/// Finds the part that the path leads to, of the value at the start of the input.
 #[unsafe(no_mangle)]
 pub extern "C" fn bcs_c_handle_part(
     alloc: Global,
@@ -192,15 +196,16 @@ pub extern "C" fn bcs_c_handle_part(
         → Stops r l s bytes.now e o → IsUnlessMemory result (stop_at e o)) }
     ensures kept { handle.new.registry ≡ handle.old.registry }
 {
-    let Some(registry) = handle.take(alloc) else {
-        return Answer::plain(Status::Closed);
+    let lent = match take_ask(alloc, handle, ask) {
+        Ok(lent) => lent,
+        Err(answer) => return answer,
     };
-    let answer = part_place(alloc, &registry, ask, bytes, path);
-    handle.put(registry);
+    let answer = path_place(alloc, &lent.asked(), bytes, path);
+    handle.put(lent.back());
     answer
 }
 
-/// The input piece by piece, at the front of the output. Where it stops being a value, the answer tells so too.
+/// Writes the pieces of the input to the start of the output. The answer also reports where it stops being a value.
 #[unsafe(no_mangle)]
 pub extern "C" fn bcs_c_handle_explain(
     alloc: Global,
@@ -214,15 +219,16 @@ pub extern "C" fn bcs_c_handle_explain(
     ensures untouched { result.status ≢ status_number Done → out.new ≡ out.old }
     ensures kept { handle.new.registry ≡ handle.old.registry }
 {
-    let Some(registry) = handle.take(alloc) else {
-        return Answer::plain(Status::Closed);
+    let lent = match take_ask(alloc, handle, ask) {
+        Ok(lent) => lent,
+        Err(answer) => return answer,
     };
-    let answer = explanation(alloc, &registry, ask, form, bytes, out);
-    handle.put(registry);
+    let answer = explanation(alloc, &lent.asked(), form, bytes, out);
+    handle.put(lent.back());
     answer
 }
 
-/// Where a JSON text is refused, or what was wanted there, at the front of the output.
+/// Writes where a document is refused, or what was expected there, to the start of the output.
 #[unsafe(no_mangle)]
 pub extern "C" fn bcs_c_handle_text_place(
     alloc: Global,
@@ -236,15 +242,16 @@ pub extern "C" fn bcs_c_handle_text_place(
     ensures untouched { result.status ≢ status_number Done → out.new ≡ out.old }
     ensures kept { handle.new.registry ≡ handle.old.registry }
 {
-    let Some(registry) = handle.take(alloc) else {
-        return Answer::plain(Status::Closed);
+    let lent = match take_ask(alloc, handle, ask) {
+        Ok(lent) => lent,
+        Err(answer) => return answer,
     };
-    let answer = text_place(alloc, &registry, ask, what, text, out);
-    handle.put(registry);
+    let answer = text_place(alloc, &lent.asked(), what, text, out);
+    handle.put(lent.back());
     answer
 }
 
-/// The way to where bytes stop being a value, or what was wanted there, at the front of the output.
+/// Writes the field path to where bytes stop being a value, or what was expected there, to the start of the output.
 #[unsafe(no_mangle)]
 pub extern "C" fn bcs_c_handle_stop_place(
     alloc: Global,
@@ -258,10 +265,11 @@ pub extern "C" fn bcs_c_handle_stop_place(
     ensures untouched { result.status ≢ status_number Done → out.new ≡ out.old }
     ensures kept { handle.new.registry ≡ handle.old.registry }
 {
-    let Some(registry) = handle.take(alloc) else {
-        return Answer::plain(Status::Closed);
+    let lent = match take_ask(alloc, handle, ask) {
+        Ok(lent) => lent,
+        Err(answer) => return answer,
     };
-    let answer = place_of_stop(alloc, &registry, ask, what, bytes, out);
-    handle.put(registry);
+    let answer = place_of_stop(alloc, &lent.asked(), what, bytes, out);
+    handle.put(lent.back());
     answer
 }

@@ -1,26 +1,33 @@
-//! The calls over JSON texts and bytes, for C: a static library.
+//! The calls over JSON and bytes, for C: a static library.
 #![tactic(auto)]
 
 mod answer;
 mod ask;
 mod asked;
 mod checking;
+mod documents;
 mod explaining;
 mod fault;
+mod growing;
 mod halves;
 mod handle;
 mod handles;
+mod known;
 mod naming;
 mod numbered;
+mod open_registry;
 mod output;
 mod parts;
 mod places;
 mod pointers;
 mod raw_box;
 mod registries;
+mod registry_showing;
 mod scanning;
 mod showing;
 mod status;
 mod texts;
+mod whole_refusals;
+mod word_places;
 
 pub use handle::Handle;

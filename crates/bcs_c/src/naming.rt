@@ -9,7 +9,7 @@ use crate::numbered::fault_numbered;
 use crate::output::put;
 use crate::status::Status;
 
-/// The name of the fault that has this number, at the front of the output.
+/// Writes the name of the fault with this number to the start of the output.
 #[unsafe(no_mangle)]
 pub extern "C" fn bcs_c_fault_name(fault: u32, out: &mut [u8]) -> Answer
     ensures answers { AnswersName fault out.old out.new result }

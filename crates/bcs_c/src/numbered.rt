@@ -1,4 +1,4 @@
-//! Which fault a number is of.
+//! The fault that a number stands for.
 ghost use Rattle.std.specs.Prelude.{◌≡◌, IfNone, IfSome};
 ghost use Rattle.bcs_registry_model.specs.declared.fault.RegistryFault.{RegistryFault};
 ghost use Rattle.bcs_registry_model.specs.declared.growth_fault.GrowthFault.{GrowthFault};
@@ -13,7 +13,7 @@ use bcs_decode_spec::Reason;
 use bcs_json_spec::JsonFault;
 use bcs_registry_model::{GrowthFault, RegistryFault};
 
-/// The fault of this number. None exactly where no fault has it.
+/// The fault with this number, or `None` exactly if there is none.
 pub(crate) fn fault_numbered(number: u32) -> Option<Fault>
     ensures some { IfSome result (λ fault. IsNumbered fault number) }
     ensures none { IfNone result ((fault : Fault) → IsNumbered fault number → ⊥) }
@@ -33,6 +33,10 @@ pub(crate) fn fault_numbered(number: u32) -> Option<Fault>
     match number {
         501 => Some(Fault::ShownTooNested),
         601 => Some(Fault::BadPath),
+        701 => Some(Fault::ExampleUnknownVariant),
+        702 => Some(Fault::ExampleNoValue),
+        703 => Some(Fault::ExampleTooManyNodes),
+        704 => Some(Fault::ExampleTooNested),
         _ => None,
     }
 }

@@ -7,7 +7,7 @@ ghost use Rattle.bcs_c.specs.declared.status.Status.TheVariants.{Done};
 use crate::answer::Answer;
 use crate::status::Status;
 
-/// Puts the bytes to the caller, at the front of its output.
+/// Copies the bytes to the start of the caller's output.
 pub(crate) fn put(bytes: &[u8], out: &mut [u8]) -> Answer
     ensures puts { Puts bytes.now out.old out.new result }
     ensures untouched { result.status ≢ status_number Done → out.new ≡ out.old }

@@ -10,22 +10,20 @@ ghost use Rattle.bcs_decode_parts.specs.Parts.{part_at};
 ghost use Rattle.bcs_decode_parts.specs.Steps.{step_of};
 ghost use Rattle.bcs_decode_parts.specs.PathSteps.{all_spelled};
 ghost use Rattle.bcs_c.specs.Answers.{plain, stop_at};
-ghost use Rattle.bcs_c.specs.Asking.{AnswersIfAsked, IsUnlessMemory, On, Whatever, by_texts, on_handle};
+ghost use Rattle.bcs_c.specs.Asking.{AnswersIfAsked, IsUnlessMemory, On, Whatever, by_texts};
 ghost use Rattle.bcs_c.specs.Parts.{AnswersPart, AnswersSteps, Finds, IsPath, RefusesPath, Steps};
 ghost use Rattle.bcs_c.specs.declared.status.Status.TheVariants.{Memory};
 
 use crate::answer::Answer;
-use crate::ask::{Ask, HandleAsk, read_ask};
+use crate::ask::{Ask, read_ask};
 use crate::asked::Asked;
 use crate::fault::Fault;
-use crate::registries::read_registry;
 use crate::status::Status;
 use bcs_decode::{Step, part};
 use bcs_decode_parts::{PathFault, PathStep, read_path, steps_of};
-use bcs_registry::Registry;
 use std::alloc::Global;
 
-/// Where the part of the value at the front of the input stands to which the path leads.
+/// Finds the part that the path leads to, of the value at the start of the input.
 #[unsafe(no_mangle)]
 pub extern "C" fn bcs_c_part(alloc: Global, ask: &Ask, bytes: &[u8], path: &[u8]) -> Answer
     ensures answers { AnswersIfAsked (by_texts ask.now) result (λ r l s. AnswersPart r l s bytes.now path.now result) }
@@ -34,35 +32,15 @@ pub extern "C" fn bcs_c_part(alloc: Global, ask: &Ask, bytes: &[u8], path: &[u8]
     ensures stopped { Whatever (by_texts ask.now) (λ r l s. (steps : Steps) (e : Reason) (o : ℕ) → IsPath path.now steps → Stops r l s bytes.now e o
         → IsUnlessMemory result (stop_at e o)) }
 {
-    match read_registry(alloc, ask.registry, Status::Registry) {
-        Ok(registry) => part_place(alloc, &registry, &ask.rest(), bytes, path),
-        Err(answer) => answer,
-    }
-}
-
-/// Where the part of the value at the front of the input stands to which the path leads.
-pub(crate) fn part_place(
-    alloc: Global,
-    registry: &Registry,
-    ask: &HandleAsk,
-    bytes: &[u8],
-    path: &[u8],
-) -> Answer
-    ensures answers { AnswersIfAsked (on_handle (Some registry.now) ask.now) result (λ r l s. AnswersPart r l s bytes.now path.now result) }
-    ensures only { Whatever (on_handle (Some registry.now) ask.now) (λ r l s. (steps : Steps) (n : ℕ) (c : Tree) → IsPath path.now steps → Accepts r l s bytes.now n c
-        → result ≢ plain Memory → Finds r bytes.now (part_at r steps (of s) c) result) }
-    ensures stopped { Whatever (on_handle (Some registry.now) ask.now) (λ r l s. (steps : Steps) (e : Reason) (o : ℕ) → IsPath path.now steps → Stops r l s bytes.now e o
-        → IsUnlessMemory result (stop_at e o)) }
-{
-    let asked = match read_ask(alloc, registry, ask) {
-        Ok(asked) => asked,
+    let lent = match read_ask(alloc, ask) {
+        Ok(lent) => lent,
         Err(answer) => return answer,
     };
-    path_place(alloc, &asked, bytes, path)
+    path_place(alloc, &lent.asked(), bytes, path)
 }
 
-/// Where the part of the value at the front of the input stands to which the path leads.
-fn path_place(alloc: Global, asked: &Asked, bytes: &[u8], path: &[u8]) -> Answer
+/// Finds the part that the path leads to, of the value at the start of the input.
+pub(crate) fn path_place(alloc: Global, asked: &Asked, bytes: &[u8], path: &[u8]) -> Answer
     ensures answers { On asked.now (λ r l s. AnswersPart r l s bytes.now path.now result) }
     ensures only { On asked.now (λ r l s. (steps : Steps) (n : ℕ) (c : Tree) → IsPath path.now steps → Accepts r l s bytes.now n c
         → result ≢ plain Memory → Finds r bytes.now (part_at r steps (of s) c) result) }
@@ -79,7 +57,7 @@ fn path_place(alloc: Global, asked: &Asked, bytes: &[u8], path: &[u8]) -> Answer
     }
 }
 
-/// The steps that a path spells, or its refusal.
+/// The steps of a path, or its refusal.
 fn read_steps(alloc: Global, path: &[u8]) -> Result<Vec<PathStep>, Answer>
     ensures ok { IfOk result (λ steps. IsPath path.now (all_spelled steps.items)) }
     ensures err { IfErr result (λ a. RefusesPath path.now a) }
@@ -94,11 +72,11 @@ fn read_steps(alloc: Global, path: &[u8]) -> Result<Vec<PathStep>, Answer>
     }
 }
 
-/// Where the part of the value at the front of the input stands to which the steps lead.
+/// Finds the part that the steps lead to, of the value at the start of the input.
 fn step_place(asked: &Asked, bytes: &[u8], steps: &[Step]) -> Answer
     ensures { On asked.now (λ r l s. AnswersSteps r l s bytes.now (map step_of steps.now) result) }
 {
-    match part(asked.registry, &asked.format, &asked.limits, bytes, steps) {
+    match part(asked.registry, asked.format, &asked.limits, bytes, steps) {
         Ok(Some(found)) => Answer::placed(found.place, found.bytes.len()),
         Ok(None) => Answer::plain(Status::No),
         Err(stop) => Answer::stopped(stop),

@@ -1,28 +1,28 @@
 //! Where something is refused, for C.
 ghost use Rattle.std.specs.Prelude.{◌≡◌, ◌≢◌, IfSome};
 ghost use Rattle.std.specs.declared.option.Option.TheVariants.{Some};
-ghost use Rattle.bcs_json_spec.specs.Texts.{RefusesText};
+ghost use Rattle.bcs_json_spec.specs.declared.json_fault.JsonFault.TheVariants.{OutOfMemory};
+ghost use Rattle.bcs_json.specs.Refusing.{IsRefusedAs};
 ghost use Rattle.bcs_registry_model.specs.View.{shape_of};
-ghost use Rattle.bcs_c.specs.Asking.{AnswersIfAsked, by_texts, on_handle};
+ghost use Rattle.bcs_c.specs.Asking.{AnswersIfAsked, On, by_texts};
 ghost use Rattle.bcs_c.specs.Places.{AnswersRegistryPlace, AnswersStopPlace, AnswersTextPlace, IsWhere, is_of_whole};
 ghost use Rattle.bcs_c.specs.Statuses.{status_number};
 ghost use Rattle.bcs_c.specs.declared.status.Status.TheVariants.{Done};
 
 use crate::answer::Answer;
-use crate::ask::{Ask, HandleAsk, read_ask};
+use crate::ask::{Ask, read_ask};
 use crate::asked::Asked;
 use crate::halves::{half_of, half_of_stop};
 use crate::output::put;
 use crate::pointers::pointer_of;
-use crate::registries::read_registry;
 use crate::status::Status;
-use bcs_display_errors::{registry_line, text_line};
+use bcs_display_errors::{refusal_line, registry_line};
 use bcs_display_pieces::stop_place;
-use bcs_json::{JsonFault, fault_place, read_value};
+use bcs_json::{JsonFault, TextRefusal, read_value_or_refusal};
 use bcs_registry::{Registry, RegistryFault};
 use std::alloc::{AllocError, Global};
 
-/// Where a JSON text is refused, or what was wanted there, at the front of the output.
+/// Writes where a document is refused, or what was expected there, to the start of the output.
 #[unsafe(no_mangle)]
 pub extern "C" fn bcs_c_text_place(
     alloc: Global,
@@ -34,63 +34,68 @@ pub extern "C" fn bcs_c_text_place(
     ensures answers { AnswersIfAsked (by_texts ask.now) result (λ r l s. AnswersTextPlace r l s what text.now out.old out.new result) }
     ensures untouched { result.status ≢ status_number Done → out.new ≡ out.old }
 {
-    match read_registry(alloc, ask.registry, Status::Registry) {
-        Ok(registry) => text_place(alloc, &registry, &ask.rest(), what, text, out),
-        Err(answer) => answer,
-    }
+    let lent = match read_ask(alloc, ask) {
+        Ok(lent) => lent,
+        Err(answer) => return answer,
+    };
+    text_place(alloc, &lent.asked(), what, text, out)
 }
 
-/// Where a JSON text is refused, or what was wanted there, at the front of the output.
+/// Writes where a document is refused, or what was expected there, to the start of the output.
 pub(crate) fn text_place(
     alloc: Global,
-    registry: &Registry,
-    ask: &HandleAsk,
+    asked: &Asked,
     what: u32,
     text: &[u8],
     out: &mut [u8],
 ) -> Answer
-    ensures answers { AnswersIfAsked (on_handle (Some registry.now) ask.now) result (λ r l s. AnswersTextPlace r l s what text.now out.old out.new result) }
+    ensures answers { On asked.now (λ r l s. AnswersTextPlace r l s what text.now out.old out.new result) }
     ensures untouched { result.status ≢ status_number Done → out.new ≡ out.old }
 {
-    let asked = match read_ask(alloc, registry, ask) {
-        Ok(asked) => asked,
-        Err(answer) => return answer,
-    };
-    let fault = match read_value(alloc, asked.registry, &asked.format, &asked.limits, text) {
+    let refusal = match read_value_or_refusal(
+        alloc,
+        asked.registry,
+        asked.format,
+        &asked.limits,
+        text,
+    ) {
         Ok(_) => return Answer::plain(Status::No),
-        Err(fault) => fault,
+        Err(refusal) => refusal,
     };
-    if fault == JsonFault::OutOfMemory {
+    if refusal.fault == JsonFault::OutOfMemory {
         return Answer::plain(Status::Memory);
     }
-    match told_of_text(alloc, &asked, what, text, fault) {
+    match told_of_text(alloc, asked, what, text, &refusal) {
         Some(told) => put(&told, out),
         None => Answer::plain(Status::Memory),
     }
 }
 
-/// What is told of a text that is refused with this fault. None: memory ran out.
-fn told_of_text(
+/// Where a refused document is refused, or with 1 what was expected there. `None` if an allocation fails.
+pub(crate) fn told_of_text(
     alloc: Global,
     asked: &Asked,
     what: u32,
     text: &[u8],
-    fault: JsonFault,
+    refusal: &TextRefusal,
 ) -> Option<Vec<u8>>
-    ensures { IfSome result (λ told. what ≢ 1 → RefusesText asked.now.registry.now asked.now.limits (shape_of asked.now.format) text.now fault
-        → IsWhere asked.now.registry.now asked.now.limits (shape_of asked.now.format) text.now told.items) }
+    ensures { IfSome result (λ told. what ≢ 1 → refusal.now.fault ≢ OutOfMemory
+        → IsRefusedAs asked.now.registry.now asked.now.limits (shape_of asked.now.format.now) text.now refusal.now
+        → IsWhere asked.now.registry.now asked.now.limits (shape_of asked.now.format.now) text.now told.items) }
 {
     if what == 1 {
-        words_of_text(alloc, asked, text, fault)
-    } else if has_no_way(fault) {
-        Some(Vec::new(alloc))
-    } else {
-        let (_, steps) = fault_place(alloc, asked.registry, &asked.format, &asked.limits, text)?;
-        pointer_of(alloc, &steps).ok()
+        return words_of_text(alloc, asked, text, refusal);
+    }
+    if has_no_way(refusal.fault) {
+        return Some(Vec::new(alloc));
+    }
+    match &refusal.steps {
+        Some(steps) => pointer_of(alloc, steps).ok(),
+        None => None,
     }
 }
 
-/// Whether a text is refused as a whole with this fault.
+/// Whether this fault refuses a document as a whole.
 fn has_no_way(fault: JsonFault) -> bool
     ensures { result ≡ is_of_whole fault }
 {
@@ -104,10 +109,16 @@ fn has_no_way(fault: JsonFault) -> bool
     )
 }
 
-// What was wanted of a text that is refused. Of one that is no JSON, the line and the column stand before it.
-fn words_of_text(alloc: Global, asked: &Asked, text: &[u8], fault: JsonFault) -> Option<Vec<u8>> {
-    let (registry, format) = (asked.registry, &asked.format);
-    let line = text_line(alloc, registry, format, &asked.limits, text, fault)?;
+// What was expected in a refused document. If it isn't JSON, the line and the column come first.
+fn words_of_text(
+    alloc: Global,
+    asked: &Asked,
+    text: &[u8],
+    refusal: &TextRefusal,
+) -> Option<Vec<u8>> {
+    let (registry, format) = (asked.registry, asked.format);
+    let line = refusal_line(alloc, registry, format, &asked.limits, text, refusal)?;
+    let fault = refusal.fault;
     let words = half_of(alloc, 1, &line, fault.name())?;
     if fault != JsonFault::NotJson {
         return Vec::from_slice(alloc, words).ok();
@@ -118,7 +129,7 @@ fn words_of_text(alloc: Global, asked: &Asked, text: &[u8], fault: JsonFault) ->
     Some(told)
 }
 
-/// The way to where bytes stop being a value, or what was wanted there, at the front of the output.
+/// Writes the field path to where bytes stop being a value, or what was expected there, to the start of the output.
 #[unsafe(no_mangle)]
 pub extern "C" fn bcs_c_stop_place(
     alloc: Global,
@@ -130,36 +141,32 @@ pub extern "C" fn bcs_c_stop_place(
     ensures answers { AnswersIfAsked (by_texts ask.now) result (λ r l s. AnswersStopPlace r l s bytes.now out.old out.new result) }
     ensures untouched { result.status ≢ status_number Done → out.new ≡ out.old }
 {
-    match read_registry(alloc, ask.registry, Status::Registry) {
-        Ok(registry) => place_of_stop(alloc, &registry, &ask.rest(), what, bytes, out),
-        Err(answer) => answer,
-    }
+    let lent = match read_ask(alloc, ask) {
+        Ok(lent) => lent,
+        Err(answer) => return answer,
+    };
+    place_of_stop(alloc, &lent.asked(), what, bytes, out)
 }
 
-/// The way to where bytes stop being a value, or what was wanted there, at the front of the output.
+/// Writes the field path to where bytes stop being a value, or what was expected there, to the start of the output.
 pub(crate) fn place_of_stop(
     alloc: Global,
-    registry: &Registry,
-    ask: &HandleAsk,
+    asked: &Asked,
     what: u32,
     bytes: &[u8],
     out: &mut [u8],
 ) -> Answer
-    ensures answers { AnswersIfAsked (on_handle (Some registry.now) ask.now) result (λ r l s. AnswersStopPlace r l s bytes.now out.old out.new result) }
+    ensures answers { On asked.now (λ r l s. AnswersStopPlace r l s bytes.now out.old out.new result) }
     ensures untouched { result.status ≢ status_number Done → out.new ≡ out.old }
 {
-    let asked = match read_ask(alloc, registry, ask) {
-        Ok(asked) => asked,
-        Err(answer) => return answer,
-    };
-    match stop_place(alloc, asked.registry, &asked.format, &asked.limits, bytes) {
+    match stop_place(alloc, asked.registry, asked.format, &asked.limits, bytes) {
         Ok(Some(line)) => put(half_of_stop(what, &line), out),
         Ok(None) => Answer::plain(Status::No),
         Err(AllocError) => Answer::plain(Status::Memory),
     }
 }
 
-/// Where the text of a registry is refused, or what was wanted there, at the front of the output.
+/// Writes where the JSON of a registry is refused, or what was expected there, to the start of the output.
 #[unsafe(no_mangle)]
 pub extern "C" fn bcs_c_registry_place(
     alloc: Global,
@@ -183,7 +190,7 @@ pub extern "C" fn bcs_c_registry_place(
     }
 }
 
-// What is told of a registry's text that is refused with this fault.
+// What is reported about a registry that is refused with this fault.
 fn told_of_registry(
     alloc: Global,
     what: u32,

@@ -7,7 +7,7 @@ use bcs_display_text::columns::put_decimal;
 use bcs_json_spec::JsonStep;
 use std::alloc::{AllocError, Global};
 
-/// The steps down to JSON, as a JSON Pointer.
+/// The JSON Pointer with these steps.
 pub(crate) fn pointer_of(alloc: Global, steps: &[JsonStep]) -> Result<Vec<u8>, AllocError>
     ensures { IfOk result (λ text. text.items ≡ pointer (map pointer_step_of steps.now)) }
 {

@@ -1,11 +1,11 @@
-//! A box as its pointer.
+//! A box as a raw pointer.
 ghost use Rattle.std.specs.Prelude.{◌≡◌};
 ghost use Rattle.std.specs.Box.Ownership.{box_owns};
 
 use std::alloc::Allocator;
 use std::marker::Model;
 
-/// What a box is made of. It owns what the box owned.
+/// The pointer and the allocator of a box. It owns what the box owned.
 pub(crate) struct RawBox<T, A: Allocator> {
     pub(crate) pointer: *mut T,
     pub(crate) alloc: A,

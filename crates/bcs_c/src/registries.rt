@@ -2,21 +2,22 @@
 ghost use Rattle.std.specs.Prelude.{◌≡◌, IfErr, IfOk};
 ghost use Rattle.bcs_registry_model.specs.Container.{Entries};
 ghost use Rattle.bcs_registry_model.specs.Grows.{Grows, IsFirstGrowthFault};
-ghost use Rattle.bcs_registry_model.specs.View.{shape_of};
 ghost use Rattle.bcs_registry_model.specs.declared.growth_fault.GrowthFault.{GrowthFault};
 ghost use Rattle.bcs_c.specs.Answers.{plain, refusal};
 ghost use Rattle.bcs_c.specs.Asking.{IsUnlessMemory};
-ghost use Rattle.bcs_c.specs.Registries.{AnswersGrowth, AnswersTwo, IsFormat, IsRegistry, RefusesFormat, RefusesRegistry};
+ghost use Rattle.bcs_c.specs.Keeping.{Knows};
+ghost use Rattle.bcs_c.specs.Registries.{AnswersGrowth, AnswersTwo, IsRegistry, RefusesFormat, RefusesRegistry};
 ghost use Rattle.bcs_c.specs.declared.fault.Fault.TheVariants.{Growth};
 ghost use Rattle.bcs_c.specs.declared.status.Status.TheVariants.{Done, Refused};
 
 use crate::answer::Answer;
 use crate::fault::Fault;
+use crate::known::Known;
 use crate::status::Status;
-use bcs_registry::{Format, Registry};
+use bcs_registry::Registry;
 use std::alloc::Global;
 
-/// The registry that a text writes down, or its refusal with this status.
+/// The registry that a JSON document represents, or its refusal with this status.
 pub(crate) fn read_registry(alloc: Global, text: &[u8], status: Status) -> Result<Registry, Answer>
     ensures ok { IfOk result (λ r. IsRegistry text.now r) }
     ensures err { IfErr result (λ a. RefusesRegistry text.now status a) }
@@ -27,18 +28,22 @@ pub(crate) fn read_registry(alloc: Global, text: &[u8], status: Status) -> Resul
     }
 }
 
-/// The format of the registry that a text writes down, or its refusal.
-pub(crate) fn read_format(alloc: Global, registry: &Registry, text: &[u8]) -> Result<Format, Answer>
-    ensures ok { IfOk result (λ f. IsFormat registry.now text.now (shape_of f)) }
+/// The format that JSON represents, with the JSON, or its refusal.
+pub(crate) fn read_known(alloc: Global, registry: &Registry, text: &[u8]) -> Result<Known, Answer>
+    ensures ok { IfOk result (λ known. Knows registry.now known × (known.text.items ≡ text.now)) }
     ensures err { IfErr result (λ a. RefusesFormat registry.now text.now a) }
 {
-    match registry.read_format(alloc, text) {
-        Ok(format) => Ok(format),
-        Err(fault) => Err(Answer::registry_refusal(Status::Format, fault)),
+    let format = match registry.read_format(alloc, text) {
+        Ok(format) => format,
+        Err(fault) => return Err(Answer::registry_refusal(Status::Format, fault)),
+    };
+    match Vec::from_slice(alloc, text) {
+        Ok(text) => Ok(Known { text, format }),
+        Err(_) => Err(Answer::plain(Status::Memory)),
     }
 }
 
-/// Whether the newer registry is the older one grown. The older one is read first.
+/// Whether the older registry grows into the newer one. The older one is read first.
 #[unsafe(no_mangle)]
 pub extern "C" fn bcs_c_grows(alloc: Global, older: &[u8], newer: &[u8]) -> Answer
     ensures answers { AnswersTwo older.now newer.now result }
@@ -57,7 +62,7 @@ pub extern "C" fn bcs_c_grows(alloc: Global, older: &[u8], newer: &[u8]) -> Answ
     growth(&older, &newer)
 }
 
-/// Whether the newer registry is the older one grown.
+/// Whether the older registry grows into the newer one.
 pub(crate) fn growth(older: &Registry, newer: &Registry) -> Answer
     ensures answers { AnswersGrowth older.now newer.now result }
     ensures grown { Grows older.now newer.now → result ≡ plain Done }

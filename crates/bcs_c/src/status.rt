@@ -5,11 +5,11 @@ ghost use Rattle.bcs_c.specs.Statuses.{status_number};
 /// How a call went. C sees its number.
 #[derive(Clone, Copy)]
 pub(crate) enum Status {
-    /// It is done, or the answer is yes.
+    /// Done, or the answer is yes.
     Done,
     /// The output is too short.
     Short,
-    /// The registry is refused; of two, the older one.
+    /// The registry is refused, or the older one of two.
     Registry,
     /// The format is refused.
     Format,
@@ -21,9 +21,9 @@ pub(crate) enum Status {
     Memory,
     /// The answer is no.
     No,
-    /// The path is none.
+    /// The path is invalid.
     Path,
-    /// Of two registries the newer one is refused.
+    /// The newer one of two registries is refused.
     Newer,
     /// No registry is open.
     Closed,

@@ -1,5 +1,5 @@
-//! Binary Canonical Serialization (BCS) over serde-reflection registries: the one library to depend on. It hands on the
-//! public types, calls, limits and faults of all layers, and has none of its own.
+//! Binary Canonical Serialization (BCS) for serde-reflection registries: the one crate to depend on. It re-exports the
+//! public types, functions, limits and faults of the crates below, and defines none of its own.
 #![tactic(auto)]
 
 pub use bcs_decode::{
@@ -23,8 +23,9 @@ pub use bcs_io::{
     ByteSink, ByteSource, ReadSource, SinkFailed, SliceSource, SourceFailed, WriteSink, pieces,
 };
 pub use bcs_json::{
-    FromFault, JsonFault, JsonStep, PrintFault, Shown, compare, fault_place, from_bcs, normalise,
-    print_value, read_value, to_bcs,
+    FromFault, JsonFault, JsonStep, PrintFault, Shown, TextRefusal, compare, fault_place, from_bcs,
+    normalise, normalise_or_refusal, print_value, read_value, read_value_or_refusal, to_bcs,
+    to_bcs_or_refusal,
 };
 pub use bcs_num::{NumFault, Width};
 pub use bcs_registry::{

@@ -1,4 +1,4 @@
--- From what is seen of told bytes to what is promised.
+-- From results about known bytes to the contracts.
 use Rattle.bcs_decode.proofs.Prelude.{◌≡◌, ◌<◌, ℕ, suc, List, [], ◌∷◌, inr, subst, sym, length-drop, length, drop, Option, Some, None, Ok, Err, refl, ap, ap₂, ◌∙◌, arith, Consumes, IsAtEnd, Shape, Entries, Bounds, TrailingBytes, DecodeFault, Stop, Read, OutOfMemory, Accepts, skip_value, StopsAll, is_decoded, no_encoding_stops, skips_accepts, skips_stops, skip, Progress, rest_of, FindsFault, Along, Halts, Found, ScansFrom, ScansAll}
 use Rattle.bcs_decode_spec.specs.Reading as Reading
 use Rattle.bcs_decode.proofs.Wholes as whole
@@ -24,7 +24,7 @@ module _ (registry : Entries) (limits : Bounds) (s : Shape) where
   stopped (Some b) d Read p q place nodes h k = gave b d p place k
   stopped (Some b) d OutOfMemory p q place nodes h k = gave b d p place k
 
-  -- the source had failed before
+  -- the source had already failed
   pub lost_at_once : (c : Option (List ℕ)) → ScansFrom registry limits s c c (Err Read)
   lost_at_once None = tt
   lost_at_once (Some b) = (0, omega arith, refl)
@@ -35,7 +35,7 @@ module _ (registry : Entries) (limits : Bounds) (s : Shape) where
   all_stop (Some b) d Read h = h
   all_stop (Some b) d OutOfMemory h = h
 
-  -- the content ends where the value does
+  -- the content ends with the value
   all_value : (c d e : Option (List ℕ)) (n : ℕ) → ScansFrom registry limits s c d (Ok n) → Consumes d e [] → IsAtEnd e → ScansAll registry limits s c e (Ok n)
   all_value None d e n h k at = tt
   all_value (Some b) None e n h k at = absurd (let w = h.0 in cc)
@@ -49,14 +49,14 @@ module _ (registry : Entries) (limits : Bounds) (s : Shape) where
   all_by c d e n [] len h k at = all_value c d e n h k at
   all_by c d e n (x ∷ bs) len h k at = absurd (omega (arith, len))
 
-  -- the source fails there
+  -- the source fails after the value
   pub all_lost : (c d e : Option (List ℕ)) (n : ℕ) → ScansFrom registry limits s c d (Ok n) → Consumes d e [] → ScansAll registry limits s c e (Err Read)
   all_lost None d e n h k = tt
   all_lost (Some b) None e n h k = absurd (let none = h.0 in cc)
   all_lost (Some b) (Some x) None n h k = absurd k
   all_lost (Some b) (Some x) (Some y) n h k = (n, h.1, ap Some (sym k) ∙ h.0)
 
-  -- a byte comes after it
+  -- a byte follows the value
   all_trails : (c d e : Option (List ℕ)) (n x : ℕ) → ScansFrom registry limits s c d (Ok n) → Consumes d e (x ∷ []) → ScansAll registry limits s c e (Err (Stop (record { reason = TrailingBytes; place = n })))
   all_trails None d e n x h k = tt
   all_trails (Some b) None e n x h k = λ bytes. absurd (let w = h.0 in cc)

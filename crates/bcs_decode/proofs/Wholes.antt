@@ -1,4 +1,4 @@
--- From what is seen of told bytes to what is promised.
+-- From results about known bytes to the contracts.
 use Rattle.bcs_decode.proofs.Prelude.{◌≡◌, ◌<◌, ℕ, zero, suc, List, [], ◌∷◌, inl, inr, subst, length-drop, length, drop, Option, Some, None, Ok, Err, refl, sym, ap, ap₂, ◌∙◌, arith, drop_at, Consumes, IsAtEnd, Accepts, TrailingBytes, Shape, Entries, Bounds, Tree, tree_of, Value, Progress, DecodeFault, Stop, Read, OutOfMemory, FindsFault, Left, Along, GaveFront, Halts, read, FrontGone, DecodesAll, DecodesFrom, DecodesFront, read_value, Along-gave, Found, exact_value, reads_accepts, is_decoded, no_encoding_stops, StopsAll}
 use Rattle.bcs_decode_spec.specs.Reading as Reading
 
@@ -48,7 +48,7 @@ module _ (registry : Entries) (limits : Bounds) (s : Shape) where
   stopped (Some b) d Read p q place nodes h k = gave b d p place k
   stopped (Some b) d OutOfMemory p q place nodes h k = gave b d p place k
 
-  -- the source had failed before
+  -- the source had already failed
   pub lost_at_once : (c : Option (List ℕ)) → DecodesFront registry limits s c c (Err Read)
   lost_at_once None = tt
   lost_at_once (Some b) = (0, omega arith, refl)
@@ -63,7 +63,7 @@ module _ (registry : Entries) (limits : Bounds) (s : Shape) where
   all_stop (Some b) d Read h = h
   all_stop (Some b) d OutOfMemory h = h
 
-  -- the content ends where the value does
+  -- the content ends with the value
   all_value : (c d e : Option (List ℕ)) (r : Value × ℕ) → DecodesFront registry limits s c d (Ok r) → Consumes d e [] → IsAtEnd e → DecodesAll registry limits s c e (Ok r.0)
   all_value None d e r h k at = tt
   all_value (Some b) None e r h k at = λ bytes. absurd (let w = (h.1 bytes).1 in cc)
@@ -77,14 +77,14 @@ module _ (registry : Entries) (limits : Bounds) (s : Shape) where
   all_by c d e r [] len h k at = all_value c d e r h k at
   all_by c d e r (x ∷ bs) len h k at = absurd (omega (arith, len))
 
-  -- the source fails there
+  -- the source fails after the value
   pub all_lost : (c d e : Option (List ℕ)) (r : Value × ℕ) → DecodesFront registry limits s c d (Ok r) → Consumes d e [] → DecodesAll registry limits s c e (Err Read)
   all_lost None d e r h k = tt
   all_lost (Some b) None e r h k = absurd (let none = h.0.2 in cc)
   all_lost (Some b) (Some x) None r h k = absurd k
   all_lost (Some b) (Some x) (Some y) r h k = (h.0.0, h.0.1, ap Some (sym k) ∙ h.0.2)
 
-  -- a byte comes after it
+  -- a byte follows the value
   pub all_trails : (c d e : Option (List ℕ)) (r : Value × ℕ) (x : ℕ) → DecodesFront registry limits s c d (Ok r) → Consumes d e (x ∷ []) → DecodesAll registry limits s c e (Err (Stop (record { reason = TrailingBytes; place = r.1 })))
   all_trails None d e r x h k = tt
   all_trails (Some b) None e r x h k = λ bytes. absurd (let w = (h.1 bytes).1 in cc)

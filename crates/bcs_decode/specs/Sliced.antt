@@ -1,4 +1,4 @@
--- What decoding from a slice answers.
+-- What decoding a slice returns.
 use Rattle.std.specs.Prelude.{ℕ, List, Result, Ok, Err}
 use Rattle.bcs_registry_model.specs.Shape.{Shape}
 use Rattle.bcs_registry_model.specs.Container.{Entries}
@@ -11,7 +11,7 @@ use Rattle.bcs_decode_spec.specs.declared.decode_fault.DecodeFault.TheVariants.{
 use Rattle.bcs_decode_spec.specs.Accepting.{Accepts}
 use Rattle.bcs_decode_spec.specs.Stopping.{Stops}
 
--- the accepted value and its length; or the stop; or memory ran out, though a value is accepted
+-- the accepted value and its length; or the stop; or `OutOfMemory`, although a value is accepted
 abbrev pub DecodesSlice : Entries → Bounds → Shape → List ℕ → Result (Value × ℕ) DecodeFault → Type 0
 DecodesSlice registry limits s b (Ok r) = Accepts registry limits s b r.1 (tree_of r.0)
 DecodesSlice registry limits s b (Err (Stop x)) = Stops registry limits s b x.reason x.place

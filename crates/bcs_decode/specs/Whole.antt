@@ -1,4 +1,4 @@
--- What decoding answers of a source.
+-- What decoding a source returns. If the source's content isn't known (`None`), nothing is promised.
 use Rattle.std.specs.Prelude.{◌≡◌, ◌<◌, ◌≤◌, ◌⊎◌, ℕ, suc, List, [], length, drop, Option, Some, None, Result, Ok, Err}
 use Rattle.bcs_registry_model.specs.Shape.{Shape}
 use Rattle.bcs_registry_model.specs.Container.{Entries}
@@ -15,21 +15,20 @@ use Rattle.bcs_value_model.specs.Tree.{Tree}
 use Rattle.bcs_decode_spec.specs.Exact.{AreBytes}
 use Rattle.bcs_encode_spec.specs.Encodes.{Encodes}
 
--- so many bytes are known to come: of bytes that are told no more than there are, and else none
+-- at least `n` bytes are known to follow
 abbrev pub AreKnown : ℕ → Option (List ℕ) → Type 0
 AreKnown n None = n ≡ 0
 AreKnown n (Some b) = n ≤ length b
 
--- of told bytes a front is gone, however long
+-- a prefix has been consumed, however long
 abbrev pub FrontGone : List ℕ → Option (List ℕ) → Type 0
 FrontGone b rest = (n : ℕ) × (n ≤ length b) × (rest ≡ Some (drop n b))
 
--- of told bytes a front is gone that isn't shorter than the place
+-- a prefix has been consumed that is at least as long as `place`
 abbrev pub GoneTo : List ℕ → Option (List ℕ) → ℕ → Type 0
 GoneTo b rest place = (n : ℕ) × (place ≤ n) × (n ≤ length b) × (rest ≡ Some (drop n b))
 
--- of bytes that are told: the value that is accepted and its length, whose bytes alone are gone; or the one stop; or
--- another cause. In each case a front is gone
+-- the accepted value and its length, or the stop, or another fault; a prefix has been consumed in each case
 abbrev pub DecodesFront : Entries → Bounds → Shape → Option (List ℕ) → Option (List ℕ) → Result (Value × ℕ) DecodeFault → Type 0
 DecodesFront registry limits s None rest r = Unit {0}
 DecodesFront registry limits s (Some b) rest (Ok r) = FrontGone b rest × (AreBytes b → Accepts registry limits s b r.1 (tree_of r.0) × (rest ≡ Some (drop r.1 b)))
@@ -37,8 +36,8 @@ DecodesFront registry limits s (Some b) rest (Err (Stop stop)) = AreBytes b → 
 DecodesFront registry limits s (Some b) rest (Err Read) = FrontGone b rest
 DecodesFront registry limits s (Some b) rest (Err OutOfMemory) = FrontGone b rest
 
--- of bytes that are told: the value that is accepted, whose bytes alone are gone; or the one stop, and of the bytes a
--- front is gone that isn't shorter than its place; or another cause, and a front is gone, however long
+-- the accepted value, exactly whose bytes are consumed; or the stop, and the consumed prefix isn't shorter than its
+-- place; or another fault, after any prefix
 abbrev pub DecodesFrom : Entries → Bounds → Shape → Option (List ℕ) → Option (List ℕ) → Result Value DecodeFault → Type 0
 DecodesFrom registry limits s None rest r = Unit {0}
 DecodesFrom registry limits s (Some b) rest (Ok v) = AreBytes b → (n : ℕ) × Accepts registry limits s b n (tree_of v) × (rest ≡ Some (drop n b))
@@ -46,7 +45,7 @@ DecodesFrom registry limits s (Some b) rest (Err (Stop stop)) = AreBytes b → S
 DecodesFrom registry limits s (Some b) rest (Err Read) = FrontGone b rest
 DecodesFrom registry limits s (Some b) rest (Err OutOfMemory) = FrontGone b rest
 
--- bytes come after a value that ends here; it is gone, and one byte more
+-- a value ends at the stop, and more bytes follow; the value and one more byte have been consumed
 pub record Trails (registry : Entries) (limits : Bounds) (s : Shape) (b : List ℕ) (rest : Option (List ℕ)) (stop : stop.Stop) : Type 0 where
   pub reason : stop.reason ≡ TrailingBytes
   pub value : Tree
@@ -54,8 +53,8 @@ pub record Trails (registry : Entries) (limits : Bounds) (s : Shape) (b : List �
   pub after : stop.place < length b
   pub gone : rest ≡ Some (drop (suc stop.place) b)
 
--- of bytes that are told: the value that all of them are; or the stop of the whole input, which no value then encodes to,
--- and where a stop within the value is that of its front; or another cause, and a front is gone, however long
+-- the value that exactly the whole content encodes; or the stop of the whole content, which is then no value's encoding
+-- (a stop inside the value is also that of its prefix); or another fault, after any prefix
 abbrev pub DecodesAll : Entries → Bounds → Shape → Option (List ℕ) → Option (List ℕ) → Result Value DecodeFault → Type 0
 DecodesAll registry limits s None rest r = Unit {0}
 DecodesAll registry limits s (Some b) rest (Ok v) = AreBytes b → IsDecoded registry limits s b (tree_of v) × (rest ≡ Some [])

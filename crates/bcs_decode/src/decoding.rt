@@ -1,4 +1,4 @@
-//! Values from sources.
+//! Decodes values from sources.
 ghost use Rattle.std.specs.Prelude.{◌≡◌, ◌≢◌, ◌↔◌, true, Err, IsErrOf};
 ghost use Rattle.bcs_registry_model.specs.View.{shape_of};
 ghost use Rattle.bcs_registry_model.specs.WellFormed.{Admits};
@@ -14,11 +14,14 @@ use bcs_registry::{Format, Registry};
 use bcs_value::{Limits, Value};
 use std::alloc::Global;
 
-/// The canonical value that the source gives, of which it takes exactly the bytes. A refusal is the stop at which the
-/// bytes stop being a value, or `Read` where the source failed, or `OutOfMemory` where a growth was refused. Memory
-/// follows the bytes and elements that were read, and none is asked for by a length that the bytes announce. Elements
-/// that have no bytes take memory one by one too, as many as the limit of nodes lets begin. After a refusal the
-/// source isn't to be read on: it gave a front of its content, which after `Read` and `OutOfMemory` may end anywhere.
+/// Decodes the next value of `format` from a source, as specified by BCS, and consumes exactly its bytes.
+///
+/// `Stop`: the reason and the byte offset at which the bytes stop being a value within the limits. `Read`: the source
+/// failed. `OutOfMemory`: an allocation failed. After an error don't continue with the source: it has given a prefix of
+/// its content, which may end anywhere after `Read` or `OutOfMemory`.
+///
+/// Memory grows with the bytes and elements that have been read, never with a length that the input claims. Elements
+/// without bytes take memory as well, up to the limit of nodes.
 pub fn decode_from<S: ByteSource>(
     alloc: Global,
     registry: &Registry,
@@ -35,8 +38,8 @@ pub fn decode_from<S: ByteSource>(
     Ok(value)
 }
 
-/// The canonical value that all of the source's content is. A byte after the value is taken, and refused as
-/// `TrailingBytes`. The other refusals are those of [`decode_from`](crate::decode_from).
+/// Decodes the whole content of a source as one value. If a byte follows the value, that byte is consumed, and the stop
+/// is `TrailingBytes`. Other errors are those of [`decode_from`](crate::decode_from).
 pub fn decode_all<S: ByteSource>(
     alloc: Global,
     registry: &Registry,
@@ -62,8 +65,8 @@ pub fn decode_all<S: ByteSource>(
     }
 }
 
-/// The value at the front, and how many bytes it has, of a source of which so many bytes are known to come. Vectors
-/// begin with room for what that may hold.
+/// The next value and its length in bytes. `known` bytes are known to follow; vectors reserve capacity for the values
+/// that fit into them.
 pub(crate) fn front<S: ByteSource>(
     alloc: Global,
     registry: &Registry,

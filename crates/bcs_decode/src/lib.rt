@@ -1,4 +1,4 @@
-//! Where bytes come from, and the values that they are.
+//! Decodes and validates BCS (Binary Canonical Serialization), and finds parts of encoded values.
 #![tactic(auto)]
 
 mod decoding;

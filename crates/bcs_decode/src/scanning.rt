@@ -1,4 +1,4 @@
-//! The value at the front of a slice.
+//! Validates a value in a slice.
 ghost use Rattle.std.specs.Prelude.{◌≡◌, ℕ, Ok, Err, IfOk, IfErr};
 ghost use Rattle.bcs_registry_model.specs.View.{shape_of};
 ghost use Rattle.bcs_registry_model.specs.WellFormed.{Admits};
@@ -13,10 +13,11 @@ use bcs_decode_spec::Stop;
 use bcs_registry::{Format, Registry};
 use bcs_value::Limits;
 
-/// How many bytes the value of the format at the front of the input has. No memory is taken.
+/// Returns the length in bytes of the value of `format` at the start of the input. Allocates nothing, and doesn't read
+/// what comes after the value.
 ///
-/// The `Stop` is the one reason and place at which the input stops being a value of the format: no
-/// value stands at the front exactly where there is one. What comes after the value isn't read.
+/// `Stop`: the one reason and byte offset at which the input stops being a value of `format`. It is returned exactly if
+/// the input doesn't begin with a value within the limits.
 pub fn scan(
     registry: &Registry,
     format: &Format,

@@ -1,4 +1,4 @@
-//! Values from slices.
+//! Decodes values from slices.
 ghost use Rattle.std.specs.Prelude.{◌≡◌, ◌≢◌, ℕ, true, Err, IfOk};
 ghost use Rattle.bcs_registry_model.specs.View.{shape_of};
 ghost use Rattle.bcs_registry_model.specs.WellFormed.{Admits};
@@ -19,10 +19,10 @@ use bcs_registry::{Format, Registry};
 use bcs_value::{Limits, Value};
 use std::alloc::{AllocError, Global};
 
-/// The canonical value of the format at the front of the input, and how many bytes it has.
+/// Decodes the value of `format` at the start of the input, and returns it with its length in bytes.
 ///
-/// A `Stop` is that of [`scan`](crate::scan), and is answered before memory is taken. `OutOfMemory` comes only where a
-/// value stands at the front, and never at `UNIT`, `BOOL` and whole numbers. `Read` never comes.
+/// `Stop`: as for [`scan`](crate::scan), and before anything is allocated. `OutOfMemory` occurs only if the input
+/// begins with a value, and never for `UNIT`, `BOOL` and integers. `Read` never occurs.
 pub fn decode_slice(
     alloc: Global,
     registry: &Registry,
@@ -48,9 +48,8 @@ pub fn decode_slice(
     }
 }
 
-/// The canonical value whose encoding the input is. It is for bytes that an encoder gave within the same limits: they
-/// can't stop being a value, so they aren't scanned first, and only memory may run out. The format need not be
-/// admitted.
+/// Decodes an encoding that `encode` returned within the same limits. Such bytes can't stop being a value, so they
+/// aren't scanned first, and the only error is out of memory. The registry need not admit the format.
 pub fn decode_encoded(
     alloc: Global,
     registry: &Registry,

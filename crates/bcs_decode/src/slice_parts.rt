@@ -1,4 +1,4 @@
-//! Parts of slices.
+//! Finds parts of values in slices.
 ghost use Rattle.std.specs.Prelude.{◌≡◌, ℕ, Err, IfOk, IfErr, IsOk, map};
 ghost use Rattle.bcs_registry_model.specs.Container.{of};
 ghost use Rattle.bcs_registry_model.specs.View.{shape_of};
@@ -18,11 +18,10 @@ use bcs_decode_spec::Stop;
 use bcs_registry::{Format, Registry};
 use bcs_value::Limits;
 
-/// The part of the value at the front of the input to which the steps lead, as a slice of the input. None exactly where
-/// they lead nowhere. No memory is taken.
+/// Returns the part of a value that `path` leads to, as a slice of the input, or `None` if it leads nowhere. The value
+/// is at the start of the input; what comes after it isn't read. Allocates nothing.
 ///
-/// A `Stop` is that of [`scan`](crate::scan): a part is handed out only where a value stands at the front, and what
-/// comes after the value isn't read.
+/// `Stop`: as for [`scan`](crate::scan). A part is returned only if the whole value is valid.
 pub fn part<'a>(
     registry: &Registry,
     format: &Format,

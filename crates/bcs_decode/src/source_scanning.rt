@@ -1,4 +1,4 @@
-//! Values at the front of sources, validated.
+//! Validates values from sources.
 ghost use Rattle.std.specs.Prelude.{◌≡◌, ◌≢◌, ◌↔◌, true, Err, IsErrOf};
 ghost use Rattle.bcs_registry_model.specs.View.{shape_of};
 ghost use Rattle.bcs_registry_model.specs.WellFormed.{Admits};
@@ -14,10 +14,11 @@ use bcs_registry::{Format, Registry};
 use bcs_value::Limits;
 use std::alloc::Global;
 
-/// How many bytes the value of the format has that the source gives next, of which it takes exactly these. A refusal is
-/// that of `decode_from`. Memory holds the bytes of open keys, and the last key of each open map; the rest of the value
-/// is gone past, however long it is. So no memory is wanted where the format reaches no map. After a refusal the source
-/// isn't to be read on: it gave a front of its content, which after `Read` and `OutOfMemory` may end anywhere.
+/// Returns the length in bytes of the next value of `format` in a source, and consumes exactly its bytes. The errors
+/// are those of [`decode_from`](crate::decode_from), and after one don't continue with the source.
+///
+/// Memory holds only the bytes of open keys and the last key of each open map, however long the value is. So nothing is
+/// allocated if the format reaches no map.
 pub fn scan_from<S: ByteSource>(
     alloc: Global,
     registry: &Registry,
@@ -50,8 +51,8 @@ pub fn scan_from<S: ByteSource>(
     Ok(at.place)
 }
 
-/// How many bytes the value has that all of the source's content is. A byte after the value is taken, and refused as
-/// `TrailingBytes`. The other refusals are those of [`scan_from`](crate::scan_from).
+/// Returns the length in bytes of a source's content, if all of it is one value. If a byte follows the value, that byte
+/// is consumed, and the stop is `TrailingBytes`. Other errors are those of [`scan_from`](crate::scan_from).
 pub fn scan_all<S: ByteSource>(
     alloc: Global,
     registry: &Registry,

@@ -1,4 +1,4 @@
--- Where a step arrives.
+-- What a step reaches.
 use Rattle.bcs_decode_parts.proofs.Prelude.{◌≡◌, ℕ, ◌≤◌, List, ◌++◌, length, Option, Some, None, sym, ap, subst, ◌∙◌, append_assoc, arith, length-append, Entries, Content, Tree, nodes, plain, IsDecodable, Step, Part, part_after, Ahead, Reached, content_of, Fronts, Reaches, LeadsTo, StepsTo}
 
 -- the same limits
@@ -15,7 +15,7 @@ module _ (registry : Entries) where
     is = is;
   }
 
-  -- a part that stands ahead is reached, if what comes before it is gone
+  -- a part that is ahead is reached, once the bytes before it are skipped
   pub reached : (a : Ahead) (x : Part) (r : Reached) (bytes front after : List ℕ) → content_of r.here ≡ x.content → AsLimited a r.ahead → IsDecodable registry a.depth x.content x.value
       → nodes x.value ≤ a.nodes → length front ≡ x.place → bytes ≡ front ++ (plain registry x.value x.content ++ after) → r.ahead.bytes.now ≡ plain registry x.value x.content ++ after
       → Reaches registry bytes x r
@@ -34,7 +34,7 @@ module _ (registry : Entries) where
   pub somewhere : (bytes : List ℕ) (r : Option Part) (x : Part) (q : Reached) → r ≡ Some x → Reaches registry bytes x q → LeadsTo registry bytes r (Some q)
   somewhere bytes r x q e h = subst (λ (p : Option Part). LeadsTo registry bytes p (Some q)) (sym e) h
 
-  -- the same in longer bytes
+  -- the same, if more bytes come before
   pub leads_after : (bytes front rest : List ℕ) (p : Option Part) (r : Option Reached) → bytes ≡ front ++ rest → LeadsTo registry rest p r → LeadsTo registry bytes (part_after (length front) p) r
   leads_after bytes front rest None None e h = tt
   leads_after bytes front rest (Some x) (Some q) e h = record {
@@ -48,6 +48,6 @@ module _ (registry : Entries) where
   leads_after bytes front rest None (Some q) e h = absurd h
   leads_after bytes front rest (Some x) None e h = absurd h
 
-  -- in other words
+  -- replaces the content by an equal one
   pub moved : (ahead : Ahead) (s : Step) (f g : Content) (r : Option Reached) → f ≡ g → StepsTo registry ahead s g r → StepsTo registry ahead s f r
   moved ahead s f g r e h = subst (λ (x : Content). StepsTo registry ahead s x r) (sym e) h

@@ -1,4 +1,4 @@
--- The format of a number in a row of formats: what stands before it, and what after it.
+-- The format with a given index in a list of formats: the formats before it, and those after it.
 use Rattle.bcs_decode_parts.proofs.Prelude.{◌≡◌, ℕ, ◌+◌, ◌<◌, List, [], ◌∷◌, ◌++◌, length, get_or, map, take, drop, suc, refl, sym, ap, ap₂, ◌∙◌, arith, length-take, take-append-drop, Shapes, shape, field_shapes, shape_of, formats_shapes, field_of, Format, Named, formats_next, fields_next}
 use Rattle.bcs_decode_parts.proofs.Rows.{shapes_joined, shapes_count}
 

@@ -1,10 +1,10 @@
--- The parts of a value stay the same in a registry that the older one grows to.
+-- A value keeps its parts in every registry that the older registry grows to.
 use Rattle.bcs_decode_parts.proofs.Prelude.{◌≡◌, ℕ, zero, suc, ◌+◌, ◌==◌, ◌&&◌, List, [], ◌∷◌, ◌++◌, length, Bool, true, false, if◌then◌else◌, Option, Some, None, refl, sym, ap, ap₂, subst, ◌∙◌, bytes_eq, false≢true, and_parts, uleb, Shape, Shapes, no_shapes, shape, Entries, Content, of, one_of, nothing, content_at, choice_at, Grows, StaysIn, content_at-grows, choice_at-grows, Tree, Trees, no_trees, tree, Pairs, no_pairs, pair, count, fits, all_fit, each_fits, pairs_fit, payload_fits, plain, plain_newer, fitting_stays, stays_alike, Step, item, inner, key, Part, part_after, part_onward, item_of, item_in, value_of, step_at, part_at, IsSamePart, GrowthKeepsParts}
 use Rattle.bcs_registry_model.specs.Shape as shape
 use Rattle.bcs_value_model.specs.Tree as tree
 
 module _ (older newer : Entries) (grows : Grows older newer) where
-  -- a part of a fitting tree, and the one that it is in the newer registry
+  -- a part of a fitting tree, and the same part in the newer registry
   pub record Stays (x y : Part) : Type 0 where
     pub value_is : y.value ≡ x.value
     pub place_is : y.place ≡ x.place
@@ -17,7 +17,7 @@ module _ (older newer : Entries) (grows : Grows older newer) where
   Kept None (Some y) = ⊥
   Kept (Some x) None = ⊥
 
-  -- the same further on
+  -- the same, `n` bytes further on
   kept_after : (n m : ℕ) (r q : Option Part) → n ≡ m → Kept r q → Kept (part_after n r) (part_after m q)
   kept_after n m None None e h = tt
   kept_after n m (Some x) (Some y) e h = record {
@@ -101,7 +101,7 @@ module _ (older newer : Entries) (grows : Grows older newer) where
   parts_kept [] f g t e h = kept_here t f g 0 e h
   parts_kept (s ∷ path) f g t e h = onward_kept path (parts_kept path) (step_at older s f t) (step_at newer s g t) (step_kept s f g t e h)
 
-  -- what stays has the same bytes
+  -- parts that stay have the same bytes
   same_parts : (r q : Option Part) → Kept r q → IsSamePart older newer r q
   same_parts None None h = tt
   same_parts (Some x) (Some y) h = (

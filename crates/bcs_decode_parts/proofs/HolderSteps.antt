@@ -1,4 +1,4 @@
--- A step to what an option, a container or a variant holds.
+-- A step into an option, a container or a variant.
 use Rattle.bcs_decode_parts.proofs.Prelude.{◌≡◌, ℕ, ◌-◌, ◌<◌, ◌^◌, List, [], ◌∷◌, ◌++◌, Some, false, refl, sym, subst, ◌∙◌, append_assoc, arith, uleb, Shape, Entries, Content, Choice, of, one_of, content_at, choice_at, Tree, number_fits, payload_fits, plain, IsDecodable, decodable, inner, step_at, Ahead, Reached, content_of, Fronts, LeadsTo}
 use Rattle.bcs_registry_model.specs.Shape as shape
 use Rattle.bcs_value_model.specs.Tree as tree
@@ -49,7 +49,7 @@ module _ (registry : Entries) (ahead : Ahead) where
           decodable registry ahead.depth (choice_at n cs) t (payload_fits false registry n t cs g.sound.fit) g.canonical g.sound.depth_holds g.sound.lengths,
         )
 
-    -- what the variant holds stands ahead, behind its number
+    -- the contents of the variant are ahead, after its number
     pub variant_stands : (t : Tree) (after : List ℕ) (s : Shape) (rest : List ℕ) (mid : Ahead) → Fronts registry ahead (one_of cs) t after
         → ((n : ℕ) (z : List ℕ) → n < 2 ^ 32 → ahead.bytes.now ≡ uleb n ++ z → (choice_at n cs ≡ of s) × (rest ≡ z)) → AsLimited ahead mid → mid.bytes.now ≡ rest
         → (u : Tree) × Fronts registry mid (of s) u after

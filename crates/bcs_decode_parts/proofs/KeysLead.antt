@@ -1,7 +1,7 @@
--- A key leads to one entry of a canonical map.
+-- Each key of a canonical map leads to exactly one entry.
 use Rattle.bcs_decode_parts.proofs.Prelude.{◌≡◌, ℕ, ◌+◌, List, ◌++◌, length, Bool, true, false, Some, refl, sym, ap, subst, arith, length-append, bytes_eq-Decides, bytes_eq, uleb, Shape, Entries, of, Tree, Pairs, no_pairs, pair, pair_count, plain, plain_pairs, Below, Rises, RisesFrom, Below-irrefl, Below-trans, part_after, value_of, joined, KeyLeadsToOne}
 
--- bytes are equal, or they aren't
+-- equal byte strings compare as equal
 pub same_bytes : (a b : List ℕ) → a ≡ b → bytes_eq a b ≡ true
 same_bytes a b e = (bytes_eq-Decides a b).1 e
 
@@ -16,7 +16,7 @@ module _ (registry : Entries) (f g : Shape) (k v : Tree) (later : Pairs) where
   abbrev wanted : List ℕ
   wanted = plain registry k (of f)
 
-  -- the keys before it are below it
+  -- earlier keys are below it
   later_above : (low : List ℕ) (before : Pairs) → RisesFrom registry low (joined before (pair k v later)) f → Below low wanted
   later_above low no_pairs h = h.0
   later_above low (pair a x before) h = Below-trans low (plain registry a (of f)) wanted h.0 (later_above (plain registry a (of f)) before h.1)

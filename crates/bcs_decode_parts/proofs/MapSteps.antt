@@ -1,4 +1,4 @@
--- A step to the value of an entry.
+-- A step to the value of a map entry.
 use Rattle.bcs_decode_parts.proofs.Prelude.{◌≡◌, ℕ, ◌-◌, ◌<◌, ◌^◌, nat_le, List, ◌++◌, length, Option, Some, None, refl, sym, ap, subst, ◌∙◌, append_assoc, arith, and_parts, leb-true, length-append, uleb, Shape, Entries, of, Tree, Pairs, no_pairs, pair, pair_count, pairs_nodes, plain, plain_pairs, length_limit, pairs_hold, IsDecodable, AllRise, are_pairs, key, value_of, step_at, Ahead, Reached, content_of, Fronts, LeadsTo}
 use Rattle.bcs_registry_model.specs.Shape as shape
 use Rattle.bcs_value_model.specs.Tree as tree
@@ -7,18 +7,18 @@ use Rattle.bcs_decode_parts.proofs.KeysLead.{same_bytes, other_bytes}
 use Rattle.bcs_decode_parts.proofs.RowSteps.{NumberIs, RestIs, NoneStands}
 
 module _ (registry : Entries) (ahead : Ahead) (f g : Shape) (wanted : List ℕ) where
-  -- entries stand in a row at the front of these bytes
+  -- `bytes` begin with the entries `ps`, one after another
   pub record EntriesStand (bytes : List ℕ) (ps : Pairs) (after : List ℕ) : Type 0 where
     pub last : Option (List ℕ)
     pub all : AllRise registry f (IsDecodable registry ahead.depth (of f)) (IsDecodable registry ahead.depth (of g)) last ps
     pub few : pairs_nodes ps < ahead.nodes
     pub is : bytes ≡ plain_pairs registry ps f g ++ after
 
-  -- so many entries stand there, and the value was looked for among them
+  -- `r` is the result of looking for the value among the next `n` entries
   abbrev pub Finds : List ℕ → ℕ → Option Reached → Type 0
   Finds bytes n r = (ps : Pairs) (after : List ℕ) → pair_count ps ≡ n → EntriesStand bytes ps after → LeadsTo registry bytes (value_of registry ps f g wanted) r
 
-  -- the same in the map
+  -- the same for the whole map
   abbrev pub FindsInMap : Option Reached → Type 0
   FindsInMap r = (t : Tree) (after : List ℕ) → Fronts registry ahead (of (shape.map f g)) t after → LeadsTo registry ahead.bytes.now (step_at registry (key wanted) (of (shape.map f g)) t) r
 
@@ -37,7 +37,7 @@ module _ (registry : Entries) (ahead : Ahead) (f g : Shape) (wanted : List ℕ) 
         h.is ∙ append_assoc (uleb (pair_count ps)) (plain_pairs registry ps f g) after,
       )
 
-  -- whatever is found among the entries behind the number is found in the map
+  -- what is found among the entries after the count is found in the map
   pub found_in_map : (n : ℕ) (rest : List ℕ) → NumberIs ahead.bytes.now n rest → (r : Option Reached) → Finds rest n r → FindsInMap r
   found_in_map n rest number r found (tree.pairs ps) after h =
       let m = map_entries ps after h in
@@ -86,7 +86,7 @@ module _ (registry : Entries) (ahead : Ahead) (f g : Shape) (wanted : List ℕ) 
           let rest = found k (value_bytes bytes k v ps after h ++ others bytes k v ps after h) (key_stands bytes k v ps after h first limited is) in
           (rest, before (plain registry k (of f)) (parted bytes k v ps after h ∙ ap (λ (b : List ℕ). plain registry k (of f) ++ b) (sym rest)))
 
-      -- the key is the one
+      -- this entry has the key
       pub key_leads : (q : Reached) → front ≡ wanted → content_of q.here ≡ of g → AsLimited ahead q.ahead → q.ahead.bytes.now ≡ behind → Finds bytes n (Some q)
       key_leads q e same alike on no_pairs after long h = absurd (omega (arith, some, long))
       key_leads q e same alike on (pair k v ps) after long h =
@@ -96,7 +96,7 @@ module _ (registry : Entries) (ahead : Ahead) (f g : Shape) (wanted : List ℕ) 
           (rw (same_bytes wanted (plain registry k (of f)) (sym e ∙ is_key.1)) refl)
           (reached registry ahead _ q bytes (plain registry k (of f)) (plain_pairs registry ps f g ++ after) same alike h.all.2 (omega (arith, few)) refl (parted bytes k v ps after h) (on ∙ is_key.0))
 
-      -- the key is another one
+      -- this entry has another key
       module _ (other : front ≡ wanted → ⊥) (second : Ahead) (limited2 : AsLimited ahead second) (is2 : second.bytes.now ≡ behind) where
         pub value_stuck : NoneStands registry second (of g) → (r : Option Reached) → Finds bytes n r
         value_stuck none r no_pairs after long h = absurd (omega (arith, some, long))

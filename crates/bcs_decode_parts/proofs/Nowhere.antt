@@ -1,4 +1,4 @@
--- What opens in one way opens so in other words.
+-- `Opens` for equal contents.
 use Rattle.bcs_decode_parts.proofs.Prelude.{◌≡◌, subst, Content, Inside, Opens}
 
 pub opens_as : (f : Content) (i j : Inside) → Opens f i → i ≡ j → Opens f j

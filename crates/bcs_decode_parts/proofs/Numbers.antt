@@ -1,4 +1,4 @@
--- The number at the front of bytes.
+-- The ULEB128 number at the start of some bytes.
 use Rattle.bcs_decode_parts.proofs.Prelude.{◌≡◌, ℕ, ◌<◌, ◌≤◌, ◌^◌, List, ◌++◌, length, take, drop, Result, Ok, Err, refl, sym, ap, ◌∙◌, arith, length-append, take_at, drop_at, uleb, NumFault}
 
 module _ (b : List ℕ) (r : Result (ℕ × ℕ) NumFault) (only : (n l : ℕ) → n < 2 ^ 32 → l ≤ length b → take l b ≡ uleb n → r ≡ Ok (n, l)) (n : ℕ) (after : List ℕ) (small : n < 2 ^ 32) (is : b ≡ uleb n ++ after) where

@@ -1,8 +1,8 @@
--- The texts of a path's steps are what stands between the slashes of its word.
+-- The steps of a path, as text, are the parts of its word between slashes.
 use Rattle.bcs_decode_parts.proofs.Prelude.{◌≡◌, ◌≢◌, ◌∙◌, ◌++◌, ◌==◌, ℕ, List, [], ◌∷◌, ap, arith, codes, get_or, length, refl, subst, sym, AllZip, join_with_byte, slice_split, join_with_byte-slice_split, length-slice_split, slice_split_at, slice_split_none, Step, item, inner, key, SpellsPath, SpellsStep, OnePath}
 use Rattle.bcs_decode_parts.proofs.Steps.{HasNoSlash, begins_with_digit, has_no_slash, one_step}
 
--- what stands between the slashes
+-- the parts of a word between slashes
 abbrev pub parts : List ℕ → List (List ℕ)
 parts = slice_split (λ b. b == 47)
 
@@ -20,7 +20,7 @@ parts_of_joined text [] h = slice_split_none _ text h.0
 parts_of_joined text (next ∷ texts) h =
     slice_split_at _ text 47 (join_with_byte 47 (next ∷ texts)) h.0 refl ∙ ap (λ (ts : List (List ℕ)). text ∷ ts) (parts_of_joined next texts h.1)
 
--- ---- a word that spells steps has their texts for parts
+-- ---- if a word spells steps, its parts are their texts
 
 pub spelled_by_parts : (word : List ℕ) (s : Step) (path : List Step) → SpellsPath word (s ∷ path) → AllZip SpellsStep (parts word) (s ∷ path)
 spelled_by_parts word s path ([], is, each) = absurd each
@@ -28,7 +28,7 @@ spelled_by_parts word s path (text ∷ texts, is, each) =
     let same : parts word ≡ text ∷ texts = ap parts is ∙ parts_of_joined text texts (have_no_slash (text ∷ texts) (s ∷ path) each) in
     subst (λ (ts : List (List ℕ)). AllZip SpellsStep ts (s ∷ path)) (sym same) each
 
--- and so it spells what its parts do
+-- a word spells the steps that its parts spell
 pub parts_spell : (word : List ℕ) (path : List Step) → AllZip SpellsStep (parts word) path → SpellsPath word path
 parts_spell word [] h = absurd (some (parts word) (omega (arith, length-slice_split (λ b. b == 47) word)) h)
   where
@@ -49,7 +49,7 @@ one_each [] [] (t ∷ other) h k = absurd k
 one_each (text ∷ texts) [] other h k = absurd h
 one_each (text ∷ texts) (s ∷ path) [] h k = absurd k
 
--- a point is no step
+-- `.` isn't a step
 no_point : (s : Step) → SpellsStep (codes ".") s → ⊥
 no_point (item n) h = omega (arith, begins_with_digit n 46 [] h.1 h.0)
 no_point inner h = let long : 1 ≡ 5 = ap length h in omega (arith, long)
@@ -65,7 +65,7 @@ one_path word (s ∷ path) [] h k = absurd (not_both word s path k h)
 one_path word (s ∷ path) (t ∷ other) h k =
     one_each (parts word) (s ∷ path) (t ∷ other) (spelled_by_parts word s path h) (spelled_by_parts word t other k)
 
--- ---- reading part by part
+-- ---- reading a word part by part
 
 pub one_more : (texts : List (List ℕ)) (path : List Step) (text : List ℕ) (s : Step) → AllZip SpellsStep texts path → SpellsStep text s
     → AllZip SpellsStep (texts ++ text ∷ []) (path ++ s ∷ [])
@@ -74,7 +74,7 @@ one_more (t ∷ texts) (p ∷ path) text s h k = (h.0, one_more texts path text 
 one_more [] (p ∷ path) text s h k = absurd h
 one_more (t ∷ texts) [] text s h k = absurd h
 
--- a part of a word that spells a path spells a step
+-- each part of a word that spells a path spells a step
 pub part_spells : (texts : List (List ℕ)) (text : List ℕ) (rest : List (List ℕ)) (path : List Step) → AllZip SpellsStep (texts ++ text ∷ rest) path → (s : Step) × SpellsStep text s
 part_spells [] text rest (s ∷ path) h = (s, h.0)
 part_spells [] text rest [] h = absurd h

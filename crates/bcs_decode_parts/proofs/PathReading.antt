@@ -1,10 +1,10 @@
--- Steps that are read part by part, as the parts are cut off their word.
+-- Reads the steps of a path, one part of the word at a time.
 use Rattle.bcs_decode_parts.proofs.Prelude.{◌≡◌, ◌≢◌, ◌∙◌, ◌++◌, ℕ, List, [], ◌∷◌, Option, Some, None, ap, codes, refl, subst, sym, AlwaysYields, AllZip, append-nil, Step, SpellsNoPath, SpellsPath, SpellsStep}
 use Rattle.std.proofs.lemmas.List.{append_assoc}
 use Rattle.bcs_decode_parts.proofs.Parts.{one_more, part_spells, parts, parts_spell, spelled_by_parts}
 
 module _ {S A : Type 0} (steps : S → Option A → S → Type 0) (text_of : A → List ℕ) where
-  -- the parts that have come spell these steps, and the others are to come
+  -- the parts read so far spell `path`; the others are still to come
   pub record IsRead (word : List ℕ) (s : S) (path : List Step) : Type 0 where
     pub come : List (List ℕ)
     pub left : List (List ℕ)
@@ -47,16 +47,16 @@ module _ {S A : Type 0} (steps : S → Option A → S → Type 0) (text_of : A �
           let found = part_spells come (text_of text) left (first ∷ rest) each in
           bad found.0 found.1
 
-    -- one part more, which spells a step
+    -- the next part spells a step
     pub goes_on : (s t : S) (path : List Step) (text : A) (step : Step) → IsRead word s path → steps s (Some text) t
         → SpellsStep (text_of text) step → IsRead word t (path ++ step ∷ [])
     goes_on s t path text step h k is = more s t path h.come h.spells text step k is h.left h.are_parts h.yields
 
-    -- no part more
+    -- no part is left
     pub ends : (s t : S) (path : List Step) → IsRead word s path → steps s None t → SpellsPath word path
     ends s t path h k = last s t path h.come h.spells k h.left h.are_parts h.yields
 
-    -- a part that spells no step
+    -- the next part doesn't spell a step
     pub stops : (s t : S) (path : List Step) (text : A) → IsRead word s path → steps s (Some text) t
         → ((step : Step) → SpellsStep (text_of text) step → ⊥) → word ≢ codes "." → SpellsNoPath word
     stops s t path text h k bad other = none s t path h.come h.spells text k bad other h.left h.are_parts h.yields

@@ -1,4 +1,4 @@
--- What the proofs use of other crates, and of this crate's definitions.
+-- Names from other crates and from this crate's definitions that the proofs share.
 pub use Rattle.std.proofs.Common.{[], ap, append_assoc, ap₂, arith, Bool, codes, decimal, drop, Err, false, get_or, if◌then◌else◌, inl, inr, length, List, lit<, map, nat_le, nat_lt, None, not, Ok, Option, refl, Result, rules, Some, subst, suc, sym, take, true, true≢false, zero, ℕ, ◌&&◌, ◌++◌, ◌+◌, ◌-◌, ◌<◌, ◌==◌, ◌^◌, ◌∙◌, ◌∷◌, ◌≡◌, ◌≢◌, ◌≤◌, ◌⊎◌}
 pub use Rattle.std.proofs.lemmas.Bool.{and_from, and_parts, eq-eqb, false≢true, leb-true, ltb-true, ne_eqb}
 pub use Rattle.std.proofs.lemmas.Bool.Decides.{Decides-ltb}

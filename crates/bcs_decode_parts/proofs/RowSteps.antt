@@ -5,11 +5,11 @@ use Rattle.bcs_value_model.specs.Tree as tree
 use Rattle.bcs_decode_parts.proofs.Rows.{shapes_joined, shapes_count, ItemAt, item_at, no_item, EachAt, each_at, no_field}
 use Rattle.bcs_decode_parts.proofs.Arrivals.{AsLimited, fronts, reached, nowhere, somewhere, leads_after}
 
--- the number at the front, and what comes after it, are these
+-- `b` begins with the number `n`, followed by `rest`
 abbrev pub NumberIs : List ℕ → ℕ → List ℕ → Type 0
 NumberIs b n rest = (k : ℕ) (z : List ℕ) → k < 2 ^ 32 → b ≡ uleb k ++ z → (n ≡ k) × (rest ≡ z)
 
--- what comes after a value of the content is this; or no such value stands ahead
+-- if a value of the content is ahead, `rest` comes after it
 abbrev pub RestIs : Entries → Ahead → Content → List ℕ → Type 0
 RestIs registry ahead f rest = (t : Tree) (z : List ℕ) → Fronts registry ahead f t z → rest ≡ z
 
@@ -19,7 +19,7 @@ NoneStands registry ahead f = (t : Tree) (z : List ℕ) → Fronts registry ahea
 module _ (registry : Entries) (ahead : Ahead) where
   -- ---- elements of one format
 
-  -- values of one format, which stand in a row
+  -- consecutive values of one format
   pub record RowAhead (s : Shape) (ts : Trees) : Type 0 where
     pub all : AllAre (IsDecodable registry ahead.depth (of s)) ts
     pub few : trees_nodes ts < ahead.nodes
@@ -38,7 +38,7 @@ module _ (registry : Entries) (ahead : Ahead) where
         let rest = plain_items registry here.later s in
         is ∙ ap (λ (b : List ℕ). b ++ after) here.bytes ∙ append_assoc front (own ++ rest) after ∙ ap (λ (b : List ℕ). front ++ b) (append_assoc own rest after)
 
-    -- the elements before it stand ahead as an array
+    -- the earlier elements are ahead, as an array
     front_stands : Fronts registry mid (of (shape.array s i)) (tree.items here.before) later
     front_stands =
         let a = items_are registry ahead.depth s here.before here.before_good in
@@ -51,7 +51,7 @@ module _ (registry : Entries) (ahead : Ahead) where
     pub row_stuck : NoneStands registry mid (of (shape.array s i)) → ⊥
     row_stuck none = none (tree.items here.before) later front_stands
 
-    -- so what comes after them is the element
+    -- so the element comes right after them
     pub row_leads : (rest : List ℕ) (r : Reached) → RestIs registry mid (of (shape.array s i)) rest → content_of r.here ≡ of s → AsLimited ahead r.ahead → r.ahead.bytes.now ≡ rest
         → LeadsTo registry mid.bytes.now (item_of registry ts s i) (Some r)
     row_leads rest r found same as2 on =
@@ -163,7 +163,7 @@ module _ (registry : Entries) (ahead : Ahead) where
         let rest = plain_each registry each.rest rear in
         h.is ∙ ap (λ (b : List ℕ). b ++ after) each.bytes ∙ append_assoc first (own ++ rest) after ∙ ap (λ (b : List ℕ). first ++ b) (append_assoc own rest after)
 
-    -- the elements before it stand ahead as a tuple
+    -- the earlier elements are ahead, as a tuple
     tuple_front : Fronts registry ahead (of (shape.tuple front)) (tree.items each.before) behind
     tuple_front =
         let g = each.before_good in

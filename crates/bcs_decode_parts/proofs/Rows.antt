@@ -1,7 +1,7 @@
--- The element of a number among values in a row: what stands before it, and what after it.
+-- The element with a given index in a sequence of values: the values before it, and those after it.
 use Rattle.bcs_decode_parts.proofs.Prelude.{◌≡◌, ℕ, zero, suc, ◌+◌, ◌<◌, ◌≤◌, List, ◌++◌, length, Some, None, refl, sym, ap, ◌∙◌, append_assoc, arith, false≢true, length-append, Shape, Shapes, no_shapes, shape, Entries, of, Tree, Trees, no_trees, tree, count, nodes, trees_nodes, plain, plain_items, plain_each, IsDecodable, AllAre, EachIs, each_is, is_each, part_after, item_of, item_in}
 
--- as one row
+-- concatenates two lists of formats
 abbrev pub shapes_joined : Shapes → Shapes → Shapes
 shapes_joined no_shapes ss = ss
 shapes_joined (shape s rest) ss = shape s (shapes_joined rest ss)
@@ -59,7 +59,7 @@ module _ (registry : Entries) (d : ℕ) where
   no_item s (tree t ts) zero le = absurd (omega (arith, le))
   no_item s (tree t ts) (suc i) le = ap (part_after (length (plain registry t (of s)))) (no_item s ts i (omega (arith, le)))
 
-  -- ---- values of a format each
+  -- ---- values with a format each
 
   pub record EachAt (front : Shapes) (s : Shape) (later : Shapes) (ts : Trees) : Type 0 where
     pub before : Trees

@@ -1,4 +1,4 @@
--- A word spells the steps of a path, or spells none.
+-- Each word spells the steps of a path, or it spells none.
 use Rattle.bcs_decode_parts.proofs.Prelude.{◌≡◌, ◌∙◌, ◌++◌, ◌<◌, ◌^◌, ◌⊎◌, inl, inr, ℕ, List, [], ◌∷◌, Bool, true, false, Result, Ok, Err, ap, arith, codes, decimal, drop, nat_lt, refl, sym, true≢false, Decides-ltb, decimal_is_IsNumeral, bytes_eq-Decides, AllZip, digits_value, decode_of, FromHexError, Step, item, inner, key, SpellsNoPath, SpellsPath, SpellsStep}
 use Rattle.std.proofs.Common.{bytes_eq}
 use Rattle.bcs_decode_parts.proofs.Parts.{parts, parts_spell, spelled_by_parts}
@@ -12,7 +12,7 @@ equal_or_not xs ys = at (bytes_eq xs ys) refl
     at true is = inl ((bytes_eq-Decides xs ys).0 is)
     at false is = inr (λ same. true≢false (sym ((bytes_eq-Decides xs ys).1 same) ∙ is))
 
--- a text is a number's of 64 bits, or no such number's
+-- a text is a decimal number of 64 bits, or it isn't
 some_number : (text : List ℕ) → ((n : ℕ) × SpellsStep text (item n)) ⊎ ((n : ℕ) → SpellsStep text (item n) → ⊥)
 some_number text = at (nat_lt (digits_value 10 text) (2 ^ 64)) refl (equal_or_not text (decimal (digits_value 10 text)))
   where
@@ -29,7 +29,7 @@ some_number text = at (nat_lt (digits_value 10 text) (2 ^ 64)) refl (equal_or_no
         let small : digits_value 10 text < 2 ^ 64 = omega (arith, value n h, h.1) in
         true≢false (sym ((Decides-ltb (digits_value 10 text) (2 ^ 64)).1 small) ∙ is))
 
--- a text is a key's, or no key's
+-- a text is `key:` and hexadecimal digits, or it isn't
 some_key : (text : List ℕ) → ((bytes : List ℕ) × SpellsStep text (key bytes)) ⊎ ((bytes : List ℕ) → SpellsStep text (key bytes) → ⊥)
 some_key text = at (equal_or_not text (codes "key:" ++ drop 4 text)) (decode_of (drop 4 text)) refl
   where

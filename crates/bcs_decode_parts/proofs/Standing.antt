@@ -1,10 +1,10 @@
--- A part's bytes stand in those of the whole, at its place.
+-- The bytes of a part are in the whole input, at its place.
 use Rattle.bcs_decode_parts.proofs.Prelude.{◌≡◌, ℕ, zero, suc, ◌+◌, List, [], ◌∷◌, ◌++◌, length, Bool, true, false, if◌then◌else◌, Option, Some, None, refl, sym, ap, subst, ◌∙◌, append_assoc, arith, length-append, append-nil, bytes_eq, uleb, Shape, Shapes, no_shapes, shape, Entries, Content, of, one_of, content_at, choice_at, Tree, Trees, no_trees, tree, Pairs, no_pairs, pair, count, pair_count, plain, plain_items, plain_each, plain_pairs, Step, item, inner, key, Part, part_after, part_onward, item_of, item_in, value_of, step_at, part_at, Stands, PartStands}
 use Rattle.bcs_registry_model.specs.Shape as shape
 use Rattle.bcs_value_model.specs.Tree as tree
 
 module _ (registry : Entries) where
-  -- further on in longer bytes
+  -- more bytes come before
   stands_after : (front whole : List ℕ) (n : ℕ) (x : Part) → length front ≡ n → Stands registry whole x → Stands registry (front ++ whole) (record x { place = n + x.place })
   stands_after front whole n x e h = record {
     before = front ++ h.before;
@@ -13,7 +13,7 @@ module _ (registry : Entries) where
     is = ap (λ (b : List ℕ). front ++ b) h.is ∙ sym (append_assoc front h.before (plain registry x.value x.content ++ h.after));
   }
 
-  -- further bytes come after it
+  -- more bytes come after
   stands_before : (whole rest : List ℕ) (x : Part) → Stands registry whole x → Stands registry (whole ++ rest) x
   stands_before whole rest x h = record {
     before = h.before;
@@ -23,11 +23,11 @@ module _ (registry : Entries) where
         ∙ ap (λ (b : List ℕ). h.before ++ b) (append_assoc (plain registry x.value x.content) h.after rest);
   }
 
-  -- bytes are the part's own
+  -- the bytes are exactly the part
   stands_here : (t : Tree) (f : Content) (rest : List ℕ) → Stands registry (plain registry t f ++ rest) (record { value = t; content = f; place = 0 })
   stands_here t f rest = record { before = []; after = rest; place = refl; is = refl }
 
-  -- a part that was found further on
+  -- a part found after other bytes
   found_after : (front whole : List ℕ) (n : ℕ) (r : Option Part) (x : Part) → length front ≡ n → ((y : Part) → r ≡ Some y → Stands registry whole y)
       → part_after n r ≡ Some x → Stands registry (front ++ whole) x
   found_after front whole n None x e h k = absurd cc

@@ -1,9 +1,9 @@
--- A text spells one step at most, and has no slash.
+-- Each text spells at most one step, and the text of a step has no slash.
 use Rattle.bcs_decode_parts.proofs.Prelude.{◌≡◌, ◌∙◌, ◌<◌, ◌≤◌, ◌^◌, ◌++◌, ◌==◌, ℕ, List, [], ◌∷◌, Ok, ap, arith, codes, decimal, drop, false, get_or, not, refl, subst, sym, true, true≢false, not-true, All, list_all, AllDigits, ne_eqb, decimal_injective, decimal_is_IsNumeral, All-append, All-cons, All-nil, All-weaker, AllPass-from_list_all, digit_from_value, decode_of, is_hex_digit, decode_of-ok, Step, item, inner, key, SpellsStep}
 
--- ---- the three kinds of texts differ
+-- ---- the three kinds of steps have different texts
 
--- a number's text begins with a digit
+-- the text of a number begins with a digit
 pub begins_with_digit : (n c : ℕ) (cs : List ℕ) → n < 2 ^ 64 → c ∷ cs ≡ decimal n → (48 ≤ c) × (c ≤ 57)
 begins_with_digit n c cs small e = digit_from_value c (subst (AllDigits 10) (sym e) (decimal_is_IsNumeral n small).0.1).0
 
@@ -29,14 +29,14 @@ one_step text (key bytes) (key others) h k =
     let same : h.0 ≡ k.0 = one_tail h.0 k.0 (sym h.1 ∙ k.1) in
     let decoded : Ok bytes ≡ Ok others = sym h.2 ∙ ap decode_of same ∙ k.2 in cc
 
--- a text that begins as a key's spells nothing where its digits are none
+-- `key:` followed by invalid digits spells no step
 pub no_step : (text digits : List ℕ) → text ≡ codes "key:" ++ digits → ((bytes : List ℕ) → decode_of digits ≡ Ok bytes → ⊥)
     → (s : Step) → SpellsStep text s → ⊥
 no_step text digits is none (item n) h = no_number n 107 _ h.1 (omega arith) (sym is ∙ h.0)
 no_step text digits is none inner h = no_key digits (sym h ∙ is)
 no_step text digits is none (key bytes) h = none bytes (ap decode_of (one_tail digits h.0 (sym is ∙ h.1)) ∙ h.2)
 
--- ---- no text has a slash
+-- ---- no step's text has a slash
 
 abbrev IsNoSlash : ℕ → Type 0
 IsNoSlash b = (b == 47) ≡ false

@@ -1,10 +1,10 @@
--- What the definition says of some values, by computation.
+-- Examples: the definitions, evaluated on some values.
 use Rattle.bcs_decode_parts.proofs.Prelude.{◌≡◌, [], ◌∷◌, Some, None, true, false, refl, w16, uleb, Content, of, Tree, no_pairs, pair, part_at, item, key}
 use Rattle.bcs_num.specs.Le as le_file
 use Rattle.bcs_registry_model.specs.Shape as shape
 use Rattle.bcs_value_model.specs.Tree as tree
 
--- {256: false, 1: true}, as its keys' bytes rise
+-- {256: false, 1: true}, in ascending order of the encoded keys
 abbrev switches : Tree
 switches = tree.pairs (pair (tree.unsigned 256) (tree.truth false) (pair (tree.unsigned 1) (tree.truth true) no_pairs))
 

@@ -1,4 +1,4 @@
--- Values at the front of bytes, and where a step leads from there.
+-- A value at the start of bytes, and where a step in it leads.
 use Rattle.std.specs.Prelude.{◌≡◌, ◌≤◌, ℕ, List, ◌++◌, length, Option, Some, None}
 use Rattle.std.specs.Borrow.{Bor}
 use Rattle.bcs_registry_model.specs.Container.{Entries, Content, of, nothing, Choice, choice_at, payload_shape}
@@ -12,28 +12,28 @@ use Rattle.bcs_decode_parts.specs.declared.here.Reached.{Reached}
 use Rattle.bcs_decode_parts.specs.Here.{content_of}
 use Rattle.bcs_decode_parts.specs.Parts.{Step, Part, step_at}
 
--- a value within the limits stands ahead, and these bytes come after it
+-- a value within the limits is ahead, and the bytes `after` follow it
 pub record Fronts (registry : Entries) (ahead : Ahead) (f : Content) (t : Tree) (after : List ℕ) : Type 0 where
   pub good : IsDecodable registry ahead.depth f t
   pub few : nodes t ≤ ahead.nodes
   pub is : ahead.bytes.now ≡ plain registry t f ++ after
 
--- these bytes are handed out
+-- the result is these bytes
 abbrev pub IsRest : List ℕ → Option (Bor (List ℕ)) → Type 0
 IsRest after None = ⊥
 IsRest after (Some r) = r.now ≡ after
 
--- the number is handed out, and these bytes
+-- the result is the number and the bytes after it
 abbrev pub IsNumber : ℕ → List ℕ → Option (ℕ × Bor (List ℕ)) → Type 0
 IsNumber n after None = ⊥
 IsNumber n after (Some r) = (r.0 ≡ n) × (r.1.now ≡ after)
 
--- what the variant of this number holds is handed out, and these bytes; or no variant has it
+-- the result is the contents of variant `n` and the bytes after its number, or `None` if there is no such variant
 abbrev pub IsChosen : ℕ → List Choice → List ℕ → Option (Bor VariantFormat × Bor (List ℕ)) → Type 0
 IsChosen n cs after None = choice_at n cs ≡ nothing
 IsChosen n cs after (Some r) = (choice_at n cs ≡ of (payload_shape (payload_of r.0.now))) × (r.1.now ≡ after)
 
--- of these bytes, those of the part's place are behind what was reached, and the part stands ahead
+-- `r` has skipped the bytes up to the part's place, and the part is ahead of it
 pub record Reaches (registry : Entries) (bytes : List ℕ) (x : Part) (r : Reached) : Type 0 where
   pub before : List ℕ
   pub after : List ℕ
@@ -42,13 +42,13 @@ pub record Reaches (registry : Entries) (bytes : List ℕ) (x : Part) (r : Reach
   pub is : bytes ≡ before ++ r.ahead.bytes.now
   pub stands : Fronts registry r.ahead x.content x.value after
 
--- there is a part, and it was reached; or there is none
+-- the part exists and was reached, or doesn't exist
 abbrev pub LeadsTo : Entries → List ℕ → Option Part → Option Reached → Type 0
 LeadsTo registry bytes None None = Unit {0}
 LeadsTo registry bytes (Some x) (Some r) = Reaches registry bytes x r
 LeadsTo registry bytes None (Some r) = ⊥
 LeadsTo registry bytes (Some x) None = ⊥
 
--- whichever value stands ahead, the step was taken in it
+-- for every value that may be ahead, `result` is the result of taking the step in it
 abbrev pub StepsTo : Entries → Ahead → Step → Content → Option Reached → Type 0
 StepsTo registry ahead s f result = (t : Tree) (after : List ℕ) → Fronts registry ahead f t after → LeadsTo registry ahead.bytes.now (step_at registry s f t) result

@@ -1,4 +1,4 @@
--- What a `Here` stands for.
+-- The specification's view of a `Here`.
 use Rattle.std.specs.Prelude.{map}
 use Rattle.bcs_registry_model.specs.Shape.{unit as unit_shape, tuple as tuple_shape}
 use Rattle.bcs_registry_model.specs.Container.{Content, of, one_of, field_shapes}

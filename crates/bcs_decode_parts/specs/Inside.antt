@@ -1,4 +1,4 @@
--- What an `Inside` stands for.
+-- The specification's view of an `Inside`.
 use Rattle.std.specs.Prelude.{◌≡◌, map, None}
 use Rattle.bcs_registry_model.specs.Shape.{array as array_shape, map as map_shape, name as name_shape, option as option_shape, seq as seq_shape, tuple as tuple_shape}
 use Rattle.bcs_registry_model.specs.Container.{Entries, Content, of, one_of, field_shapes}
@@ -8,11 +8,11 @@ use Rattle.bcs_decode_parts.specs.Parts.{Step, step_at}
 use Rattle.bcs_decode_parts.specs.declared.inside.Inside.{Inside}
 use Rattle.bcs_decode_parts.specs.declared.inside.Inside.TheVariants as inside
 
--- no step leads on from a value of it
+-- no step leads into a value of this content
 abbrev pub LeadsNowhere : Content → Type 0
 LeadsNowhere f = (registry : Entries) (s : Step) (t : Tree) → step_at registry s f t ≡ None
 
--- what stands here has that inside
+-- `f` contains what the `Inside` says
 abbrev pub Opens : Content → Inside → Type 0
 Opens f inside.Nothing = LeadsNowhere f
 Opens f (inside.Option g) = f ≡ of (option_shape (shape_of g.now))

@@ -1,4 +1,4 @@
--- What holds of parts, whatever the registry and the format are.
+-- Laws of parts, for every registry and format.
 use Rattle.std.specs.Prelude.{◌≡◌, ◌+◌, IsTrue, false, List, Option, Some, None, length}
 use Rattle.bcs_num.specs.Uleb.{uleb}
 use Rattle.bcs_registry_model.specs.Shape.{Shape, map as map_shape}
@@ -11,7 +11,7 @@ use Rattle.bcs_encode_spec.specs.Plain.{plain, plain_pairs}
 use Rattle.bcs_encode_spec.specs.Canonical.{IsCanonical}
 use Rattle.bcs_decode_parts.specs.Parts.{Step, key, Part, step_at, part_at, Stands}
 
--- a part's bytes stand in those of the whole, at its place
+-- the bytes of a part are in the whole encoding, at its place
 abbrev pub PartStands : Type 0
 PartStands = (registry : Entries) (path : List Step) (f : Content) (t : Tree) (x : Part)
     → part_at registry path f t ≡ Some x → Stands registry (plain registry t f) x
@@ -22,7 +22,7 @@ abbrev pub joined : Pairs → Pairs → Pairs
 joined no_pairs qs = qs
 joined (pair k v ps) qs = pair k v (joined ps qs)
 
--- in a canonical tree each entry is the one that its key's bytes lead to, so no other has these bytes
+-- in a canonical tree, the bytes of an entry's key lead to that entry and no other
 abbrev pub KeyLeadsToOne : Type 0
 KeyLeadsToOne = (registry : Entries) (f g : Shape) (before later : Pairs) (k v : Tree)
     → IsCanonical registry (tree.pairs (joined before (pair k v later))) (of (map_shape f g))
@@ -35,14 +35,14 @@ KeyLeadsToOne = (registry : Entries) (f g : Shape) (before later : Pairs) (k v :
 
 -- ---- growth
 
--- the same value at the same place, with the same bytes; or no part in either
+-- the same value at the same place, with the same bytes; or no part in both
 abbrev pub IsSamePart : Entries → Entries → Option Part → Option Part → Type 0
 IsSamePart older newer None None = Unit {0}
 IsSamePart older newer (Some x) (Some y) = (y.value ≡ x.value) × (y.place ≡ x.place) × (plain newer y.value y.content ≡ plain older x.value x.content)
 IsSamePart older newer None (Some y) = ⊥
 IsSamePart older newer (Some x) None = ⊥
 
--- what is a part of a fitting tree is the same part at a registry that the own one grows to, and nothing else is
+-- if a registry grows, a path leads to the same part of a fitting tree in both registries, or to none in both
 abbrev pub GrowthKeepsParts : Type 0
 GrowthKeepsParts = (older newer : Entries) (path : List Step) (f : Content) (t : Tree)
     → Grows older newer → IsTrue (fits false older t f) → IsSamePart older newer (part_at older path f t) (part_at newer path f t)

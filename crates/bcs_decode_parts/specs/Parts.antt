@@ -1,4 +1,4 @@
--- The parts of a value that steps lead to, and where their bytes stand in those of the value.
+-- The parts of a value that steps lead to, and where their bytes are in its encoding.
 use Rattle.std.specs.Prelude.{◌≡◌, ℕ, zero, suc, ◌+◌, List, [], ◌∷◌, ◌++◌, length, Option, Some, None, if◌then◌else◌}
 use Rattle.std.specs.Str.{bytes_eq}
 use Rattle.bcs_num.specs.Uleb.{uleb}
@@ -9,46 +9,46 @@ use Rattle.bcs_value_model.specs.Tree as tree
 use Rattle.bcs_value_model.specs.Tree.{Tree, Trees, no_trees, tree, Pairs, no_pairs, pair, count, pair_count}
 use Rattle.bcs_encode_spec.specs.Plain.{plain}
 
--- a step, without the memory that a `Step` borrows
+-- a `Step` that owns the bytes of its key
 pub data Step : Type 0 where
-  -- to the element of this number, from 0
+  -- to the element with this index, from 0
   item : ℕ → Step
-  -- to what an option, a variant or a container holds
+  -- into an option, a variant or a container
   inner : Step
-  -- to the value whose key has these bytes
+  -- to the value whose encoded key is these bytes
   key : List ℕ → Step
 
--- a part: its tree, what it is a value of, and how many bytes of the whole come before it
+-- a part: its tree, the content that it is a value of, and its place, the number of bytes before it
 pub record Part : Type 0 where
   pub value : Tree
   pub content : Content
   pub place : ℕ
 
--- the part in longer bytes, where so many come before these
+-- the same part, if `n` more bytes come before it
 abbrev pub part_after : ℕ → Option Part → Option Part
 part_after n None = None
 part_after n (Some x) = Some (record x { place = n + x.place })
 
--- a part of the part, if there is one
+-- continues from a part, if there is one
 abbrev pub part_onward : (Content → Tree → Option Part) → Option Part → Option Part
 part_onward next None = None
 part_onward next (Some x) = part_after x.place (next x.content x.value)
 
 module _ (registry : Entries) where
-  -- the element of this number, of values of one format
+  -- element `i` of values with one format
   abbrev pub item_of : Trees → Shape → ℕ → Option Part
   item_of no_trees s i = None
   item_of (tree t ts) s zero = Some (record { value = t; content = of s; place = 0 })
   item_of (tree t ts) s (suc i) = part_after (length (plain registry t (of s))) (item_of ts s i)
 
-  -- the element of this number, of values of a format each
+  -- element `i` of values with a format each
   abbrev pub item_in : Trees → Shapes → ℕ → Option Part
   item_in (tree t ts) (shape s ss) zero = Some (record { value = t; content = of s; place = 0 })
   item_in (tree t ts) (shape s ss) (suc i) = part_after (length (plain registry t (of s))) (item_in ts ss i)
   item_in no_trees ss i = None
   item_in (tree t ts) no_shapes i = None
 
-  -- the value of the first entry whose key has these bytes
+  -- the value of the first entry whose encoded key is `bytes`
   abbrev pub value_of : Pairs → Shape → Shape → List ℕ → Option Part
   value_of no_pairs f g bytes = None
   value_of (pair k v ps) f g bytes =
@@ -56,7 +56,7 @@ module _ (registry : Entries) where
       then Some (record { value = v; content = of g; place = length (plain registry k (of f)) })
       else part_after (length (plain registry k (of f)) + length (plain registry v (of g))) (value_of ps f g bytes)
 
-  -- where one step leads
+  -- the part that one step leads to
   abbrev pub step_at : Step → Content → Tree → Option Part
   step_at (item i) (of (shape.seq s)) (tree.items ts) = part_after (length (uleb (count ts))) (item_of ts s i)
   step_at (item i) (of (shape.tuple ss)) (tree.items ts) = item_in ts ss i
@@ -72,7 +72,7 @@ module _ (registry : Entries) where
   part_at [] f t = Some (record { value = t; content = f; place = 0 })
   part_at (s ∷ path) f t = part_onward (part_at path) (step_at s f t)
 
-  -- the bytes that come before a part are as many as its place says, and its own follow
+  -- the part's bytes are in `whole`, after as many bytes as its place says
   pub record Stands (whole : List ℕ) (x : Part) : Type 0 where
     pub before : List ℕ
     pub after : List ℕ

@@ -1,4 +1,4 @@
--- What a clause reads of a `PathStep`.
+-- The specification's view of a `PathStep`.
 use Rattle.std.specs.Prelude.{List, map}
 use Rattle.bcs_decode_parts.specs.Parts.{Step, item, inner, key}
 use Rattle.bcs_decode_parts.specs.declared.path_step.PathStep.{PathStep}

@@ -1,4 +1,4 @@
--- What a clause reads of steps and parts.
+-- The specification's view of steps and parts.
 use Rattle.std.specs.Prelude.{◌≡◌, ℕ, List, length, take, drop, Option, Some, None}
 use Rattle.bcs_registry_model.specs.Container.{Entries}
 use Rattle.bcs_encode_spec.specs.Plain.{plain}
@@ -12,7 +12,7 @@ step_of (Item i) = parts.item i
 step_of Inner = parts.inner
 step_of (Key k) = parts.key k.now
 
--- what is handed out is the part, with its place and its bytes, which are the input's from there on
+-- the result is the part: the place is its own, and so are the bytes, which are in the input at that place
 abbrev pub GivesPart : Entries → List ℕ → Option parts.Part → Option Part → Type 0
 GivesPart registry bytes None None = Unit {0}
 GivesPart registry bytes (Some x) (Some r) =

@@ -1,7 +1,7 @@
-//! What lies ahead in an encoding, and what lies behind.
+//! The rest of an encoding, with the limits for the value in it.
 ghost use Rattle.std.specs.Prelude.{◌≡◌, List, ℕ, ◌++◌};
 
-/// The bytes from a value's front on, how many containers may open in the value, and how many nodes it may have.
+/// The bytes from a value on, how many containers may still open in the value, and how many nodes it may have.
 #[derive(Clone, Copy)]
 pub struct Ahead<'a> {
     pub bytes: &'a [u8],
@@ -10,7 +10,7 @@ pub struct Ahead<'a> {
 }
 
 impl<'a> Ahead<'a> {
-    /// The same limits, with these bytes ahead.
+    /// The same limits for other bytes.
     pub fn at(&self, bytes: &'a [u8]) -> Ahead<'a>
         ensures bytes { result.bytes.now ≡ bytes.now }
         ensures depth { result.depth ≡ self.now.depth }
@@ -24,7 +24,7 @@ impl<'a> Ahead<'a> {
     }
 }
 
-/// The bytes before the rest, which ends where they end.
+/// The bytes before `rest`, which must be at the end of `bytes`.
 pub fn bytes_before<'a>(bytes: &'a [u8], rest: &[u8]) -> &'a [u8]
     ensures { (front : List ℕ) → bytes.now ≡ front ++ rest.now → result.now ≡ front }
 {

@@ -1,4 +1,4 @@
-//! What stands at a place of an encoding.
+//! What a position in an encoding contains.
 ghost use Rattle.std.specs.Prelude.{◌≡◌};
 ghost use Rattle.bcs_registry_model.specs.Container.{content, of, payload_shape};
 ghost use Rattle.bcs_registry_model.specs.View.{container_of, payload_of};
@@ -8,7 +8,7 @@ use crate::ahead::Ahead;
 use bcs_registry::{Container, Format, Named, VariantFormat};
 use std::collections::BTreeMap;
 
-/// What stands at a place: a value of a format, or what a container or a variant holds.
+/// A value of a format, or the contents of a container or of a variant.
 #[derive(Clone, Copy)]
 pub enum Here<'r> {
     Unit,
@@ -18,14 +18,14 @@ pub enum Here<'r> {
     Variants(&'r BTreeMap<u32, Named<VariantFormat>>),
 }
 
-/// Where steps have led.
+/// Where steps have led so far.
 #[derive(Clone, Copy)]
 pub struct Reached<'r, 'a> {
     pub here: Here<'r>,
     pub ahead: Ahead<'a>,
 }
 
-/// What a container holds.
+/// The contents of a container.
 pub fn container_inside(container: &Container) -> Here<'_>
     ensures { content_of result ≡ content (container_of container.now) }
 {
@@ -38,7 +38,7 @@ pub fn container_inside(container: &Container) -> Here<'_>
     }
 }
 
-/// What a variant holds.
+/// The contents of a variant.
 pub fn payload_inside(payload: &VariantFormat) -> Here<'_>
     ensures { content_of result ≡ of (payload_shape (payload_of payload.now)) }
 {

@@ -1,4 +1,4 @@
-//! What stands inside a value.
+//! What a value contains.
 ghost use Rattle.bcs_registry_model.specs.Container.{of};
 ghost use Rattle.bcs_registry_model.specs.View.{shape_of};
 ghost use Rattle.bcs_decode_parts.specs.Here.{content_of};
@@ -9,7 +9,7 @@ use bcs_registry::{Format, Named, VariantFormat};
 use bcs_registry_model::Kind;
 use std::collections::BTreeMap;
 
-/// What stands inside a value, to which steps may lead.
+/// The parts of a value that steps can lead to.
 #[derive(Clone, Copy)]
 pub enum Inside<'r> {
     Nothing,
@@ -23,7 +23,7 @@ pub enum Inside<'r> {
     Map(&'r Format, &'r Format),
 }
 
-/// What stands inside a value of the format.
+/// What a value of the format contains.
 fn inside_format(format: &Format) -> Inside<'_>
     ensures { Opens (of (shape_of format.now)) result }
 {
@@ -38,7 +38,7 @@ fn inside_format(format: &Format) -> Inside<'_>
     }
 }
 
-/// What stands inside what stands here.
+/// What the value or the contents at `here` contain.
 pub fn inside_of<'r>(here: &Here<'r>) -> Inside<'r>
     ensures { Opens (content_of here.now) result }
 {

@@ -1,17 +1,17 @@
-//! What holds of parts: laws that a proof may cite. No call does anything.
+//! Laws of parts, for proofs to cite. The functions do nothing.
 ghost use Rattle.bcs_decode_parts.specs.PartLaws.{GrowthKeepsParts, KeyLeadsToOne, PartStands};
 
-/// A part's bytes stand in those of the whole, at its place.
+/// The bytes of a part are in the whole encoding, at its place.
 pub fn part_stands()
     ensures { PartStands }
 {}
 
-/// A key leads to one entry of a canonical map: no other has the key's bytes.
+/// A key leads to one entry of a canonical map: no other entry has the same encoded key.
 pub fn key_leads_to_one()
     ensures { KeyLeadsToOne }
 {}
 
-/// What is a part of a value is the same part, with the same place and bytes, at a registry that its own one grows to.
+/// A path leads to the same part, with the same place and bytes, in every registry that the value's registry grows to.
 pub fn growth_keeps_parts()
     ensures { GrowthKeepsParts }
 {}

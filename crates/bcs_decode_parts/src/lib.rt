@@ -1,4 +1,4 @@
-//! Parts of an encoding, handed out as slices of it, and the paths that lead to them.
+//! Finds parts of an encoding by a path, and returns them as slices.
 #![tactic(auto)]
 
 pub mod ahead;

@@ -1,10 +1,10 @@
 //! Parts of an input.
 
-/// A part of an input: a slice of it.
+/// A part of an input, as a slice of it.
 #[derive(Clone, Copy)]
 pub struct Part<'a> {
-    /// Its bytes.
+    /// The encoding of the part.
     pub bytes: &'a [u8],
-    /// How many bytes of the input come before it.
+    /// The byte offset of the part in the input.
     pub place: usize,
 }

@@ -1,4 +1,4 @@
-//! The bytes after what stands ahead.
+//! The bytes that come after a value. If no valid value is ahead, the result isn't specified.
 ghost use Rattle.std.specs.Prelude.{◌≡◌, List, ℕ, map};
 ghost use Rattle.bcs_registry_model.specs.Container.{field_shapes, of, payload_shape};
 ghost use Rattle.bcs_registry_model.specs.Shape.{array as array_shape, tuple as tuple_shape};
@@ -26,7 +26,7 @@ fn over<'a>(ahead: &Ahead<'a>) -> Cursor<'a>
     }
 }
 
-/// After the value of the format.
+/// The bytes after a value of the format.
 #[inline(never)]
 pub fn after_value<'a>(registry: &Registry, format: &Format, ahead: &Ahead<'a>) -> Option<&'a [u8]>
     ensures { (t : Tree) (after : List ℕ) → Fronts registry.now ahead.now (of (shape_of format.now)) t after → IsRest after result }
@@ -38,7 +38,7 @@ pub fn after_value<'a>(registry: &Registry, format: &Format, ahead: &Ahead<'a>) 
     }
 }
 
-/// After so many values of one format.
+/// The bytes after `count` values of one format.
 pub fn after_items<'a>(
     registry: &Registry,
     element: &Format,
@@ -54,7 +54,7 @@ pub fn after_items<'a>(
     }
 }
 
-/// After a value of each format in turn.
+/// The bytes after a tuple with these formats.
 pub fn after_formats<'a>(
     registry: &Registry,
     formats: &[Format],
@@ -69,7 +69,7 @@ pub fn after_formats<'a>(
     }
 }
 
-/// After a value of each field's format in turn.
+/// The bytes after a struct with these fields.
 pub fn after_fields<'a>(
     registry: &Registry,
     fields: &[Named<Format>],
@@ -84,7 +84,7 @@ pub fn after_fields<'a>(
     }
 }
 
-/// After what a variant holds.
+/// The bytes after the contents of a variant.
 pub fn after_payload<'a>(
     registry: &Registry,
     held: &VariantFormat,
@@ -99,7 +99,7 @@ pub fn after_payload<'a>(
     }
 }
 
-/// After what was reached.
+/// The bytes after what was reached.
 pub fn after_reached<'a>(registry: &Registry, at: &Reached<'_, 'a>) -> Option<&'a [u8]>
     ensures { (t : Tree) (after : List ℕ) → Fronts registry.now at.now.ahead (content_of at.now.here) t after → IsRest after result }
 {

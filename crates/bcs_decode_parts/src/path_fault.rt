@@ -1,13 +1,13 @@
-//! Why a word gives no path.
+//! Why a PATH argument is rejected.
 ghost use Rattle.std.specs.Prelude.{◌≡◌};
 
 use std::alloc::AllocFailed;
 use thiserror::Error;
 
-/// Why a word gives no path. The message is the variant's name alone.
+/// Why a PATH argument is rejected. `Display` prints the variant's name.
 #[derive(Clone, Copy, Debug, Drop, PartialEq, Eq, Error)]
 pub enum PathFault {
-    /// The word spells no steps.
+    /// The word isn't a path.
     #[error("BadPath")]
     BadPath,
     /// Memory ran out.

@@ -1,7 +1,7 @@
-//! A law of paths, which a proof may cite. The call does nothing.
+//! A law of paths, for proofs to cite. The function does nothing.
 ghost use Rattle.bcs_decode_parts.specs.PathLaws.{OnePath};
 
-/// A word spells the steps of one path at most.
+/// A word spells at most one path.
 pub fn one_path()
     ensures { OnePath }
 {}

@@ -1,4 +1,4 @@
-//! The steps of a path.
+//! The steps of a path that was read from an argument.
 ghost use Rattle.std.specs.Prelude.{◌≡◌, IfOk, map};
 ghost use Rattle.bcs_decode_parts.specs.Steps.{step_of};
 ghost use Rattle.bcs_decode_parts.specs.PathSteps.{all_spelled, spelled};
@@ -6,19 +6,19 @@ ghost use Rattle.bcs_decode_parts.specs.PathSteps.{all_spelled, spelled};
 use crate::Step;
 use std::alloc::{AllocError, Global};
 
-/// A step of a path, which holds the bytes of its key.
+/// A step of a path. It owns the bytes of its key.
 #[derive(Debug, Drop)]
 pub enum PathStep {
-    /// To the element of this number, counted from 0.
+    /// To the element with this index, from 0.
     Item(u64),
-    /// To what an option, a variant or a container holds.
+    /// Into an option, a variant or a container.
     Inner,
-    /// To the value of a map whose key has these bytes.
+    /// To the value of a map whose encoded key is these bytes.
     Key(Vec<u8>),
 }
 
 impl PathStep {
-    // The step, which borrows the key.
+    // The same step, borrowing the key.
     fn step(&self) -> Step<'_>
         ensures { step_of result ≡ spelled self.now }
     {
@@ -30,7 +30,7 @@ impl PathStep {
     }
 }
 
-/// The steps, which borrow their keys from the path.
+/// The same steps, borrowing their keys from `path`.
 pub fn steps_of(alloc: Global, path: &[PathStep]) -> Result<Vec<Step<'_>>, AllocError>
     ensures { IfOk result (λ steps. map step_of steps.items ≡ all_spelled path.now) }
 {

@@ -1,4 +1,4 @@
-//! From a word to a path.
+//! Reads PATH arguments.
 ghost use Rattle.std.specs.Prelude.{◌≡◌, ◌<◌, ◌^◌, ℕ, List, Ok, Err, IfOk};
 ghost use Rattle.std.specs.Fmt.{decimal};
 ghost use Rattle.hex.specs.Hex.{decode_of};
@@ -12,10 +12,9 @@ use bcs_num::{Width, parse_unsigned};
 use hex::FromHexError;
 use std::alloc::Global;
 
-/// The steps that the word spells: none for `.`, and else those between its slashes, each a plain
-/// decimal number below 2^64, `inner`, or `key:` and hexadecimal digits of either case, two for each
-/// byte of the key. `BadPath`: the word spells no steps, as an empty word, an empty step, a leading
-/// zero and an odd number of digits do.
+/// Reads a PATH argument: `.` for the empty path, and otherwise steps, joined by `/`. A step is a plain decimal number
+/// below 2^64, `inner`, or `key:` and the bytes of a key in hexadecimal, in either case. `BadPath`: the word is
+/// anything else, for instance an empty word, an empty step, a number with a leading zero, or an odd number of digits.
 pub fn read_path(alloc: Global, word: &str) -> Result<Vec<PathStep>, PathFault>
     ensures spelled { IfOk result (λ path. SpellsPath word.now (all_spelled path.items)) }
     ensures bad { result ≡ Err PathFault.BadPath → SpellsNoPath word.now }
@@ -30,7 +29,7 @@ pub fn read_path(alloc: Global, word: &str) -> Result<Vec<PathStep>, PathFault>
     Ok(path)
 }
 
-// The step that the text spells.
+// Reads one step.
 fn read_step(alloc: Global, text: &str) -> Result<PathStep, PathFault>
     ensures spelled { IfOk result (λ s. SpellsStep text.now (spelled s)) }
     ensures bad { result ≡ Err PathFault.BadPath → (s : Step) → SpellsStep text.now s → ⊥ }
@@ -44,7 +43,7 @@ fn read_step(alloc: Global, text: &str) -> Result<PathStep, PathFault>
     }
 }
 
-// The step whose key has these digits.
+// The step to the key with these hexadecimal digits.
 fn read_key(alloc: Global, digits: &str) -> Result<PathStep, PathFault>
     ensures spelled { IfOk result (λ s. (bytes : List ℕ) × (decode_of digits.now ≡ Ok bytes) × (spelled s ≡ key bytes)) }
     ensures bad { result ≡ Err PathFault.BadPath → (bytes : List ℕ) → decode_of digits.now ≡ Ok bytes → ⊥ }
@@ -60,7 +59,7 @@ fn read_key(alloc: Global, digits: &str) -> Result<PathStep, PathFault>
     }
 }
 
-// The step to the element of this number.
+// The step to an element.
 fn read_number(text: &str) -> Result<PathStep, PathFault>
     ensures spelled { IfOk result (λ s. (n : ℕ) × (text.now ≡ decimal n) × (n < 2 ^ 64) × (spelled s ≡ item n)) }
     ensures bad { result ≡ Err PathFault.BadPath → (n : ℕ) → n < 2 ^ 64 → text.now ≡ decimal n → ⊥ }

@@ -1,4 +1,4 @@
-//! One step into a value.
+//! Takes one step. `None` if the step leads nowhere. If no valid value is ahead, the result isn't specified.
 ghost use Rattle.std.specs.Prelude.{List, ℕ, map};
 ghost use Rattle.bcs_registry_model.specs.Container.{Entries, field_shapes, of, one_of};
 ghost use Rattle.bcs_registry_model.specs.Shape.{array as array_shape, map as map_shape, name as name_shape, option as option_shape, seq as seq_shape, tuple as tuple_shape};
@@ -17,7 +17,7 @@ use crate::variants::{after_number, chosen};
 use bcs_registry::{Format, Named, Registry, VariantFormat};
 use std::collections::BTreeMap;
 
-/// To the element of this number in a list.
+/// To element `index` of a list.
 fn list_item<'r, 'a>(
     registry: &Registry,
     element: &'r Format,
@@ -37,7 +37,7 @@ fn list_item<'r, 'a>(
     })
 }
 
-/// To the element of this number in an array of so many.
+/// To element `index` of an array with `size` elements.
 fn array_item<'r, 'a>(
     registry: &Registry,
     element: &'r Format,
@@ -57,7 +57,7 @@ fn array_item<'r, 'a>(
     })
 }
 
-/// To the element of this number in a tuple.
+/// To element `index` of a tuple.
 fn tuple_item<'r, 'a>(
     registry: &Registry,
     formats: &'r [Format],
@@ -75,7 +75,7 @@ fn tuple_item<'r, 'a>(
     })
 }
 
-/// To the field of this number in a struct.
+/// To field `index` of a struct.
 fn field_item<'r, 'a>(
     registry: &Registry,
     fields: &'r [Named<Format>],
@@ -93,7 +93,7 @@ fn field_item<'r, 'a>(
     })
 }
 
-/// To what an option holds.
+/// Into an option.
 fn in_option<'r, 'a>(content: &'r Format, ahead: &Ahead<'a>) -> Option<Reached<'r, 'a>>
     ensures { (registry : Entries) → StepsTo registry ahead.now inner (of (option_shape (shape_of content.now))) result }
 {
@@ -107,7 +107,7 @@ fn in_option<'r, 'a>(content: &'r Format, ahead: &Ahead<'a>) -> Option<Reached<'
     })
 }
 
-/// To what the container of this name holds.
+/// Into the container `name`.
 fn in_container<'r, 'a>(
     registry: &'r Registry,
     name: &str,
@@ -129,7 +129,7 @@ fn in_container<'r, 'a>(
     })
 }
 
-/// To what a variant holds.
+/// Into a variant.
 fn in_variant<'r, 'a>(
     variants: &'r BTreeMap<u32, Named<VariantFormat>>,
     ahead: &Ahead<'a>,
@@ -143,7 +143,7 @@ fn in_variant<'r, 'a>(
     })
 }
 
-/// To the value of a map whose key has these bytes.
+/// To the value of a map whose encoded key is `wanted`.
 fn map_value<'r, 'a>(
     registry: &Registry,
     key: &Format,
@@ -167,7 +167,7 @@ fn map_value<'r, 'a>(
     None
 }
 
-/// To the element of this number.
+/// To element `index`.
 fn to_item<'r, 'a>(registry: &Registry, at: &Reached<'r, 'a>, index: u64) -> Option<Reached<'r, 'a>>
     ensures { StepsTo registry.now at.now.ahead (item index) (content_of at.now.here) result }
 {
@@ -184,7 +184,7 @@ fn to_item<'r, 'a>(registry: &Registry, at: &Reached<'r, 'a>, index: u64) -> Opt
     }
 }
 
-/// To what an option, a variant or a container holds.
+/// Into an option, a variant or a container.
 fn to_inner<'r, 'a>(registry: &'r Registry, at: &Reached<'r, 'a>) -> Option<Reached<'r, 'a>>
     ensures { StepsTo registry.now at.now.ahead inner (content_of at.now.here) result }
 {
@@ -201,7 +201,7 @@ fn to_inner<'r, 'a>(registry: &'r Registry, at: &Reached<'r, 'a>) -> Option<Reac
     }
 }
 
-/// To the value whose key has these bytes.
+/// To the value whose encoded key is `wanted`.
 fn to_value<'r, 'a>(
     registry: &Registry,
     at: &Reached<'r, 'a>,
@@ -222,7 +222,7 @@ fn to_value<'r, 'a>(
     }
 }
 
-/// Where a step leads.
+/// Takes one step.
 pub fn take_step<'r, 'a>(
     registry: &'r Registry,
     at: &Reached<'r, 'a>,

@@ -1,4 +1,4 @@
-//! Numbers and variants at the front of bytes.
+//! Reads the number and the contents of a variant.
 ghost use Rattle.std.specs.Prelude.{◌<◌, ◌^◌, ◌≡◌, ◌++◌, List, ℕ, map};
 ghost use Rattle.bcs_num.specs.Uleb.{uleb};
 ghost use Rattle.bcs_registry_model.specs.View.{choice_of};
@@ -8,7 +8,7 @@ use bcs_num::take_uleb;
 use bcs_registry::{Named, VariantFormat};
 use std::collections::BTreeMap;
 
-/// The number by ULEB128 at the front, and the bytes after it.
+/// The ULEB128 number at the start of `bytes`, and the bytes after it.
 pub fn after_number(bytes: &[u8]) -> Option<(u32, &[u8])>
     ensures { (n : ℕ) (after : List ℕ) → n < 2 ^ 32 → bytes.now ≡ uleb n ++ after → IsNumber n after result }
 {
@@ -21,7 +21,7 @@ pub fn after_number(bytes: &[u8]) -> Option<(u32, &[u8])>
     }
 }
 
-/// What the variant holds whose number stands at the front, and the bytes after the number.
+/// The contents of the variant whose number is at the start of `bytes`, and the bytes after the number.
 pub fn chosen<'r, 'a>(
     variants: &'r BTreeMap<u32, Named<VariantFormat>>,
     bytes: &'a [u8],

@@ -1,4 +1,4 @@
-//! Steps in a row.
+//! Follows the steps of a path.
 ghost use Rattle.std.specs.Prelude.{List, ℕ, map, ◌≤◌, ◌≡◌, ◌++◌};
 ghost use Rattle.bcs_registry_model.specs.Container.{of};
 ghost use Rattle.bcs_registry_model.specs.View.{shape_of};
@@ -15,9 +15,8 @@ use crate::step::Step;
 use crate::stepping::take_step;
 use bcs_registry::{Format, Registry};
 
-/// The part that the steps lead to, of the value ahead.
-///
-/// Where no value of the format stands ahead, nothing is said of the answer.
+/// Returns the part that `path` leads to in the value ahead, or `None` if there is none. If no valid value of the
+/// format is ahead, the result isn't specified.
 pub fn walk<'a>(
     registry: &Registry,
     format: &Format,

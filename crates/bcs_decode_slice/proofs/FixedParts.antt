@@ -1,4 +1,4 @@
--- The size of a format's values, from those of its parts.
+-- The fixed size of a format's values, derived from the sizes of its parts.
 use Rattle.bcs_decode_slice.proofs.Prelude.{◌≡◌, ℕ, zero, suc, ◌+◌, ◌-◌, ◌*◌, ◌<◌, ◌≤◌, List, drop, refl, ap, ◌∙◌, arith, Shape, Shapes, Entries, Content, of, content_at, Parser, give, items_here, skipping, value_here, shape_here, skip, whole_here, GoesPast, IsFixed, IsFixedInside}
 use Rattle.bcs_registry_model.specs.Shape as shape
 use Rattle.bcs_decode_slice.proofs.Passings.{enter_more, unit_is}
@@ -6,13 +6,13 @@ use Rattle.bcs_decode_slice.proofs.PassingParts.{each, each_end, each_on, tuple_
 use Rattle.bcs_decode_slice.proofs.WholeRows.{one_on}
 use Rattle.bcs_decode_slice.proofs.Reaching.{Reaches, reaches_on, reaches_end, node_goes, items_reach}
 
--- a node, and then what goes past so many
+-- a node, followed by something of fixed size
 node_and : (f g : Parser (Unit {0})) (i k : ℕ) → Reaches f g 0 1 → GoesPast g i k → GoesPast f (0 + i) (1 + k)
 unfolding give
 node_and f g i k node goes = reaches_end f (0 + i) (1 + k) (reaches_on f g (give tt) 0 i 1 k node goes)
 
 module _ (registry : Entries) (d : ℕ) where
-  -- any so many bytes are a value
+  -- any `w` bytes are a value
   pub fixed_whole : (s : Shape) (w : ℕ) → ((p m : ℕ) (b : List ℕ) → skip registry d s p m b ≡ whole_here w p m b) → IsFixed registry d s w 1
   fixed_whole s w is p zero b there left = absurd (omega arith)
   fixed_whole s w is p (suc m) b there left =

@@ -1,4 +1,4 @@
--- What a container holds, opened before what it holds is gone past.
+-- Opening a container: its layout is determined before its contents are skipped.
 use Rattle.bcs_decode_slice.proofs.Prelude.{◌≡◌, ℕ, ◌≤◌, List, Ok, Err, refl, ap, ◌∙◌, Shape, Entries, Choice, Content, of, one_of, nothing, choice_at, Reason, UnknownVariant, Read, follow, chain, give, fail, fail_here, choice_here, named_here, value_here, skipping, skip, variant_past, chosen_here, opened_here}
 use Rattle.bcs_decode_slice.proofs.Passings.{bare}
 use Rattle.bcs_decode_slice.proofs.PassingParts.{content_past, content_shape, content_nothing, variant_is}
@@ -20,7 +20,7 @@ module _ (p m : ℕ) (b : List ℕ) where
   unfolding opened_here chain chosen_here give
   opened_variant k cs start n q l c s is h chosen = rw (is, h, chosen) refl
 
--- ---- what was opened is gone past
+-- ---- skipping what was opened
 
 module _ (registry : Entries) (d : ℕ) where
   chosen_is : (start : ℕ) (k : Content) (p m : ℕ) (b : List ℕ) → chain (choice_here skipping (named_here skipping registry d) start k) (λ _. give tt) p m b ≡ follow (chosen_here start k p m b) (λ s. skip registry d s)

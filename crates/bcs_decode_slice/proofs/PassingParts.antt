@@ -1,4 +1,4 @@
--- Going past a value with values inside, part by part.
+-- Skipping a value that contains values, part by part.
 use Rattle.bcs_decode_slice.proofs.Prelude.{◌≡◌, ℕ, zero, suc, ◌+◌, ◌-◌, ◌<◌, ◌≤◌, List, Option, Some, None, Bool, true, false, if◌then◌else◌, Ok, Err, refl, ap, ◌∙◌, arith, Shape, Shapes, Entries, Choice, Content, of, one_of, nothing, content, content_at, choice_at, container_of, Reason, BadOption, Unsupported, UnknownVariant, Read, Parser, Making, follow, chain, give, fail, fail_here, node, number_here, length_here, key_here, items_here, pairs_here, option_here, shape_here, each_here, choice_here, variant_here, content_here, named_here, value_here, skipping, node_here, skip, counted_here, flag_past, variant_past, enter_here}
 use Rattle.bcs_registry_model.specs.Shape as shape
 use Rattle.bcs_registry_model.specs.declared.container.Container as declared
@@ -76,7 +76,7 @@ module _ (registry : Entries) (d p m : ℕ) (b : List ℕ) where
     unfolding value_here shape_here
     map_on n q l c h = node_counted (pairs_here skipping (skip registry d k) (skip registry d v) None) p m b n q l c h
 
--- ---- values in a row
+-- ---- sequences of values
 
 module _ (f : Parser (Unit {0})) (n i p m : ℕ) (b : List ℕ) where
   items_step : i < n → items_here skipping f (n - i) ≡ chain f (λ t. chain (items_here skipping f (n - (i + 1))) (λ ts. give tt))
@@ -117,7 +117,7 @@ module _ (f g : Parser (Unit {0})) (last : Option (List ℕ)) (n i p m : ℕ) (b
   unfolding chain
   pairs_on key q l c r k d lt h j = rw (pairs_step lt, h, j) (bare (pairs_here skipping f g (Some key) (n - (i + 1)) r k d))
 
--- one parser of values is another
+-- if two parsers agree on every value, they agree on sequences of them
 module _ {V : Type 0} {R : Type 0} {E : Type 0} (make : Making V R E) (f g : Parser V) where
   tail_same : (n : ℕ) → ((p m : ℕ) (b : List ℕ) → items_here make f n p m b ≡ items_here make g n p m b)
       → (r : Read V) → follow r (λ t. chain (items_here make f n) (λ ts. give (make.item t ts))) ≡ follow r (λ t. chain (items_here make g n) (λ ts. give (make.item t ts)))
@@ -175,7 +175,7 @@ module _ (registry : Entries) (name : List ℕ) (p m : ℕ) (b : List ℕ) where
   named_on zero q l c lt h = absurd (omega arith)
   named_on (suc d) q l c lt h = let k : suc d - 1 ≡ d = omega arith in rw k (node_then (content_past registry d (content_at name registry)) p m b q l c h)
 
--- a container that opens and is found: what stands in it comes next
+-- if the container opens and is found, its contents come next
 pub named_past : (registry : Entries) (name : List ℕ) (p m : ℕ) (b : List ℕ) (d q l : ℕ) (c : List ℕ) (k : declared.Container)
     → 0 < d → enter_here d p m b ≡ Ok (tt, q, l, c) → content_at name registry ≡ content (container_of k)
     → skip registry d (shape.name name) p m b ≡ content_past registry (d - 1) (content (container_of k)) q l c

@@ -1,4 +1,4 @@
--- Going past a value, format by format.
+-- Skipping a value, format by format.
 use Rattle.bcs_decode_slice.proofs.Prelude.{◌≡◌, ℕ, zero, suc, ◌+◌, ◌<◌, ◌≤◌, List, length, Result, Ok, Err, refl, ap, ◌∙◌, arith, le-ltb, Width, byte_len, from_le_bytes, cast_signed, Entries, shape_of, scalar_shape, whole_shape, whole_len, IntegerKind, Unsigned, Signed, Scalar, width_of, NumberWidth, W1, W2, W4, W8, W16, Format, BadBool, TooDeep, Unsupported, Read, Parser, follow, chain, give, fail_here, node, length_here, bytes_here, text_here, flag_here, unsigned_here, signed_here, shape_here, value_here, Cursor, Stop, Passes, node_here, skip, truth_here, whole_here, counted_here, text_past, bytes_past, unsupported_here, enter_here}
 use Rattle.bcs_registry_model.specs.Shape as shape
 use Rattle.bcs_registry_model.specs.declared.scalar.Scalar.TheVariants as scalar
@@ -12,15 +12,15 @@ unfolding enter_here
 enter_more zero h = absurd (omega arith)
 enter_more (suc d) h = refl
 
--- a node, and then what stands there
+-- `node f` consumes a node, and then runs `f`
 pub node_is : {A : Type 0} (f : Parser A) (p m : ℕ) (b : List ℕ) → node f p m b ≡ follow (node_here p m b) (λ _. f)
 unfolding node give
 node_is f p zero b = refl
 node_is f p (suc m) b = refl
 
--- ---- what has no values inside
+-- ---- values without values inside
 
--- what is read from the cursor on is read from another on
+-- what a parser reads from one cursor, another reads from a later one
 pub passes_from : {X A : Type 0} (view : X → A) (r : Result X Stop) (f g : Parser A) (old mid new : Cursor)
     → f old.place old.nodes old.rest.now ≡ g mid.place mid.nodes mid.rest.now → Passes view r g mid new → Passes view r f old new
 passes_from view (Ok x) f g old mid new e h = e ∙ h
@@ -33,7 +33,7 @@ chain_is : {A B : Type 0} (f : Parser A) (k : A → Parser B) (p m : ℕ) (b : L
 unfolding chain
 chain_is f k p m b = refl
 
--- nothing is made of nothing
+-- mapping the unit result to unit changes nothing
 pub bare : (r : Read (Unit {0})) → follow r (λ _. give tt) ≡ r
 unfolding give
 bare (Ok x) = refl
@@ -68,7 +68,7 @@ pub whole_len-small : (n : IntegerKind) → whole_len n ≤ 16
 whole_len-small (Unsigned w) = width_small w
 whole_len-small (Signed w) = width_small w
 
--- a node alone is one with no bytes
+-- a node alone is a node with 0 bytes
 pub nothing_is : (p m : ℕ) (b : List ℕ) → node_here p m b ≡ whole_here 0 p m b
 unfolding whole_here chain node give bytes_here
 nothing_is p zero b = refl
@@ -76,7 +76,7 @@ nothing_is p (suc m) b =
     let none : p + 0 ≡ p = omega arith in
     rw (le-ltb (length b) 0 (omega arith), none) refl
 
--- a value of a format without parts
+-- skips a value of a format without parts
 abbrev pub scalar_past : Scalar → Parser (Unit {0})
 scalar_past scalar.Unit = node_here
 scalar_past scalar.Bool = truth_here

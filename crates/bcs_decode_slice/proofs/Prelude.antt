@@ -1,4 +1,4 @@
--- What the proofs use of other crates, and of this crate's definitions.
+-- Names from other crates and from this crate's definitions that the proofs share.
 pub use Rattle.std.proofs.Common.{[], ap, arith, Bool, drop, Err, false, if◌then◌else◌, inl, inr, IsUtf8, length, List, map, max, mul-le-mul_right, None, Ok, Option, refl, Result, rules, Some, subst, suc, sym, take, true, zero, ℕ, ◌*◌, ◌++◌, ◌+◌, ◌-◌, ◌/◌, ◌<◌, ◌^◌, ◌∙◌, ◌≡◌, ◌≤◌, ◌⊎◌}
 pub use Rattle.std.proofs.Math.Nat.{le-div_iff_mul-le, suc-mul}
 pub use Rattle.std.proofs.lemmas.Bool.{le-ltb, lt-ltb}

@@ -1,8 +1,8 @@
--- Parsers that go past so many bytes and nodes, and what reads on from there.
+-- Parsers that consume a fixed number of bytes and nodes, followed by other parsers.
 use Rattle.bcs_decode_slice.proofs.Prelude.{◌≡◌, ℕ, zero, suc, ◌+◌, ◌-◌, ◌*◌, ◌≤◌, List, length, drop, refl, ◌∙◌, arith, suc-mul, length-drop, drop-drop, Parser, chain, give, node, items_here, skipping, node_here, GoesPast}
 use Rattle.bcs_decode_slice.proofs.Passings.{bare}
 
--- wherever so many bytes and nodes are left, the one parser goes past them, and the other reads on
+-- if at least `i` bytes and `k` nodes are left, `f` consumes exactly these, and continues as `g`
 abbrev pub Reaches : Parser (Unit {0}) → Parser (Unit {0}) → ℕ → ℕ → Type 0
 Reaches f g i k = (p m : ℕ) (b : List ℕ) → i ≤ length b → k ≤ m → f p m b ≡ g (p + i) (m - k) (drop i b)
 
@@ -38,7 +38,7 @@ node_goes p (suc m) b there left =
     let nodes : suc m - 1 ≡ m = omega arith in
     rw (place, nodes) refl
 
--- ---- values in a row
+-- ---- sequences of values
 
 module _ (f : Parser (Unit {0})) (i k : ℕ) (goes : GoesPast f i k) where
   item_reaches : (n : ℕ) → Reaches (items_here skipping f (suc n)) (items_here skipping f n) i k

@@ -1,4 +1,4 @@
--- What the steps of a cursor need of the parsers.
+-- Facts about parsers that the functions of `Cursor` need.
 use Rattle.bcs_decode_slice.proofs.Prelude.{◌≡◌, ℕ, ◌+◌, ◌<◌, ◌≤◌, ◌^◌, List, ◌++◌, length, take, drop, Ok, Err, refl, sym, ap, subst, ◌∙◌, arith, inl, inr, Bool, true, false, if◌then◌else◌, IsUtf8, take-append-drop, length-take, is_utf8, utf8_valid_len, IsUtf8-from_is_utf8, is_utf8-from_IsUtf8, uleb, IsUnended, IsLongForm, IsTooLarge, EndOfInput, LongForm, NumberTooLarge, BadUtf8, follow, chain, give, fail, number_here, bytes_here, text_here, exact_number}
 
 pub number_found : (p m : ℕ) (b : List ℕ) (n k : ℕ) → n < 2 ^ 32 → k ≤ length b → take k b ≡ uleb n → number_here p m b ≡ Ok (n, p + k, m, drop k b)
@@ -19,7 +19,7 @@ number_large p m b h = exact_number.stops p m b NumberTooLarge p (inr (inl (h, r
 pub number_long : (p m : ℕ) (b : List ℕ) → IsLongForm b → number_here p m b ≡ Err (LongForm, p)
 number_long p m b h = exact_number.stops p m b LongForm p (inr (inr (h, refl, refl)))
 
--- ---- texts
+-- ---- strings
 
 pub text_found : (p m : ℕ) (b : List ℕ) (n : ℕ) (s : List ℕ) (q l : ℕ) (c : List ℕ) → bytes_here n p m b ≡ Ok (s, q, l, c) → IsUtf8 s → text_here n p m b ≡ Ok (s, q, l, c)
 unfolding text_here chain give

@@ -1,4 +1,4 @@
--- Going past a row of values that each have so many bytes, in one step.
+-- Skipping `n` values of `w` bytes each in one step.
 use Rattle.bcs_decode_slice.proofs.Prelude.{◌≡◌, ℕ, zero, suc, ◌+◌, ◌-◌, ◌*◌, ◌<◌, ◌≤◌, List, length, drop, Ok, Err, refl, ap, ◌∙◌, arith, ◌/◌, ◌⊎◌, inl, inr, mul-le-mul_right, suc-mul, le-ltb, lt-ltb, length-drop, drop-drop, Reason, EndOfInput, TooManyNodes, chain, give, node, bytes_here, items_here, skipping, whole_here}
 use Rattle.bcs_decode_slice.proofs.Passings.{bare}
 
@@ -27,7 +27,7 @@ module _ (w : ℕ) where
   unfolding items_here give
   row_none p m b = refl
 
-  -- all are there
+  -- all values are there
   pub row_passed : (n p m : ℕ) (b : List ℕ) → n ≤ m → n * w ≤ length b → items_here skipping (whole_here w) n p m b ≡ Ok (tt, p + n * w, m - n, drop (n * w) b)
   row_passed zero p m b h g =
       let none : p + 0 * w ≡ p = omega arith in
@@ -45,7 +45,7 @@ module _ (w : ℕ) where
       let rest : drop (n * w) (drop w b) ≡ drop (suc n * w) b = drop-drop _ _ b ∙ ap (λ k. drop k b) (omega (arith, more)) in
       row_on n p m b le ∙ row_passed n (p + w) m (drop w b) few there ∙ rw (place, left, rest) refl
 
-  -- nodes run out first
+  -- the node limit is reached first
   pub row_many : (n p m : ℕ) (b : List ℕ) → m < n → m * w ≤ length b → items_here skipping (whole_here w) n p m b ≡ Err (TooManyNodes, p + m * w)
   row_many zero p m b h g = absurd (omega arith)
   row_many (suc n) p zero b h g = let none : p + 0 * w ≡ p = omega arith in rw none (row_stop n p zero b (TooManyNodes, p) (one_many p b))
@@ -57,7 +57,7 @@ module _ (w : ℕ) where
       let place : (p + w) + m * w ≡ p + suc m * w = omega (arith, more) in
       row_on n p m b le ∙ row_many n (p + w) m (drop w b) few there ∙ rw place refl
 
-  -- bytes run out first, after k values
+  -- the input ends first, after `k` values
   pub row_ended : (k n p m : ℕ) (b : List ℕ) → k < n → k < m → k * w ≤ length b → length b < suc k * w → items_here skipping (whole_here w) n p m b ≡ Err (EndOfInput, p + length b)
   row_ended k zero p m b h g le lt = absurd (omega arith)
   row_ended k (suc n) p zero b h g le lt = absurd (omega arith)
@@ -72,7 +72,7 @@ module _ (w : ℕ) where
       let place : (p + w) + length (drop w b) ≡ p + length b = omega (arith, long) in
       row_on n p m b fits ∙ row_ended k n (p + w) m (drop w b) (omega arith) (omega arith) there ended ∙ rw place refl
 
--- ---- how many values the bytes have room for
+-- ---- how many values fit into the bytes
 
 pub room_low : (len k w : ℕ) → 0 < w → k ≡ len / w → k * w ≤ len
 room_low len k w h is = rw is (omega arith)

@@ -1,4 +1,4 @@
-//! Steps through a slice of bytes, each of which reads one thing.
+//! A cursor over a slice of bytes. Each function reads one item and advances the cursor.
 ghost use Rattle.std.specs.Prelude.{◌≡◌, ℕ, ◌+◌, ◌<◌, ◌≤◌, ◌^◌, length, take, drop, IfOk};
 ghost use Rattle.bcs_decode_spec.specs.Reading.{number_here, length_here, bytes_here, text_here, flag_here};
 ghost use Rattle.bcs_decode_slice.specs.Passing.{Passes, Onward, node_here};
@@ -6,18 +6,18 @@ ghost use Rattle.bcs_decode_slice.specs.Passing.{Passes, Onward, node_here};
 use bcs_decode_spec::{Reason, Stop};
 use bcs_num::{LENGTH_LIMIT, NumFault, take_uleb};
 
-/// What is left of a slice.
+/// The unread rest of a slice.
 #[derive(Drop)]
 pub struct Cursor<'a> {
-    /// The bytes that are left.
+    /// The bytes that haven't been read.
     pub rest: &'a [u8],
-    /// How many bytes were gone past.
+    /// The number of bytes read so far.
     pub place: u64,
-    /// How many nodes may still begin.
+    /// The number of nodes that may still begin.
     pub nodes: u32,
 }
 
-/// A node begins.
+/// Counts a node.
 #[tactic(auto, unfolding(bcs_decode_spec::specs::Reading::node, bcs_decode_spec::specs::Reading::give))]
 pub fn node(cursor: &mut Cursor) -> Result<(), Stop>
     requires room { cursor.old.place + length cursor.old.rest.now < 2 ^ 64 }
@@ -34,7 +34,7 @@ pub fn node(cursor: &mut Cursor) -> Result<(), Stop>
     Ok(())
 }
 
-/// So many bytes, which are there.
+/// Advances by `count` bytes, which must be there, and returns them.
 pub fn advance<'a>(cursor: &mut Cursor<'a>, count: usize) -> &'a [u8]
     requires room { cursor.old.place + length cursor.old.rest.now < 2 ^ 64 }
     requires there { count ≤ length cursor.old.rest.now }
@@ -49,7 +49,7 @@ pub fn advance<'a>(cursor: &mut Cursor<'a>, count: usize) -> &'a [u8]
     front
 }
 
-/// A number by ULEB128.
+/// Reads a ULEB128 number of at most 32 bits.
 #[tactic(auto, using(crate::proofs::Steps::number_found, crate::proofs::Steps::number_ended, crate::proofs::Steps::number_long, crate::proofs::Steps::number_large))]
 pub fn number(cursor: &mut Cursor) -> Result<u32, Stop>
     requires room { cursor.old.place + length cursor.old.rest.now < 2 ^ 64 }
@@ -84,7 +84,7 @@ pub fn end_of_input(cursor: &Cursor) -> Stop
     }
 }
 
-/// A length.
+/// Reads a length: a ULEB128 number of at most 2^31 - 1.
 #[tactic(auto, unfolding(bcs_decode_spec::specs::Reading::chain, bcs_decode_spec::specs::Reading::give, bcs_decode_spec::specs::Reading::fail, bcs_decode_spec::specs::Reading::length_here))]
 pub fn length(cursor: &mut Cursor) -> Result<u32, Stop>
     requires room { cursor.old.place + length cursor.old.rest.now < 2 ^ 64 }
@@ -102,7 +102,7 @@ pub fn length(cursor: &mut Cursor) -> Result<u32, Stop>
     Ok(length)
 }
 
-/// So many bytes.
+/// Reads `count` bytes.
 #[tactic(auto, unfolding(bcs_decode_spec::specs::Reading::bytes_here))]
 pub fn bytes<'a>(cursor: &mut Cursor<'a>, count: usize) -> Result<&'a [u8], Stop>
     requires room { cursor.old.place + length cursor.old.rest.now < 2 ^ 64 }
@@ -116,7 +116,7 @@ pub fn bytes<'a>(cursor: &mut Cursor<'a>, count: usize) -> Result<&'a [u8], Stop
     Ok(advance(cursor, count))
 }
 
-/// A text of so many bytes.
+/// Reads a string of `count` bytes, which must be UTF-8 (RFC 3629).
 #[tactic(auto, using(std::proofs::lemmas::Str::utf8_valid_len_le), unfolding(bcs_decode_spec::specs::Reading::chain, bcs_decode_spec::specs::Reading::give, bcs_decode_spec::specs::Reading::fail, bcs_decode_spec::specs::Reading::text_here))]
 pub fn text<'a>(cursor: &mut Cursor<'a>, count: usize) -> Result<&'a str, Stop>
     requires room { cursor.old.place + length cursor.old.rest.now < 2 ^ 64 }
@@ -134,7 +134,7 @@ pub fn text<'a>(cursor: &mut Cursor<'a>, count: usize) -> Result<&'a str, Stop>
     }
 }
 
-/// A byte that is `00` or `01`.
+/// Reads a byte that must be `00` or `01`. The stop for any other byte has the reason `bad`.
 #[tactic(auto, unfolding(bcs_decode_spec::specs::Reading::flag_here))]
 pub fn flag(cursor: &mut Cursor, bad: Reason) -> Result<bool, Stop>
     requires room { cursor.old.place + length cursor.old.rest.now < 2 ^ 64 }

@@ -1,4 +1,4 @@
-//! How many bytes and nodes a value has.
+//! The number of bytes and nodes that all values of a format share.
 ghost use Rattle.std.specs.Prelude.{◌≡◌, ℕ, ◌+◌, ◌*◌, ◌<◌, ◌≤◌, ◌^◌, ◌⊎◌, None, IfSome};
 ghost use Rattle.bcs_registry_model.specs.Container.{Entries};
 ghost use Rattle.bcs_registry_model.specs.View.{shape_of};
@@ -7,18 +7,18 @@ ghost use Rattle.bcs_decode_slice.specs.Fixed.{IsFixed};
 use crate::integers::integer_width;
 use bcs_registry_model::Format;
 
-/// The bytes and the nodes of each value of a format.
+/// The number of bytes and of nodes of each value of a format.
 #[derive(Clone, Copy)]
 pub struct FixedSize {
     pub bytes: u64,
     pub nodes: u64,
 }
 
-/// A node alone.
+/// A single node without bytes.
 pub const NODE: FixedSize = FixedSize { bytes: 0, nodes: 1 };
 
 impl FixedSize {
-    /// The size of a value and then another. `None`: 64 bits don't hold it.
+    /// The size of a value and the next one together. `None` if a sum exceeds 64 bits.
     pub fn followed_by(self, next: FixedSize) -> Option<FixedSize>
         ensures sum { IfSome result (λ z. (z.bytes ≡ self.bytes + next.bytes) × (z.nodes ≡ self.nodes + next.nodes)) }
         ensures none { result ≡ None → (2 ^ 64 ≤ self.bytes + next.bytes) ⊎ (2 ^ 64 ≤ self.nodes + next.nodes) }
@@ -29,7 +29,7 @@ impl FixedSize {
         })
     }
 
-    /// The size of so many values in a row. `None`: 64 bits don't hold it.
+    /// The size of `count` values. `None` if a product exceeds 64 bits.
     pub fn times(self, count: u64) -> Option<FixedSize>
         ensures product { IfSome result (λ z. (z.bytes ≡ count * self.bytes) × (z.nodes ≡ count * self.nodes)) }
         ensures none { result ≡ None → (2 ^ 64 ≤ count * self.bytes) ⊎ (2 ^ 64 ≤ count * self.nodes) }
@@ -41,7 +41,7 @@ impl FixedSize {
     }
 }
 
-/// The size of each value of the format, where any bytes of its width are one.
+/// The size of a format's values, if any bytes of that size encode a value.
 pub fn whole_size(format: &Format) -> Option<FixedSize>
     ensures { IfSome result (λ z. (0 < z.nodes) × ((registry : Entries) (d : ℕ) → IsFixed registry d (shape_of format.now) z.bytes z.nodes)) }
 {

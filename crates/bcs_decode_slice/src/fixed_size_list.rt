@@ -1,4 +1,4 @@
-//! Going past a list of values of one size in one step.
+//! Skips lists of fixed-size values in one step.
 ghost use Rattle.std.specs.Prelude.{◌≡◌, ℕ, ◌+◌, ◌-◌, ◌*◌, ◌<◌, ◌≤◌, ◌^◌, length, drop};
 ghost use Rattle.bcs_registry_model.specs.View.{shape_of};
 ghost use Rattle.bcs_decode_spec.specs.Reading.{items_here, skipping};
@@ -9,14 +9,14 @@ use crate::fixed_size::FixedSize;
 use crate::measuring::value_size;
 use bcs_registry::{Format, Registry};
 
-/// How many values a list has at least whose format is worth a look.
+/// The shortest list for which the element format is examined.
 pub const MIN_COUNT: u64 = 16;
 
-/// The most formats that are looked at for one list.
+/// The maximum number of formats to examine for one list.
 pub const MAX_FORMATS: u32 = 256;
 
-/// How many of so many values of one format are gone past in one step: as many as are there, where all have one size.
-/// The next ones are to be gone past one by one. It is part of its caller, so that a short list costs no call.
+/// Skips the leading values of a list in one step, if all values of `element` have the same size, and returns how many
+/// it skipped. The caller skips the rest one at a time. Inlined, so that a short list costs no call.
 #[inline(always)]
 pub fn skip_fixed_size_list(
     registry: &Registry,
@@ -37,7 +37,7 @@ pub fn skip_fixed_size_list(
     long_row(registry, element, count, depth, cursor)
 }
 
-/// The same of a list that is long enough for a look.
+/// `skip_fixed_size_list` for a list of at least `MIN_COUNT` values.
 #[inline(never)]
 fn long_row(
     registry: &Registry,
@@ -59,7 +59,7 @@ fn long_row(
     }
 }
 
-/// Goes past as many of so many values of one size as the bytes and the nodes that are left have room for.
+/// Skips as many of `count` values of the given size as the remaining bytes and nodes allow, and returns how many.
 pub fn sized_row(cursor: &mut Cursor, size: FixedSize, count: u64) -> u64
     requires room { cursor.old.place + length cursor.old.rest.now < 2 ^ 64 }
     requires node { 0 < size.nodes }

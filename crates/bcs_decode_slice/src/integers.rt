@@ -1,4 +1,4 @@
-//! Going past a list of whole numbers in one step.
+//! Skips lists of integers in one step.
 ghost use Rattle.std.specs.Prelude.{◌≡◌, ℕ, ◌+◌, ◌*◌, ◌<◌, ◌≤◌, ◌^◌, List, IfSome, length};
 ghost use Rattle.bcs_registry_model.specs.Container.{Entries};
 ghost use Rattle.bcs_registry_model.specs.View.{shape_of};
@@ -10,7 +10,7 @@ use bcs_decode_spec::{Reason, Stop};
 use bcs_num::GREATEST_LEN;
 use bcs_registry_model::{Format, Kind, Scalar};
 
-/// How many bytes each value of the format has, where any bytes will do.
+/// The byte width of the format's values, if any bytes of that width encode one.
 #[inline(never)]
 pub fn integer_width(format: &Format) -> Option<usize>
     ensures { IfSome result (λ w. (w ≤ GREATEST_LEN) × ((registry : Entries) (d p m : ℕ) (b : List ℕ) → skip registry d (shape_of format.now) p m b ≡ whole_here w p m b)) }
@@ -28,7 +28,7 @@ pub fn integer_width(format: &Format) -> Option<usize>
     }
 }
 
-/// So many values of so many bytes each.
+/// Skips `count` values of `width` bytes each.
 #[inline(never)]
 pub fn skip_integers(cursor: &mut Cursor, width: usize, count: u64) -> Result<(), Stop>
     requires room { cursor.old.place + length cursor.old.rest.now < 2 ^ 64 }

@@ -1,4 +1,4 @@
-//! Going past values in a slice of bytes.
+//! Validates and skips values in a slice of bytes, without allocating.
 #![tactic(auto)]
 
 pub mod cursor;

@@ -1,4 +1,4 @@
-//! Which formats have values of one size, and of which.
+//! Finds formats whose values all have the same encoded size.
 ghost use Rattle.std.specs.Prelude.{◌≡◌, ◌<◌, ◌≤◌, IfSome};
 ghost use Rattle.bcs_registry_model.specs.Container.{content};
 ghost use Rattle.bcs_registry_model.specs.Layout.{row_formats};
@@ -10,8 +10,9 @@ use crate::fixed_size::{FixedSize, NODE, whole_size};
 use bcs_registry::{Container, Format, Registry};
 use bcs_registry_model::{Content, Kind, Layout, Row};
 
-/// The size of each value of the format, inside which so many containers may open. `None`: the values differ in size,
-/// or some bytes are none, or more than `looks` formats would have to be looked at.
+/// The encoded size that all values of `format` share, with at most `depth` containers open inside them. Returns `None`
+/// if sizes differ, if some byte strings of that size are invalid, or if finding out would take more than `looks`
+/// formats.
 #[cycle(measuring)]
 pub fn value_size(
     registry: &Registry,
@@ -35,7 +36,7 @@ pub fn value_size(
     }
 }
 
-/// The size of an array of so many elements. One of none has a size whatever its elements are.
+/// The size of an array of `size` elements. An empty array has a fixed size whatever its elements are.
 #[cycle(measuring)]
 fn array_size(
     registry: &Registry,
@@ -54,7 +55,7 @@ fn array_size(
     NODE.followed_by(each.times(size)?)
 }
 
-/// The size of a value of each format in turn.
+/// The size of one value of each format in `row`.
 #[cycle(measuring)]
 #[inline(always)]
 fn row_size(registry: &Registry, row: Row<'_>, depth: u32, looks: &mut u32) -> Option<FixedSize>
@@ -68,7 +69,7 @@ fn row_size(registry: &Registry, row: Row<'_>, depth: u32, looks: &mut u32) -> O
     Some(whole)
 }
 
-/// The size of each value of the container of this name.
+/// The size of each value of the container `name`.
 #[cycle(measuring)]
 fn named_size(registry: &Registry, name: &str, depth: u32, looks: &mut u32) -> Option<FixedSize>
     ensures fixed { IfSome result (λ z. IsFixed registry.now depth (name_shape name.now) z.bytes z.nodes × (0 < z.nodes)) }
@@ -81,7 +82,7 @@ fn named_size(registry: &Registry, name: &str, depth: u32, looks: &mut u32) -> O
     NODE.followed_by(content_size(registry, container, depth - 1, looks)?)
 }
 
-/// The size of what stands in a container.
+/// The size of a container's contents.
 #[cycle(measuring)]
 fn content_size(
     registry: &Registry,

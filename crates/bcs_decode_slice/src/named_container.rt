@@ -9,7 +9,7 @@ ghost use Rattle.bcs_registry_model.specs.WellFormed.{IsWellFormed};
 use bcs_registry::{Container, Format, Registry};
 use bcs_registry_model::Kind;
 
-/// The container whose values those of the format are. `None`: the format is no name, or no container has it.
+/// The container that `format` names. `None` if it isn't a name, or if the registry has no such container.
 #[inline(never)]
 pub fn named_container<'a>(registry: &'a Registry, format: &Format) -> Option<&'a Container>
     ensures found { IfSome result (λ c. (name : List ℕ) × (shape_of format.now ≡ name_shape name)

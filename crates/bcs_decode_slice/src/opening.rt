@@ -1,4 +1,4 @@
-//! What a container of the registry holds, once the variant of an enum is known.
+//! Opens a container: determines its layout, which for an enum depends on the variant.
 ghost use Rattle.std.specs.Prelude.{◌≡◌, ℕ, ◌+◌, ◌<◌, ◌≤◌, ◌^◌, List, IfOk, length};
 ghost use Rattle.bcs_registry_model.specs.Container as spec;
 ghost use Rattle.bcs_registry_model.specs.Container.{Entries, content_at};
@@ -13,8 +13,7 @@ use bcs_decode_spec::{Reason, Stop};
 use bcs_registry::Container;
 use bcs_registry_model::{Content, Layout};
 
-/// The layout of what comes next: that of a struct, or that of the variant whose number is read first. It is part of its
-/// caller, so that opening a struct takes no call.
+/// The layout of a struct, or of the variant whose number is read first. Inlined: opening a struct costs no call.
 #[inline(always)]
 pub fn opened<'r>(container: &'r Container, cursor: &mut Cursor) -> Result<Layout<'r>, Stop>
     requires room { cursor.old.place + length cursor.old.rest.now < 2 ^ 64 }

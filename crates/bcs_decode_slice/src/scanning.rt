@@ -1,5 +1,5 @@
-//! Going past values of a format, front to back. `value`, `content`, `laid` and `next_key` are part of their callers, and
-//! nothing else is, so that each level of a format takes one small frame of the stack.
+//! Validates and skips values. Only `value`, `content`, `laid` and `next_key` are inlined, so that each level of a
+//! format takes one small stack frame.
 ghost use Rattle.std.specs.Prelude.{◌≡◌, ℕ, ◌+◌, ◌<◌, ◌≤◌, ◌^◌, List, None, length, map};
 ghost use Rattle.bcs_registry_model.specs.Container as spec;
 ghost use Rattle.bcs_registry_model.specs.Container.{content_at, field_shapes, payload_shape};
@@ -24,7 +24,7 @@ use bcs_key_order::following::follows;
 use bcs_registry::{Container, Format, Named, Registry, VariantFormat};
 use bcs_registry_model::{Kind, Layout, Scalar};
 
-/// Goes past a value of the format, inside which so many containers may open.
+/// Validates and skips one value of `format`. At most `depth` more containers may be opened.
 #[cycle(scanning)]
 #[inline(always)]
 pub fn value<'a>(
@@ -68,8 +68,7 @@ pub fn value<'a>(
     }
 }
 
-/// So many values of one format. Those that all have one size are gone past in one step, and a container is looked up
-/// once.
+/// Skips `count` values of one format: fixed-size values in one step, and others with one lookup of their container.
 #[cycle(scanning)]
 #[inline(never)]
 pub fn elements<'a>(
@@ -99,7 +98,7 @@ pub fn elements<'a>(
     Ok(())
 }
 
-/// So many entries, whose keys rise.
+/// Skips `count` map entries, whose keys must ascend.
 #[cycle(scanning)]
 #[inline(never)]
 fn entries<'a>(
@@ -123,7 +122,7 @@ fn entries<'a>(
     Ok(())
 }
 
-/// A key that may follow the last one, as the bytes that were gone past.
+/// Skips a key, which must be above `last`, and returns its bytes.
 #[cycle(scanning)]
 #[inline(always)]
 #[tactic(auto, unfolding(bcs_decode_spec::specs::Reading::give, bcs_decode_spec::specs::Reading::key_here))]
@@ -146,7 +145,7 @@ fn next_key<'a>(
     Ok(found)
 }
 
-/// A value of each format in turn.
+/// Skips a tuple: one value of each format.
 #[cycle(scanning)]
 #[inline(never)]
 pub fn tuple<'a>(
@@ -166,7 +165,7 @@ pub fn tuple<'a>(
     Ok(())
 }
 
-/// A value of each field's format in turn.
+/// Skips a struct: one value for each field.
 #[cycle(scanning)]
 #[inline(never)]
 pub fn structure<'a>(
@@ -186,7 +185,7 @@ pub fn structure<'a>(
     Ok(())
 }
 
-/// The container of this name, where so many containers may open.
+/// Skips a value of the container `name`. Fails with `TooDeep` if `depth` is 0.
 #[cycle(scanning)]
 #[inline(never)]
 fn named<'a>(
@@ -209,7 +208,7 @@ fn named<'a>(
     content(registry, container, depth - 1, cursor)
 }
 
-/// So many values of a container of the registry, whichever its name is.
+/// Skips `count` values of one container of the registry.
 #[cycle(scanning)]
 #[inline(never)]
 fn containers<'a>(
@@ -233,7 +232,7 @@ fn containers<'a>(
     Ok(())
 }
 
-/// What stands in a container of the registry.
+/// Skips the contents of a container of the registry.
 #[cycle(scanning)]
 #[inline(always)]
 fn content<'a>(
@@ -252,7 +251,7 @@ fn content<'a>(
     laid(registry, layout, depth, cursor)
 }
 
-/// What a struct or a variant holds.
+/// Skips the contents of a struct or a variant.
 #[cycle(scanning)]
 #[inline(always)]
 fn laid<'a>(
@@ -273,7 +272,7 @@ fn laid<'a>(
     }
 }
 
-/// What a variant carries.
+/// Skips the contents of a variant.
 #[inline(never)]
 pub fn payload<'a>(
     registry: &Registry,

@@ -1,4 +1,4 @@
-//! Going past what has no values inside. No step is part of its caller, whose frame stays small.
+//! Skips what contains no other values. Not inlined, to keep the callers' stack frames small.
 ghost use Rattle.std.specs.Prelude.{◌≡◌, ℕ, ◌+◌, ◌<◌, ◌≤◌, ◌^◌, IfOk, length};
 ghost use Rattle.bcs_decode_slice.specs.Passing.{Passes, Onward, truth_here, whole_here, counted_here, text_past, bytes_past, unsupported_here, flag_past, enter_here, variant_past};
 
@@ -17,7 +17,7 @@ pub fn truth(cursor: &mut Cursor) -> Result<(), Stop>
     Ok(())
 }
 
-/// A whole number of so many bytes.
+/// Skips an integer of `count` bytes.
 #[inline(never)]
 #[tactic(auto, unfolding(bcs_decode_spec::specs::Reading::chain, bcs_decode_spec::specs::Reading::give, crate::specs::Passing::whole_here))]
 pub fn whole(cursor: &mut Cursor, count: usize) -> Result<(), Stop>
@@ -30,7 +30,7 @@ pub fn whole(cursor: &mut Cursor, count: usize) -> Result<(), Stop>
     Ok(())
 }
 
-/// A node with a length.
+/// Counts a node, and reads a length.
 #[inline(never)]
 #[tactic(auto, unfolding(bcs_decode_spec::specs::Reading::chain, bcs_decode_spec::specs::Reading::give, crate::specs::Passing::counted_here))]
 pub fn counted(cursor: &mut Cursor) -> Result<u32, Stop>
@@ -80,7 +80,7 @@ pub fn unsupported(cursor: &mut Cursor) -> Result<(), Stop>
     })
 }
 
-/// A node, and a byte that is `00` or `01`.
+/// Counts a node, and reads a byte that must be `00` or `01`.
 #[inline(never)]
 #[tactic(auto, unfolding(bcs_decode_spec::specs::Reading::chain, bcs_decode_spec::specs::Reading::give, crate::specs::Passing::flag_past))]
 pub fn flag_value(cursor: &mut Cursor, bad: Reason) -> Result<bool, Stop>
@@ -92,7 +92,7 @@ pub fn flag_value(cursor: &mut Cursor, bad: Reason) -> Result<bool, Stop>
     flag(cursor, bad)
 }
 
-/// A container opens, where so many may.
+/// Counts the node of a container. Fails with `TooDeep` if `depth` is 0.
 #[inline(never)]
 #[tactic(auto, using(crate::proofs::Passings::enter_none, crate::proofs::Passings::enter_more))]
 pub fn enter(cursor: &mut Cursor, depth: u32) -> Result<(), Stop>
@@ -110,7 +110,7 @@ pub fn enter(cursor: &mut Cursor, depth: u32) -> Result<(), Stop>
     node(cursor)
 }
 
-/// A variant's number, and where it begins.
+/// Counts a node, and reads a variant's number. Returns the place of the number, and the number.
 #[inline(never)]
 #[tactic(auto, unfolding(bcs_decode_spec::specs::Reading::chain, bcs_decode_spec::specs::Reading::give, crate::specs::Passing::variant_past))]
 pub fn variant_number(cursor: &mut Cursor) -> Result<(u64, u32), Stop>

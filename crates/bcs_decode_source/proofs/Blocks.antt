@@ -1,4 +1,4 @@
--- A byte string that is read by blocks.
+-- Reading a byte string in blocks.
 use Rattle.bcs_decode_source.proofs.Prelude.{◌≡◌, ℕ, ◌+◌, ◌-◌, ◌≤◌, true, List, [], ◌++◌, length, drop, length-append, take-add, take, take_all, length-drop, append_assoc, Option, Ok, Err, inl, inr, refl, sym, ap, ◌∙◌, arith, le-ltb, lt-ltb, cases_lt, drop-drop, drop_all, drop_at, take_at, append-nil, DecodeFault, Progress, Read, follow, give, bytes_here, is_told, rest_of, FindsFault}
 use Rattle.bcs_decode_source.proofs.SourceSteps.{FindsFault-whole}
 
@@ -22,7 +22,7 @@ bytes_split k n p m b h = elim (cases_lt (length b) k) [
   ])
 ]
 
--- the blocks so far, where the bytes are told
+-- the blocks read so far, if the content is known
 abbrev pub BytesSoFar : ℕ → List ℕ → Option (List ℕ) → Progress → Option (List ℕ) → Progress → Type 0
 BytesSoFar n xs c p d q = is_told c ≡ true → (bytes_here n p.place p.nodes (rest_of c) ≡ with_front xs (bytes_here (n - length xs) q.place q.nodes (rest_of d))) × (is_told d ≡ true)
 
@@ -69,7 +69,7 @@ bytes_refused x n k xs c d p q few h =
     FindsFault-whole x c d p q (bytes_here n) (bytes_here k) (λ told. (h told).1)
     (λ e o told stop. (h told).0 ∙ ap (with_front xs) (bytes_split k (n - length xs) q.place q.nodes (rest_of d) few ∙ ap (λ s. follow s (λ zs o' l t. with_front zs (bytes_here (n - length xs - k) o' l t))) stop))
 
--- a vector's tail, when it was filled
+-- a vector whose tail has been filled
 pub tail_filled : (vs xs buf zs : List ℕ) (s n : ℕ) → s ≡ length vs → xs ≡ vs ++ zs → length buf ≡ length zs → n ≡ length xs
     → take n (take s xs ++ (buf ++ drop (length buf) (drop s xs)) ++ drop (length (take s xs ++ (buf ++ drop (length buf) (drop s xs)))) xs) ≡ vs ++ buf
 tail_filled vs xs buf zs s n start is same all =

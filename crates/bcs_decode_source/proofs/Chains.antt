@@ -1,4 +1,4 @@
--- Parsers, step by step as they are read from a source.
+-- Parsers, in the steps in which a source is read.
 use Rattle.bcs_decode_source.proofs.Prelude.{◌≡◌, ℕ, zero, suc, ◌+◌, ◌-◌, ◌*◌, ◌<◌, ◌≤◌, ◌==◌, nat_lt, ◌&&◌, Bool, true, false, if◌then◌else◌, List, [], ◌∷◌, length, Result, Ok, Err, refl, ◌∙◌, arith, ◌⊎◌, inl, inr, le-ltb, lt-ltb, and_left, and_right, ne_eqb, false_from_ne_true, IsUtf8-from_is_utf8, is_utf8-from_IsUtf8, is_utf8, utf8_valid_len, NumFault, Reason, LongForm, NumberTooLarge, BadUtf8, Parser, follow, chain, give, fail, shifted, uleb_from, number_read, number_here, bytes_here, flag_here, text_here, node, node_here, byte_here, tail_read, tail_here}
 use Rattle.std.specs.Str.{IsUtf8}
 use Rattle.bcs_num.specs.declared.fault.NumFault.TheVariants as num
@@ -54,7 +54,7 @@ not_long : (i x : ℕ) → ((x ≡ 0) × (i ≤ 0)) ⊎ (x ≡ 0 → ⊥) → (x
 not_long i x (inl h) = and_right (x == 0) (nat_lt 0 i) (le-ltb 0 i h.1)
 not_long i x (inr h) = and_left (x == 0) (nat_lt 0 i) (ne_eqb x 0 h)
 
--- what was read of a byte and then of the others
+-- the result of reading one byte and then the rest of the number
 module _ (start i p m : ℕ) (b : List ℕ) (x q l : ℕ) (d : List ℕ) (byte : byte_here p m b ≡ Ok (x, q, l, d)) (small : ((i ≡ 4) × (x ≤ 15)) ⊎ (i ≡ 4 → ⊥)) where
   pub tail_last : x < 128 → ((x ≡ 0) × (i ≤ 0)) ⊎ (x ≡ 0 → ⊥) → tail_here start i p m b ≡ Ok (x, q, l, d)
   unfolding give
@@ -68,9 +68,9 @@ module _ (start i p m : ℕ) (b : List ℕ) (x q l : ℕ) (d : List ℕ) (byte :
   unfolding chain
   tail_next high = tail_step start i p m b ∙ rw (byte, not_large i x small, le-ltb x 128 high) refl
 
--- ---- what a number is below
+-- ---- the limit of a number
 
--- ---- values that have no parts
+-- ---- values without parts
 
 pub flag_is : (bad : Reason) (p m : ℕ) (b : List ℕ) → flag_here bad p m b ≡ follow (byte_here p m b) (λ x. if nat_lt 1 x then fail bad p else give (x == 1))
 unfolding flag_here byte_here bytes_here chain give fail
@@ -88,7 +88,7 @@ unfolding node give
 node_is f p zero b = refl
 node_is f p (suc m) b = refl
 
--- ---- texts
+-- ---- strings
 
 not_utf8 : (s : List ℕ) → (IsUtf8 s → ⊥) → is_utf8 s ≡ false
 not_utf8 s bad = false_from_ne_true (is_utf8 s) (λ good. bad (IsUtf8-from_is_utf8 s good))

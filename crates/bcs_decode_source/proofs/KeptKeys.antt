@@ -1,4 +1,4 @@
--- The keys of a map among the bytes that are kept.
+-- The keys of a map, in the buffer `kept`.
 use Rattle.bcs_decode_source.proofs.Prelude.{◌≡◌, ℕ, ◌+◌, ◌-◌, ◌≤◌, List, length, take, drop, take-take, Option, Some, None, refl, sym, ap, ◌∙◌, arith, drop-take, Span, Stands, last_bytes, key_of}
 use Rattle.std.specs.List.{slice_range}
 
@@ -10,7 +10,7 @@ pub Stands-more : (last : Option Span) (begun n m : ℕ) → n ≤ m → Stands 
 Stands-more None begun n m more h = omega arith
 Stands-more (Some s) begun n m more h = (h.0, h.1, omega (arith, h.2))
 
--- a range of the front
+-- a range within a prefix
 slice_front : (xs ys : List ℕ) (i j : ℕ) → i ≤ j → j ≤ length xs → take (length xs) ys ≡ xs → slice_range ys i j ≡ slice_range xs i j
 slice_front xs ys i j low high front =
     let n = length xs - i in
@@ -18,7 +18,7 @@ slice_front xs ys i j low high front =
     let less : j - i ≤ n = omega arith in
     sym (take-take (j - i) n (drop i ys) less) ∙ ap (take (j - i)) (sym (drop-take i n ys) ∙ ap (drop i) (ap (λ k. take k ys) whole ∙ front))
 
--- bytes that are kept behind it leave the last key as it is
+-- bytes that are appended later don't change the last key
 pub last_kept : (last : Option Span) (begun : ℕ) (xs ys : List ℕ) → Stands last begun (length xs) → take (length xs) ys ≡ xs → last_bytes last ys ≡ last_bytes last xs
 last_kept None begun xs ys h front = refl
 last_kept (Some s) begun xs ys h front = ap Some (slice_front xs ys s.from s.to h.1 h.2 front)

@@ -1,10 +1,10 @@
--- Readers on their way: what one parser finds from the start is what another finds from here on.
+-- Readers partway through a value: what a parser finds from the start, another finds from the current position.
 use Rattle.bcs_decode_source.proofs.Prelude.{◌≡◌, ℕ, ◌≤◌, Bool, true, List, Option, Result, Ok, Err, refl, sym, ap, ◌∙◌, Entries, Reason, DecodeFault, Stop, Parser, chain, give, bytes_here, Progress, Reader, is_told, rest_of, FindsFault, Sees, Ready, Reads, chained_bare}
 use Rattle.bcs_decode_source.proofs.SourceSteps.{Goes-then, FindsFault-whole}
 use Rattle.bcs_decode_source.proofs.Readers.{IsSame-then, Reads-as, Onward, Onward-none, Onward-then, Onward-nodes, Onward-done, Onward-ends, Onward-stops}
 use Rattle.bcs_decode_source.proofs.StreamedRows.{Found}
 
--- ---- told bytes
+-- ---- known content
 
 abbrev pub LeadsTo : Parser (Unit {0}) → Parser (Unit {0}) → Option (List ℕ) → Progress → Option (List ℕ) → Progress → Type 0
 LeadsTo f g c p d q = is_told c ≡ true → (f p.place p.nodes (rest_of c) ≡ g q.place q.nodes (rest_of d)) × (is_told d ≡ true)
@@ -32,7 +32,7 @@ module _ (f g : Parser (Unit {0})) (c d : Option (List ℕ)) (p q : Progress) (h
       let a = h told in
       (a.0 ∙ done (rest_of d), a.1)
 
--- ---- one after another
+-- ---- one step after another
 
 pub chain_on : {A : Type 0} (f : Parser A) (k : A → Parser (Unit {0})) (p m : ℕ) (b : List ℕ) (x : A) (q l : ℕ) (c : List ℕ) → f p m b ≡ Ok (x, q, l, c) → chain f k p m b ≡ k x q l c
 unfolding chain
@@ -45,23 +45,23 @@ chain_ends f k p m b e h = rw h refl
 -- ---- readers
 
 module _ {S : Type 0} (content : S → Option (List ℕ)) (is_failed : S → Bool) (allowance : S → ℕ) where
-  -- the reader went on from p to q, and may go on; what f finds from p is what g finds from q
+  -- the reader went from p to q and can continue; what `f` finds from p is what `g` finds from q
   pub record Leads (f g : Parser (Unit {0})) (p q : Reader S) : Type 0 where
     pub on : Onward content is_failed allowance p q
     pub sees : LeadsTo f g (content p.source.now) p.at.now (content q.source.now) q.at.now
 
 module _ {S : Type 0} {content : S → Option (List ℕ)} {is_failed : S → Bool} {allowance : S → ℕ} where
-  -- nothing is made of what was gone past
+  -- drops the result of what was skipped
   pub Reads-bare : {r : Result (Unit {0}) DecodeFault} {p q : Reader S} {f : Parser (Unit {0})}
       → Reads content is_failed allowance (λ x. x) r p f q → Reads content is_failed allowance (λ x. x) r p (chain f (λ _. give tt)) q
   Reads-bare {f = f} h = Reads-as (λ o m b. chained_bare f o m b) h
 
-  -- so many bytes, by another word for how many
+  -- replaces the number of bytes by an equal one
   pub Reads-count : {X : Type 0} {v : X → List ℕ} {r : Result X DecodeFault} {n k : ℕ} {p q : Reader S} → k ≡ n
       → Reads content is_failed allowance v r p (bytes_here k) q → Reads content is_failed allowance v r p (bytes_here n) q
   Reads-count same h = Reads-as (λ o m b. ap (λ i. bytes_here i o m b) (sym same)) h
 
-  -- the same registry
+  -- replaces the registry by an equal one
   pub Reads-in : {r : Result (Unit {0}) DecodeFault} {d e : Entries} {p q : Reader S} (k : Entries → Parser (Unit {0})) → d ≡ e
       → Reads content is_failed allowance (λ x. x) r p (k d) q → Reads content is_failed allowance (λ x. x) r p (k e) q
   Reads-in k same h = Reads-as (λ o m b. ap (λ i. k i o m b) (sym same)) h
@@ -102,7 +102,7 @@ module _ {S : Type 0} {content : S → Option (List ℕ)} {is_failed : S → Boo
       → ((b : List ℕ) → g q.at.now.place q.at.now.nodes b ≡ Err (e, o)) → Reads content is_failed allowance w (Err (Stop (record { reason = e; place = o }))) p f q
   Leads-stops {q = q} h before stop = Onward-stops h.on before (λ told. let a = h.sees told in a.0 ∙ stop (rest_of (content q.source.now)))
 
-  -- what is left is one more step
+  -- one step is left
   pub Leads-rest : {r : Result (Unit {0}) DecodeFault} {f g k : Parser (Unit {0})} {p q s : Reader S} → Leads content is_failed allowance f g p q
       → Reads content is_failed allowance (λ x. x) r q k s → ((b : List ℕ) → g q.at.now.place q.at.now.nodes b ≡ k q.at.now.place q.at.now.nodes b)
       → Reads content is_failed allowance (λ x. x) r p f s

@@ -1,17 +1,17 @@
--- Want of memory that comes in an open key alone, carried along a walk that reaches no map.
+-- `OutOfMemory` that occurs only in an open key, carried through a recursion that reaches no map.
 use Rattle.bcs_decode_source.proofs.Prelude.{◌≡◌, ◌≢◌, ◌==◌, ℕ, zero, suc, ◌+◌, ◌-◌, ◌<◌, Bool, true, false, cond, List, [], ◌∷◌, length, get_or, map, drop, Some, Result, Ok, Err, IsErrAnd, refl, sym, ap, subst, ◌∙◌, arith, lookup, option_map_or, and_parts, Shape, Entries, Choice, of, one_of, nothing, content_at, choice_at, payload_shape, field_shapes, shape_of, formats_shapes, field_of, Named, Format, formats_next, fields_next, DecodeFault, Stop, OutOfMemory, Progress, OutOfMemoryOnlyInKey, has_no_map, have_no_map, content_has_no_map, named_reaches_no_map}
 use Rattle.bcs_decode_spec.specs.declared.decode_fault.DecodeFault.TheVariants.{Read}
 
--- ---- want of memory
+-- ---- out of memory
 
--- what the exit of a `?` returns on the way from p to q
+-- what a `?` returns between p and q
 pub OutOfMemoryOnlyInKey-exit : (r : Result (Unit {0}) DecodeFault) (e : DecodeFault) (p q : Progress) → IsErrAnd r (λ y. y ≡ e) → q.is_in_key ≡ p.is_in_key → OutOfMemoryOnlyInKey {X = Unit {0}} (Err e) q → OutOfMemoryOnlyInKey r p
 OutOfMemoryOnlyInKey-exit (Ok x) e p q h same k = absurd h
 OutOfMemoryOnlyInKey-exit (Err (Stop s)) e p q h same k = tt
 OutOfMemoryOnlyInKey-exit (Err Read) e p q h same k = tt
 OutOfMemoryOnlyInKey-exit (Err OutOfMemory) e p q h same k = sym same ∙ subst (λ (x : DecodeFault). OutOfMemoryOnlyInKey {X = Unit {0}} (Err x) q) (sym h) k
 
--- what is returned at the end of the way
+-- what is returned at the end
 pub OutOfMemoryOnlyInKey-on : (r : Result (Unit {0}) DecodeFault) (p q : Progress) → q.is_in_key ≡ p.is_in_key → OutOfMemoryOnlyInKey r q → OutOfMemoryOnlyInKey r p
 OutOfMemoryOnlyInKey-on (Ok x) p q same k = tt
 OutOfMemoryOnlyInKey-on (Err (Stop s)) p q same k = tt
@@ -25,7 +25,7 @@ never_lacks (Err (Stop s)) e p h outside k = λ bad. absurd cc
 never_lacks (Err Read) e p h outside k = λ bad. absurd cc
 never_lacks (Err OutOfMemory) e p h outside k = λ bad. absurd (let within = subst (λ (x : DecodeFault). OutOfMemoryOnlyInKey {X = Unit {0}} (Err x) p) (sym h) k in let no = outside in cc)
 
--- ---- parts of what reaches no map
+-- ---- parts of a format that reaches no map
 
 module _ (r : List ℕ → Bool) where
   formats_drop : (fs : List Format) (i : ℕ) → have_no_map r (formats_shapes fs) ≡ true → have_no_map r (formats_shapes (drop i fs)) ≡ true

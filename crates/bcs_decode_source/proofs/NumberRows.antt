@@ -1,11 +1,11 @@
--- Lists of whole numbers that are read by blocks.
+-- Reading lists of integers in blocks.
 use Rattle.bcs_decode_source.proofs.Prelude.{◌≡◌, ℕ, zero, suc, ◌+◌, ◌-◌, ◌*◌, ◌<◌, ◌≤◌, true, List, [], ◌∷◌, ◌++◌, map, length, take, drop, Option, Ok, Err, inl, inr, refl, sym, ap, ◌∙◌, arith, length-drop, take-add, append_assoc, suc-mul, le-ltb, lt-ltb, cases_lt, drop-drop, take_at, drop_at, append-nil, map_push, byte_len, from_le_bytes, cast_signed, width_of, byte_len_within, whole_len, whole_shape, IntegerKind, Unsigned, Signed, Tree, Trees, tree_of, trees_of, items_trees, Value, DecodeFault, Stop, TooManyNodes, Progress, Parser, Read, follow, chain, give, node, bytes_here, unsigned_here, signed_here, items_here, building, number_of, numbers, is_told, rest_of, FindsFault, leaf_here}
 use Rattle.std.proofs.lemmas.List.{length-take-le}
 use Rattle.bcs_value_model.specs.Tree as tree
 use Rattle.bcs_decode_source.proofs.SourceSteps.{FindsFault-whole}
 use Rattle.bcs_decode_source.proofs.StreamedRows.{joined, items_before, before_none, ItemsSoFar, items_refused}
 
--- ---- rows that were read, one after the other
+-- ---- lists, read one after the other
 
 before_cons : (t : Tree) (ts : Trees) (r : Read Trees) → follow (items_before ts r) (λ us. give (tree.tree t us)) ≡ items_before (tree.tree t ts) r
 unfolding give
@@ -21,7 +21,7 @@ unfolding give
 before_append xs ys (Ok x) = ap (λ (us : Trees). Ok (us, x.1, x.2, x.3)) (joined_append xs ys x.0)
 before_append xs ys (Err e) = refl
 
--- ---- whole numbers
+-- ---- integers
 
 made : {A B C : Type 0} (r : Read A) (f : A → B) (g : B → C) → follow (follow r (λ s. give (f s))) (λ n. give (g n)) ≡ follow r (λ s. give (g (f s)))
 unfolding give
@@ -38,12 +38,12 @@ unfolding node
 number_none (Unsigned w) p m b h = rw h refl
 number_none (Signed w) p m b h = rw h refl
 
--- ---- numbers in a row
+-- ---- consecutive integers
 
 abbrev row : IntegerKind → ℕ → Parser Trees
 row f n = items_here building (leaf_here (whole_shape f)) n
 
--- the first k numbers have these bytes, and the others come after them
+-- the first `k` numbers have these bytes, and the others come after them
 abbrev after : IntegerKind → ℕ → ℕ → List ℕ → Parser Trees
 after f k n xs q l c = items_before (trees_of (numbers f k xs)) (row f (n - k) q l c)
 
@@ -102,7 +102,7 @@ numbers_split f (suc k) (suc n) p (suc m) b h g = more_read f k n p m b (λ q l 
 -- ---- blocks of a list
 
 module _ (f : IntegerKind) (n i k : ℕ) (c d : Option (List ℕ)) (p q s : Progress) (place : s.place ≡ q.place) (begun : s.nodes ≡ q.nodes - k) (few : k ≤ n - i) (nodes : k ≤ q.nodes) where
-  -- a block was read
+  -- a block has been read
   pub numbers_more : (vs us : List Value) (xs : List ℕ) (e : Option (List ℕ)) (r : Progress) → ItemsSoFar (leaf_here (whole_shape f)) n i vs c d p q
       → (is_told d ≡ true → (bytes_here (k * whole_len f) s.place s.nodes (rest_of d) ≡ Ok (xs, r.place, r.nodes, rest_of e)) × (is_told e ≡ true))
       → map tree_of us ≡ map tree_of vs ++ numbers f k xs → ItemsSoFar (leaf_here (whole_shape f)) n (i + k) us c e p r
@@ -118,7 +118,7 @@ module _ (f : IntegerKind) (n i k : ℕ) (c d : Option (List ℕ)) (p q s : Prog
         b.1,
       )
 
-  -- a block ends the list
+  -- reading a block fails, and with it the list
   pub numbers_refused : (x : DecodeFault) (vs : List Value) → ItemsSoFar (leaf_here (whole_shape f)) n i vs c d p q
       → FindsFault x d s (bytes_here (k * whole_len f)) → FindsFault x c p (items_here building (leaf_here (whole_shape f)) n)
   numbers_refused x vs h =
@@ -128,7 +128,7 @@ module _ (f : IntegerKind) (n i k : ℕ) (c d : Option (List ℕ)) (p q s : Prog
       let ends : row f (n - i) q.place q.nodes (rest_of d) ≡ Err (e, o) = numbers_split f k (n - i) q.place q.nodes (rest_of d) few nodes ∙ rw on refl in
       (h told).0 ∙ ap (items_before (items_trees vs)) ends)
 
--- no number may begin
+-- the node limit is reached
 pub numbers_none : (f : IntegerKind) (n i : ℕ) (vs : List Value) (c d : Option (List ℕ)) (p q : Progress) → i < n → q.nodes ≡ 0 → ItemsSoFar (leaf_here (whole_shape f)) n i vs c d p q
     → FindsFault (Stop (record { reason = TooManyNodes; place = q.place })) c p (items_here building (leaf_here (whole_shape f)) n)
 numbers_none f n i vs c d p q lt none h =
@@ -140,7 +140,7 @@ wide : (f : IntegerKind) → 0 < whole_len f
 wide (Unsigned w) = (byte_len_within (width_of w)).0
 wide (Signed w) = (byte_len_within (width_of w)).0
 
--- the numbers so far, and those that the bytes left hold, are all
+-- the numbers appended so far, followed by those in `rest`, are all numbers of the block
 abbrev pub PushedSoFar : IntegerKind → List Value → List ℕ → List Tree → Type 0
 PushedSoFar f vs rest all = (k : ℕ) × (length rest ≡ k * whole_len f) × (map tree_of vs ++ numbers f k rest ≡ all)
 

@@ -1,4 +1,4 @@
--- Bytes that are gone past by blocks.
+-- Skipping bytes in blocks.
 use Rattle.bcs_decode_source.proofs.Prelude.{◌≡◌, ℕ, ◌+◌, ◌-◌, ◌≤◌, List, length, take, length-take, Ok, Err, inl, inr, refl, ap, ◌∙◌, arith, le-ltb, lt-ltb, cases_lt, Reason, Read, follow, chain, give, bytes_here, bytes_run}
 use Rattle.bcs_decode_source.proofs.Blocks.{with_front, bytes_split}
 
@@ -32,7 +32,7 @@ bytes_end n p m b none =
     let place : p + 0 ≡ p = omega arith in
     rw (none, le-ltb (length b) 0 (omega arith), place) refl
 
--- ---- which bytes they were
+-- ---- which bytes were skipped
 
 module _ (n p m : ℕ) (b : List ℕ) where
   pub bytes_were : (q l : ℕ) (t : List ℕ) → bytes_run n p m b ≡ Ok (tt, q, l, t) → (bytes_here n p m b ≡ Ok (take n b, q, l, t)) × (length (take n b) ≡ n)

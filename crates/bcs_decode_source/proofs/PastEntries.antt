@@ -1,11 +1,11 @@
--- An entry that was gone past, where the bytes are told.
+-- Skipping a map entry, if the content is known.
 use Rattle.bcs_decode_source.proofs.Prelude.{ℕ, ◌+◌, ◌-◌, ◌<◌, List, Option, Some, None, ◌∙◌, DecodeFault, Parser, key_here, pairs_here, skipping, Progress, rest_of, FindsFault, pairs_stop_value, pairs_on}
 use Rattle.bcs_decode_source.proofs.SourceSteps.{FindsFault-whole}
 use Rattle.bcs_decode_source.proofs.StreamedRows.{Found}
 use Rattle.bcs_decode_source.proofs.Leading.{LeadsTo}
 
 module _ (f g : Parser (Unit {0})) (n i : ℕ) (last : Option (List ℕ)) (key : List ℕ) (c d e : Option (List ℕ)) (p q r : Progress) where
-  -- the key was read, and its value was not
+  -- the key was read, and its value fails
   pub value_ends : (x : DecodeFault) → i < n → LeadsTo (pairs_here skipping f g None n) (pairs_here skipping f g last (n - i)) c p d q
       → Found (tt, key) (key_here f last) d e q r → FindsFault x e r g → FindsFault x c p (pairs_here skipping f g None n)
   value_ends x lt h j =

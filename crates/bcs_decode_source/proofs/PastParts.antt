@@ -1,13 +1,13 @@
--- Going past a value with values inside, as its steps are read from a source.
+-- Skipping a value that contains values, in the steps in which a source is read.
 use Rattle.bcs_decode_source.proofs.Prelude.{◌≡◌, ℕ, zero, suc, Bool, true, false, if◌then◌else◌, List, Ok, Err, refl, ap, Shape, Entries, shape_of, Reason, Parser, chain, give, node, fail_here, skipping, skip, unsupported_here, chained_bare, flag_node, option_node, unsupported_leaf}
 use Rattle.bcs_registry_model.specs.declared.format.Format as format
 
 module _ (registry : Entries) (d : ℕ) (f : format.Format) (p m : ℕ) (b : List ℕ) where
-  -- where the shape alone changes
+  -- replaces the shape by an equal one
   pub past_shape : (s : Shape) → shape_of f ≡ s → skip registry d (shape_of f) p m b ≡ skip registry d s p m b
   past_shape s h = ap (λ (s : Shape). skip registry d s p m b) h
 
--- an option, and what it holds
+-- the content of an option, if there is one
 abbrev pub held_past : Parser (Unit {0}) → Bool → Parser (Unit {0})
 held_past f some = if some then chain f (λ _. give tt) else give tt
 
@@ -22,7 +22,7 @@ pub option_on : (f : Parser (Unit {0})) (p m : ℕ) (b : List ℕ) (some : Bool)
 unfolding option_node chain
 option_on f p m b some q l c h = rw h refl
 
--- a format without values stops at the same place, whatever would be made of a value
+-- an unsupported format stops at the same place, whether or not a value is built
 pub unsupported_is : (p m : ℕ) (b : List ℕ) (e : Reason × ℕ) → unsupported_leaf p m b ≡ Err e → unsupported_here p m b ≡ Err e
 unfolding node unsupported_here chain give fail_here
 unsupported_is p zero b e h = cc

@@ -1,10 +1,10 @@
--- Rows of whole numbers that are gone past by blocks.
+-- Skipping lists of integers in blocks.
 use Rattle.bcs_decode_source.proofs.Prelude.{◌≡◌, ℕ, zero, suc, ◌+◌, ◌-◌, ◌*◌, ◌<◌, ◌≤◌, List, length, drop, length-drop, Ok, Err, inl, inr, refl, ap, ◌∙◌, arith, suc-mul, le-ltb, lt-ltb, cases_lt, drop-drop, TooManyNodes, Parser, follow, chain, give, node, bytes_here, items_here, skipping, whole_here, bare}
 
 abbrev row : ℕ → ℕ → Parser (Unit {0})
 row w n = items_here skipping (whole_here w) n
 
--- so many of them have begun: their bytes, and then the others
+-- the bytes of the first `k` values, and then the others
 abbrev pub begun : ℕ → ℕ → ℕ → Parser (Unit {0})
 begun w k n = chain (bytes_here (k * w)) (λ _. row w (n - k))
 
@@ -55,7 +55,7 @@ pub row_end : (w n p m : ℕ) (b : List ℕ) → n ≡ 0 → row w n p m b ≡ O
 unfolding items_here give
 row_end w n p m b none = rw none refl
 
--- no value may begin
+-- the node limit is reached
 pub row_none : (w n p m : ℕ) (b : List ℕ) → 0 < n → m ≡ 0 → row w n p m b ≡ Err (TooManyNodes, p)
 unfolding items_here chain whole_here node
 row_none w zero p m b some none = absurd (omega arith)

@@ -1,4 +1,4 @@
--- Texts that are validated by blocks.
+-- Validating strings in blocks.
 use Rattle.bcs_decode_source.proofs.Prelude.{◌≡◌, ℕ, ◌+◌, ◌-◌, ◌<◌, ◌≤◌, true, List, [], ◌++◌, length, take, drop, take_all, take-add, length-append, length-take, length-drop, append_assoc, slice_range, IsUtf8, Option, Ok, Err, inl, inr, refl, sym, ap, subst, ◌∙◌, arith, ◌⊎◌, append-nil, IsUtf8-append, IsUtf8-nil, utf8_valid_len, BadUtf8, DecodeFault, chain, give, bytes_here, text_here, Progress, is_told, rest_of, FindsFault, bytes_run, text_run, BeginsNoText}
 use Rattle.bcs_decode_source.proofs.Blocks.{with_front, BytesSoFar, bytes_none, bytes_more, bytes_refused}
 use Rattle.bcs_decode_source.proofs.Chains.{text_right, text_wrong}
@@ -7,8 +7,8 @@ use Rattle.bcs_decode_source.proofs.StreamedRows.{Found}
 use Rattle.bcs_decode_source.proofs.PastBlocks.{bytes_were, bytes_were_not}
 use Rattle.bcs_decode_source.proofs.Utf8Fronts.{nothing_behind, no_text_more, text_ends}
 
--- of a text of n bytes done were read, of which the good first ones are a text, and the others begin none and are held
--- at the front of the block
+-- of a string of `n` bytes, `done` were read; the first `good` are valid UTF-8, and the others begin no valid string
+-- and are at the start of the block
 pub record TextSoFar (n good done : ℕ) (block : List ℕ) (c : Option (List ℕ)) (p : Progress) (d : Option (List ℕ)) (q : Progress) : Type 0 where
   pub front : List ℕ
   pub text : IsUtf8 front
@@ -33,7 +33,7 @@ text_none n block c p = record {
   sees = bytes_none n c p;
 }
 
--- the bytes that are held, and then the next ones, as a text and what begins none
+-- carried-over bytes followed by new ones, split into valid UTF-8 and a rest
 joined : (front old new : List ℕ) (held size valid : ℕ) → take held new ≡ take held old → valid ≤ held + size
     → (front ++ take held old) ++ slice_range new held (held + size) ≡ (front ++ take valid new) ++ slice_range new valid (held + size)
 joined front old new held size valid same few =
@@ -49,7 +49,7 @@ module _ (n good done : ℕ) (block : List ℕ) (c d : Option (List ℕ)) (p q :
   long : length (h.front ++ take (done - good) block) ≡ done
   long = length-append h.front (take (done - good) block) ∙ omega (arith, h.size, h.held, h.order)
 
-  -- a block was read, of which so many bytes are valid behind those that are held
+  -- a block was read, and `valid` bytes of carried-over and new ones together are valid
   pub text_more : (size valid : ℕ) (new moved : List ℕ) (e : Option (List ℕ)) (r : Progress) → size ≤ n - done → (done - good) + size ≤ length new → take (done - good) new ≡ take (done - good) block
       → valid ≤ (done - good) + size → IsUtf8 (take valid new) → take ((done - good) + size - valid) moved ≡ slice_range new valid ((done - good) + size)
       → BeginsNoText (slice_range new valid ((done - good) + size)) → r.place ≡ q.place + size
@@ -72,14 +72,14 @@ module _ (n good done : ℕ) (block : List ℕ) (c d : Option (List ℕ)) (p q :
             (bytes_more n size (h.front ++ take (done - good) block) (slice_range new (done - good) ((done - good) + size)) c d e p q r (omega (arith, long)) (omega (arith, long, h.within)) part h.sees read);
       }
 
-  -- a block wasn't read
+  -- reading a block fails
   pub text_refused : (x : DecodeFault) (size : ℕ) → size ≤ n - done → FindsFault x d q (bytes_here size) → FindsFault x c p (text_run n)
   unfolding text_run text_here chain
   text_refused x size few refused =
       FindsFault-whole x c c p p (text_run n) (bytes_here n) (λ told. told) (λ e o told stop. rw stop refl)
       (bytes_refused x n size (h.front ++ take (done - good) block) c d p q (omega (arith, long)) h.sees refused)
 
-  -- the others weren't there
+  -- the remaining bytes are missing
   pub text_cut : (x : DecodeFault) → FindsFault x d q (bytes_run (n - done)) → FindsFault x c p (text_run n)
   unfolding text_run text_here chain
   text_cut x refused =
@@ -91,7 +91,7 @@ module _ (n good done : ℕ) (block : List ℕ) (c d : Option (List ℕ)) (p q :
       rw whole refl)) refused
 
   module _ (e : Option (List ℕ)) (r : Progress) (others : is_told d ≡ true → (bytes_run (n - done) q.place q.nodes (rest_of d) ≡ Ok (tt, r.place, r.nodes, rest_of e)) × (is_told e ≡ true)) where
-    -- all bytes that come after those that were read
+    -- the bytes of the string that haven't been read
     abbrev tail : List ℕ
     tail = take (n - done) (rest_of d)
 

@@ -1,4 +1,4 @@
--- What the proofs use of other crates, and of this crate's definitions.
+-- Names from other crates and from this crate's definitions that the proofs share.
 pub use Rattle.std.proofs.Common.{[], ap, append_assoc, arith, Bool, codes, cond, drop, encode_utf8, encode_utf8_all, Err, false, get_or, Global, IfOk, if◌then◌else◌, inl, inr, IsErr, IsErrAnd, IsUtf8, length, length-append, length-drop, length-take, length-take-le, List, map, max, nat_lt, None, Ok, Option, refl, replicate, Result, rules, slice_range, Some, String, string_bytes, subst, suc, sym, take, take-add, take-take, take_all, true, Vec, vec_len, zero, ℕ, ℤ, ◌&&◌, ◌*◌, ◌++◌, ◌+◌, ◌-◌, ◌<◌, ◌==◌, ◌∙◌, ◌∷◌, ◌≡◌, ◌≢◌, ◌≤◌, ◌⊎◌}
 pub use Rattle.std.proofs.Math.Nat.{suc-mul}
 pub use Rattle.std.proofs.lemmas.Bool.{and_left, and_parts, and_right, cases_lt, false_from_ne_true, le-ltb, lt-ltb, ne_eqb}

@@ -1,4 +1,4 @@
--- Readers that go on, step after step.
+-- Readers, one step after another.
 use Rattle.bcs_decode_source.proofs.Prelude.{◌≡◌, ℕ, ◌≤◌, Bool, true, List, Option, Result, Ok, Err, IfOk, IsErr, IsErrAnd, refl, ◌∙◌, Reason, DecodeFault, Stop, ReadFault, OutOfMemory, Parser, chain, give, node, Progress, Reader, node_here, is_told, rest_of, FindsFault, Sees, Along, Ready, IsSame, Reads}
 use Rattle.bcs_decode_source.proofs.Chains.{node_is}
 use Rattle.bcs_decode_source.proofs.SourceSteps.{Along-none, Along-then, Along-gave, Goes-then, Halts-then, FindsFault-whole, Sees-as, Along-nodes}
@@ -25,14 +25,14 @@ FindsFault-then ReadFault c p f h k = tt
 FindsFault-then OutOfMemory c p f h k = tt
 
 module _ {S : Type 0} (content : S → Option (List ℕ)) (is_failed : S → Bool) (allowance : S → ℕ) where
-  -- the reader went on from p to q, and may go on
+  -- the reader went from p to q, and can continue
   pub record Onward (p q : Reader S) : Type 0 where
     pub ready : Ready is_failed allowance q
     pub same : IsSame p q
     pub goes : Along (content p.source.now) p.at.now (content q.source.now) q.at.now
 
 module _ {S : Type 0} {content : S → Option (List ℕ)} {is_failed : S → Bool} {allowance : S → ℕ} where
-  -- one parser is another
+  -- replaces a parser by an equal one
   pub Reads-as : {X A : Type 0} {v : X → A} {r : Result X DecodeFault} {p q : Reader S} {f h : Parser A}
       → ((o m : ℕ) (b : List ℕ) → f o m b ≡ h o m b) → Reads content is_failed allowance v r p h q → Reads content is_failed allowance v r p f q
   Reads-as {v = v} {r = r} {p = p} {q = q} {f = f} {h = h} same k =
@@ -49,13 +49,13 @@ module _ {S : Type 0} {content : S → Option (List ℕ)} {is_failed : S → Boo
     same = IsSame-then first.same next.same;
   }
 
-  -- a fault ends what would come after it
+  -- a fault ends the whole step
   pub Reads-ends : {X Y A B : Type 0} {v : X → A} {w : Y → B} {e : DecodeFault} {p q : Reader S} {f : Parser A} (h : A → Parser B)
       → Reads content is_failed allowance v (Err e) p f q → Reads content is_failed allowance w (Err e) p (chain f h) q
   Reads-ends {e = e} {p = p} {f = f} h k =
       record { sees = FindsFault-then e (content p.source.now) p.at.now f h k.sees; failed = k.failed; room = k.room; goes = k.goes; same = k.same }
 
-  -- a node, and then what has it
+  -- a node, and then the value that it counts
   pub Reads-node : {X A : Type 0} {v : X → A} {x : Unit {0}} {r : Result X DecodeFault} {p q s : Reader S} {f : Parser A}
       → Reads content is_failed allowance (λ u. u) (Ok x) p node_here q → Reads content is_failed allowance v r q f s → Reads content is_failed allowance v r p (node f) s
   unfolding chain
@@ -66,20 +66,20 @@ module _ {S : Type 0} {content : S → Option (List ℕ)} {is_failed : S → Boo
   unfolding chain
   Reads-node-ends f k = Reads-as (node_is f) (Reads-ends (λ _. f) k)
 
-  -- something is made of what was read
+  -- maps the result
   pub Reads-made : {X Y A B : Type 0} {v : X → A} {w : Y → B} {x : X} {y : Y} {p q : Reader S} {f : Parser A} (k : A → B)
       → w y ≡ k (v x) → Reads content is_failed allowance v (Ok x) p f q → Reads content is_failed allowance w (Ok y) p (chain f (λ a. give (k a))) q
   unfolding chain give
   Reads-made k made read =
       record { sees = λ told. (let a = read.sees told in (rw (a.0, made) refl, a.1)); failed = read.failed; room = read.room; goes = read.goes; same = read.same }
 
-  -- what the exit of a `?` returns
+  -- what a `?` returns
   pub Reads-exit : {X A : Type 0} {v : X → A} {r : Result X DecodeFault} {e : DecodeFault} {p q : Reader S} {f : Parser A}
       → IsErrAnd r (λ y. y ≡ e) → Reads content is_failed allowance v (Err e) p f q → Reads content is_failed allowance v r p f q
   Reads-exit {r = Ok x} h k = absurd h
   Reads-exit {r = Err y} h k = rw h k
 
-  -- a step that returns no value may be said to return any
+  -- a step that returns no value can have any type of value
   pub Reads-never : {X A B : Type 0} {v : X → A} {w : X → B} {r : Result X DecodeFault} {p q : Reader S} {f : Parser A} {h : Parser B}
       → IsErr r → ((o m : ℕ) (b : List ℕ) (e : Reason × ℕ) → f o m b ≡ Err e → h o m b ≡ Err e) → Reads content is_failed allowance v r p f q → Reads content is_failed allowance w r p h q
   Reads-never {r = Ok x} never same k = absurd (let none = never in cc)
@@ -91,13 +91,13 @@ module _ {S : Type 0} {content : S → Option (List ℕ)} {is_failed : S → Boo
     same = k.same;
   }
 
-  -- what was read, if it was, makes what the slot holds
+  -- on success, the slot contains what is built from the result
   pub Reads-put : {X A B : Type 0} {t : A} {u : B} {r : Result X DecodeFault} {p q : Reader S} {f : Parser A} (k : A → B)
       → IfOk r (λ _. u ≡ k t) → Reads content is_failed allowance (λ _. t) r p f q → Reads content is_failed allowance (λ _. u) r p (chain f (λ a. give (k a))) q
   Reads-put {r = Ok x} k put read = Reads-made k put read
   Reads-put {r = Err e} k put read = Reads-ends (λ a. give (k a)) read
 
-  -- ---- on the way
+  -- ---- partway through
 
   pub Onward-none : {p : Reader S} → Ready is_failed allowance p → Onward content is_failed allowance p p
   Onward-none {p} ready = record { ready = ready; same = again p; goes = Along-none (content p.source.now) p.at.now }
@@ -112,12 +112,12 @@ module _ {S : Type 0} {content : S → Option (List ℕ)} {is_failed : S → Boo
     goes = Along-then h.goes (Along-nodes (content q.source.now) q.at.now m);
   }
 
-  -- what was read on the way
+  -- success after some steps
   pub Onward-done : {X A : Type 0} {v : X → A} {x : X} {p q : Reader S} {f : Parser A} → Onward content is_failed allowance p q
       → Found (v x) f (content p.source.now) (content q.source.now) p.at.now q.at.now → Reads content is_failed allowance v (Ok x) p f q
   Onward-done h found = record { sees = found; failed = h.ready.good; room = h.ready.room; goes = h.goes; same = h.same }
 
-  -- a fault on the way
+  -- a fault after some steps
   pub Onward-ends : {X Y A B : Type 0} {v : X → A} {w : Y → B} {e : DecodeFault} {p q s : Reader S} {f : Parser A} {h : Parser B} → Onward content is_failed allowance p q
       → Reads content is_failed allowance v (Err e) q f s → FindsFault e (content p.source.now) p.at.now h → Reads content is_failed allowance w (Err e) p h s
   Onward-ends {e = e} {p = p} {q = q} {s = s} h k refused = record {
@@ -128,12 +128,12 @@ module _ {S : Type 0} {content : S → Option (List ℕ)} {is_failed : S → Boo
     same = IsSame-then h.same k.same;
   }
 
-  -- a stop on the way
+  -- a stop after some steps
   pub Onward-stops : {X A : Type 0} {v : X → A} {p q : Reader S} {f : Parser A} {e : Reason} {o : ℕ} → Onward content is_failed allowance p q → o ≤ q.at.now.place
       → (is_told (content p.source.now) ≡ true → f p.at.now.place p.at.now.nodes (rest_of (content p.source.now)) ≡ Err (e, o))
       → Reads content is_failed allowance v (Err (Stop (record { reason = e; place = o }))) p f q
   Onward-stops h before refused = record { sees = refused; failed = h.ready.good; room = h.ready.room; goes = (h.goes.gone, before); same = h.same }
 
-  -- want of memory on the way
+  -- out of memory after some steps
   pub Onward-lacks : {X A : Type 0} {v : X → A} {p q : Reader S} {f : Parser A} → Onward content is_failed allowance p q → Reads content is_failed allowance v (Err OutOfMemory) p f q
   Onward-lacks h = record { sees = tt; failed = h.ready.good; room = h.ready.room; goes = Along-gave h.goes; same = h.same }

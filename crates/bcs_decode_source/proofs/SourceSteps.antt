@@ -32,7 +32,7 @@ Along-none c p = record {
   recorded = λ yes b base from l s. s;
 }
 
--- nodes begin, and nothing is read
+-- counts nodes, and reads nothing
 pub Along-nodes : (c : Option (List ℕ)) (p : Progress) (m : ℕ) → Along c p c (record p { nodes = m })
 Along-nodes c p m = record {
   gone = λ b l. l;
@@ -51,7 +51,7 @@ Halts-after OutOfMemory c d e p q r gone later k = λ b l. (let m = k b (gone b 
 pub Halts-then : (x : DecodeFault) (c d e : Option (List ℕ)) (p q r : Progress) → Along c p d q → Halts x d q e r → Halts x c p e r
 Halts-then x c d e p q r h k = Halts-after x c d e p q r h.gone h.later k
 
--- what was gone past is a front
+-- what was skipped is a prefix
 pub Along-gave : {c d : Option (List ℕ)} {p q : Progress} → Along c p d q → GaveFront c p d
 Along-gave {c} {d} {p} {q} h b l = (q.place, h.later, h.gone b l)
 
@@ -59,7 +59,7 @@ pub Goes-then : {X : Type 0} (r : Result X DecodeFault) (c d e : Option (List �
 Goes-then (Ok x) c d e p q s h k = Along-then h k
 Goes-then (Err x) c d e p q s h k = Halts-then x c d e p q s h k
 
--- of what a map's part keeps, the first bytes are those of the whole
+-- the first bytes of `kept` are the same through all parts of a map
 pub AlongMap-then : (n m : ℕ) (c d e : Option (List ℕ)) (p q r : Progress) → AlongMap n c p d q → n ≡ m → AlongMap m d q e r → AlongMap n c p e r
 AlongMap-then n m c d e p q r h same next = record {
   gone = λ b l. next.gone b (h.gone b l);
@@ -79,7 +79,7 @@ AlongMap-value n c d p q few h = record {
   recorded = h.recorded;
 }
 
--- a map whose keys were let go
+-- a map, after its keys have been dropped
 pub Along-map : (c d : Option (List ℕ)) (p q r : Progress) → AlongMap (length p.kept.items) c p d q → r.place ≡ q.place → r.is_in_key ≡ q.is_in_key
     → (q.is_in_key ≡ true → r.kept.items ≡ q.kept.items) → (q.is_in_key ≡ false → r.kept.items ≡ take (length p.kept.items) q.kept.items) → Along c p d r
 Along-map c d p q r h place inside stays cut = record {
@@ -101,7 +101,7 @@ Along-map c d p q r h place inside stays cut = record {
     front_of true within = ap (take (length p.kept.items)) (stays within) ∙ h.front ∙ whole
     front_of false outside = ap (take (length p.kept.items)) (unchanged outside) ∙ whole
 
--- a key was read, and its bytes were made the last key's
+-- a key was read, and became the last key
 pub AlongMap-key : (n : ℕ) (c d : Option (List ℕ)) (p v q : Progress) → n ≤ length p.kept.items → Along c (record p { is_in_key = true }) d v → q.place ≡ v.place → q.is_in_key ≡ p.is_in_key
     → (p.is_in_key ≡ true → q.kept.items ≡ v.kept.items) → take n q.kept.items ≡ take n v.kept.items → AlongMap n c p d q
 AlongMap-key n c d p v q few h place inside stays front = record {
@@ -115,7 +115,7 @@ AlongMap-key n c d p v q few h place inside stays front = record {
       record { begun = let x = t.begun in omega (arith, place); is = stays yes ∙ t.is ∙ ap (λ i. base ++ take (i - from) (drop from b)) (sym place) });
 }
 
--- a stop of a later part is one of the whole
+-- a stop in a later part is a stop of the whole
 pub FindsFault-whole : {A B : Type 0} (x : DecodeFault) (c d : Option (List ℕ)) (p q : Progress) (f : Parser A) (h : Parser B)
     → (is_told c ≡ true → is_told d ≡ true)
     → ((e : Reason) (o : ℕ) → is_told c ≡ true → h q.place q.nodes (rest_of d) ≡ Err (e, o) → f p.place p.nodes (rest_of c) ≡ Err (e, o))
@@ -124,7 +124,7 @@ FindsFault-whole (Stop s) c d p q f h told whole k = λ t. whole s.reason s.plac
 FindsFault-whole ReadFault c d p q f h told whole k = tt
 FindsFault-whole OutOfMemory c d p q f h told whole k = tt
 
--- one parser is another
+-- replaces a parser by an equal one
 pub Sees-as : {X A : Type 0} (view : X → A) (r : Result X DecodeFault) (c : Option (List ℕ)) (p : Progress) (f h : Parser A) (q : Progress) (d : Option (List ℕ))
     → ((o m : ℕ) (b : List ℕ) → f o m b ≡ h o m b) → Sees view r c p h q d → Sees view r c p f q d
 Sees-as view (Ok x) c p f h q d same k = λ told. (same p.place p.nodes (rest_of c) ∙ (k told).0, (k told).1)
@@ -132,7 +132,7 @@ Sees-as view (Err (Stop s)) c p f h q d same k = λ told. (same p.place p.nodes 
 Sees-as view (Err ReadFault) c p f h q d same k = tt
 Sees-as view (Err OutOfMemory) c p f h q d same k = tt
 
--- a fault of a test is one of the whole
+-- a fault of a check is a fault of the whole
 pub FindsFault-validated : {A : Type 0} (x : DecodeFault) (c : Option (List ℕ)) (p : Progress) (f : Parser A) (h : Parser (Unit {0})) (at : ℕ)
     → ((e : Reason) (o : ℕ) → is_told c ≡ true → ((i j : ℕ) (r : List ℕ) → h i j r ≡ Err (e, o)) → f p.place p.nodes (rest_of c) ≡ Err (e, o))
     → Validates (Err x) h at → FindsFault x c p f
@@ -156,11 +156,11 @@ Left-after b p n (Some s) (Some t) x h l k =
     let m = drop_more p n b x t k.within (sym k.is ∙ h) l in
     (record { told = refl; within = m.0; is = m.1 }, m.2)
 
--- a front was given
+-- the source gave a prefix
 pub gave_taken : (c d : Option (List ℕ)) (p : Progress) (x : List ℕ) → Consumes c d x → GaveFront c p d
 gave_taken c d p x h b l = (p.place + length x, omega arith, (Left-after b p.place (length x) c d x h refl l).0)
 
--- the bytes that were recorded, and then the next ones
+-- the bytes recorded so far, followed by the new ones
 Records-after : (b base : List ℕ) (from n : ℕ) (x : List ℕ) (p q : Progress) → x ≡ take n (drop p.place b) → q.place ≡ p.place + n → q.kept.items ≡ p.kept.items ++ x → Records b base from p → Records b base from q
 Records-after b base from n x p q is far kept r =
     let begun = r.begun in
@@ -175,7 +175,7 @@ Records-after b base from n x p q is far kept r =
           ∙ ap (λ i. take i (drop from b)) (sym far_from));
     }
 
--- the bytes that were taken are recorded where a key is open
+-- while a key is open, the bytes that were taken are recorded
 pub Along-taken : (c d : Option (List ℕ)) (x : List ℕ) (n : ℕ) (p q : Progress) → Consumes c d x → length x ≡ n → q.place ≡ p.place + n → q.is_in_key ≡ p.is_in_key
     → (p.is_in_key ≡ false → q.kept.items ≡ p.kept.items) → (p.is_in_key ≡ true → q.kept.items ≡ p.kept.items ++ x) → Along c p d q
 Along-taken c d x n p q h l far same unrecorded recorded = record {
@@ -194,7 +194,7 @@ Along-taken c d x n p q h l far same unrecorded recorded = record {
     front : take (length p.kept.items) q.kept.items ≡ p.kept.items
     front = front_of p.is_in_key refl
 
--- the bytes that were recorded while a key was read are those that were taken
+-- the bytes recorded while a key was read are those that were taken
 pub recorded_key : (c d : Option (List ℕ)) (p q : Progress) → is_told c ≡ true → p.is_in_key ≡ true → Along c p d q → drop (length p.kept.items) q.kept.items ≡ take (q.place - p.place) (rest_of c)
 recorded_key c d p q told inside h =
     let gap = replicate p.place 0 in

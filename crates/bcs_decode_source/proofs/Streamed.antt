@@ -1,4 +1,4 @@
--- The parsers of values, as they are read from a source.
+-- The parsers of values, in the steps in which a source is read.
 use Rattle.bcs_decode_source.proofs.Prelude.{◌≡◌, ℕ, zero, suc, ◌-◌, ◌<◌, List, Some, None, Ok, Err, refl, ap, ◌∙◌, arith, Shape, Shapes, Entries, Content, Choice, of, one_of, nothing, content_at, choice_at, shape_of, scalar_shape, whole_shape, Scalar, IntegerKind, Unsigned, Signed, Tree, TooDeep, Unsupported, UnknownVariant, Reason, Parser, Making, follow, chain, give, fail, fail_here, content_here, choice_here, variant_here, node, value_here, shape_here, option_here, items_here, pairs_here, length_here, named_here, building, skipping, skip, node_here, enter_here, bare, content_past, read, leaf_here, unit_leaf, flag_node, option_node, items_node, row_here, pairs_node, tuple_value, container_value, named_value, content_value, number_node}
 use Rattle.bcs_registry_model.specs.Shape as shape
 use Rattle.bcs_registry_model.specs.declared.scalar.Scalar.TheVariants as scalar
@@ -15,7 +15,7 @@ unfolding enter_here
 enter_more zero p m b h = absurd (omega arith)
 enter_more (suc d) p m b h = refl
 
--- what is made of what is read
+-- for every kind of result
 module _ {V : Type 0} {R : Type 0} {E : Type 0} (make : Making V R E) where
   option_is : (f : Parser V) (p m : ℕ) (b : List ℕ) → node (option_here make f) p m b ≡ option_node make f p m b
   unfolding node option_here option_node flag_node chain give
@@ -105,7 +105,7 @@ module _ (registry : Entries) (d p m : ℕ) (b : List ℕ) where
   unfolding choice_here chain value_here
   enum_skipped cs n q l c s h is = enum_is skipping registry d cs p m b ∙ rw (h, is) (bare (skip registry d s q l c))
 
-  -- a name without a container
+  -- a name that no container has
   pub container_missing : (q l : ℕ) (c : List ℕ) → enter_here d p m b ≡ Ok (tt, q, l, c) → container_value registry d nothing p m b ≡ Err (Unsupported, q)
   unfolding container_value chain content_here fail_here
   container_missing q l c h = rw h refl
@@ -126,19 +126,19 @@ leaf_is registry d (scalar.Unsupported u) = refl
 leaf_is registry d scalar.Str = refl
 leaf_is registry d scalar.Bytes = refl
 
--- a name is read as its container
+-- reading a name reads its container
 pub read_container : (registry : Entries) (d : ℕ) (s : Shape) (name : List ℕ) (c : Content) → s ≡ shape.name name → content_at name registry ≡ c → (p m : ℕ) (b : List ℕ) → read registry d s p m b ≡ container_value registry d c p m b
 unfolding value_here shape_here
 read_container registry d s name c is has p m b = rw is (named_is registry d name p m b) ∙ ap (λ (k : Content). container_value registry d k p m b) has
 
--- a whole number is read as a leaf
+-- reading an integer reads a leaf
 pub read_whole : (registry : Entries) (d : ℕ) (s : Shape) (n : IntegerKind) → s ≡ whole_shape n → read registry d s ≡ leaf_here (whole_shape n)
 unfolding value_here shape_here
 read_whole registry d s (Unsigned w) h = rw h refl
 read_whole registry d s (Signed w) h = rw h refl
 
 module _ (registry : Entries) (d : ℕ) (f : format.Format) where
-  -- what has no parts is read as a leaf, whatever is registered
+  -- a value without parts is read as a leaf, in every registry
   pub read_leaf : (s : Scalar) → shape_of f ≡ scalar_shape s → read registry d (shape_of f) ≡ leaf_here (shape_of f)
   read_leaf s h = rw h (leaf_is registry d s)
 

@@ -1,4 +1,4 @@
--- A key that was read from a source or gone past, and recorded.
+-- A key that was read or skipped, and recorded.
 use Rattle.bcs_decode_source.proofs.Prelude.{◌≡◌, ◌-◌, ℕ, true, List, length, take, drop, Option, Ok, Err, refl, sym, ap, ◌∙◌, Reason, Progress, Span, Parser, give, key_here, key_after, Stands, last_bytes, is_told, rest_of, Along}
 use Rattle.bcs_decode_source.proofs.SourceSteps.{recorded_key}
 use Rattle.bcs_decode_source.proofs.KeptKeys.{last_kept}

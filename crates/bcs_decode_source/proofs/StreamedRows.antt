@@ -1,13 +1,13 @@
--- Values that are read in a row.
+-- Reading consecutive values.
 use Rattle.bcs_decode_source.proofs.Prelude.{◌≡◌, ℕ, suc, ◌+◌, ◌-◌, ◌<◌, ◌≤◌, true, List, [], ◌∷◌, ◌++◌, map, Option, Some, None, Ok, Err, refl, sym, ap, ◌∙◌, arith, map_push, Shape, Shapes, no_shapes, shape, Entries, Tree, Trees, no_trees, tree, Pairs, no_pairs, pair, tree_of, trees_of, items_trees, pairs_of, entries_pairs, Value, DecodeFault, Progress, Parser, Read, follow, chain, give, items_here, pairs_here, key_here, each_here, value_here, building, is_told, rest_of, FindsFault, read}
 use Rattle.bcs_decode_source.specs.Sees.{each}
 use Rattle.bcs_decode_source.proofs.SourceSteps.{FindsFault-whole}
 
--- what was read of a told source
+-- what was read, if the content is known
 abbrev pub Found : {A : Type 0} → A → Parser A → Option (List ℕ) → Option (List ℕ) → Progress → Progress → Type 0
 Found x f c d p q = is_told c ≡ true → (f p.place p.nodes (rest_of c) ≡ Ok (x, q.place, q.nodes, rest_of d)) × (is_told d ≡ true)
 
--- these, and then those
+-- concatenates two lists of trees
 abbrev pub joined : Trees → Trees → Trees
 joined no_trees us = us
 joined (tree t ts) us = tree t (joined ts us)
@@ -36,7 +36,7 @@ unfolding give
 before_none (Ok x) = refl
 before_none (Err e) = refl
 
--- ---- so many values
+-- ---- `n` values of one format
 
 abbrev pub ItemsSoFar : Parser Tree → ℕ → ℕ → List Value → Option (List ℕ) → Option (List ℕ) → Progress → Progress → Type 0
 ItemsSoFar f n i vs c d p q = is_told c ≡ true → (items_here building f n p.place p.nodes (rest_of c) ≡ items_before (items_trees vs) (items_here building f (n - i) q.place q.nodes (rest_of d))) × (is_told d ≡ true)

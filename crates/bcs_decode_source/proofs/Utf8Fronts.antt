@@ -1,11 +1,11 @@
--- Fronts of bytes that are UTF-8.
+-- Prefixes that are valid UTF-8 (RFC 3629).
 use Rattle.bcs_decode_source.proofs.Prelude.{◌≡◌, ℕ, ◌+◌, ◌-◌, ◌<◌, ◌≤◌, Bool, true, false, ◌&&◌, List, [], ◌∷◌, ◌++◌, length, take, drop, take_all, take-take, length-append, length-take, take-add, IsUtf8, inl, inr, refl, sym, ap, subst, ◌∙◌, arith, encode_utf8, encode_utf8_all, cases_lt, take-append-le, append-nil, IsUtf8-append, length-encode, len_utf8_bounds, utf8_valid_len-IsValidUpTo, IsUtf8-drop, IsCharBoundary-from_take, scalar, scalars, IsValidUpTo, utf8_valid_len, BeginsNoText}
 use Rattle.std.proofs.Common.{take_at, drop_at}
 
 pub nothing_behind : (s : List ℕ) → length s ≡ 0 → BeginsNoText s
 nothing_behind s none n some within good = absurd (omega (arith, none))
 
--- behind the longest front
+-- what follows the longest valid prefix begins no valid string
 pub longest_behind : (s : List ℕ) (n : ℕ) → IsValidUpTo s n → BeginsNoText (drop n s)
 longest_behind s n valid k some within good =
     valid.longest (n + k) (omega arith) (subst IsUtf8 (sym (take-add n k s)) (IsUtf8-append (take n s) (take k (drop n s)) valid.front good))
@@ -16,7 +16,7 @@ first_true : (x y : Bool) → x && y ≡ true → x ≡ true
 first_true true y h = refl
 first_true false y h = absurd cc
 
--- the first character of a text is a text of at most four bytes
+-- the first character of a valid string has at most four bytes
 first_text : (s : List ℕ) → IsUtf8 s → 0 < length s → (n : ℕ) × (0 < n) × (n ≤ 4) × (n ≤ length s) × IsUtf8 (take n s)
 first_text s good some = at good.0 good.1.0 good.1.1
   where
@@ -30,7 +30,7 @@ first_text s good some = at good.0 good.1.0 good.1.1
         let one : IsUtf8 (encode_utf8 c) = (c ∷ [], (rw (first_true (scalar c) (scalars cs) right) refl, append-nil (encode_utf8 c))) in
         (length (encode_utf8 c), omega (arith, size, bounds.0), omega (arith, size, bounds.1), omega (arith, ap length is, length-append (encode_utf8 c) (encode_utf8_all cs)), subst IsUtf8 (sym front) one)
 
--- more bytes behind four make no text of them
+-- if four bytes begin no valid string, more bytes don't change that
 pub no_text_more : (s t : List ℕ) → 4 ≤ length s → BeginsNoText s → BeginsNoText (s ++ t)
 no_text_more s t long none n some within good =
     let size : length (take n (s ++ t)) ≡ n = omega (arith, length-take n (s ++ t)) in
@@ -40,7 +40,7 @@ no_text_more s t long none n some within good =
     let front : take k (take n (s ++ t)) ≡ take k s = take-take k n (s ++ t) (omega (arith, first.3, size)) ∙ take-append-le k s t few in
     none k first.1 few (subst IsUtf8 front first.4)
 
--- ---- a text, and behind it what begins none
+-- ---- a valid string, followed by bytes that begin none
 
 module _ (g r : List ℕ) (good : IsUtf8 g) (none : BeginsNoText r) (some : 0 < length r) where
   no_longer : (m : ℕ) → length g < m → m ≤ length (g ++ r) → IsUtf8 (take m (g ++ r)) → ⊥

@@ -1,4 +1,4 @@
--- Values, level by level.
+-- The trees of values, level by level.
 use Rattle.bcs_decode_source.proofs.Prelude.{◌≡◌, ℕ, ℤ, Bool, Vec, Global, String, string_bytes, rules, tree_of, Value, the_lemmas}
 use Rattle.bcs_value_model.specs.Tree as tree
 use Rattle.bcs_value_model.specs.declared.value.Value as value

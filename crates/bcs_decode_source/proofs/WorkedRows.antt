@@ -1,4 +1,4 @@
--- What the definition says of some formats, by computation.
+-- Examples: the definition, evaluated on some formats.
 use Rattle.bcs_decode_source.proofs.Prelude.{◌≡◌, ℕ, [], ◌∷◌, true, false, codes, refl, w8, Shape, no_shapes, Entries, unit, newtype, newtype_struct, field_struct, enumeration, takes_no_memory, reaches_no_map}
 use Rattle.bcs_registry_model.specs.Shape as shape
 
@@ -26,11 +26,11 @@ map_registry = (codes "A", field_struct ((codes "b", shape.name (codes "B")) ∷
 a_map_in_the_second_container : reaches_no_map map_registry 2 (shape.name (codes "A")) ≡ false
 a_map_in_the_second_container = refl
 
--- that container may not open
+-- with a limit of one container, B can't open
 one_container_may_open : reaches_no_map map_registry 1 (shape.name (codes "A")) ≡ true
 one_container_may_open = refl
 
--- a value without parts that take memory
+-- values without parts that allocate nothing
 plain_values : (registry : Entries) (d : ℕ) (s : Shape) → takes_no_memory s ≡ true → reaches_no_map registry d s ≡ true
 plain_values registry d shape.unit h = refl
 plain_values registry d shape.truth h = refl

@@ -4,7 +4,7 @@ use Rattle.std.specs.List.{list_all}
 use Rattle.bcs_registry_model.specs.Shape.{Shape, name, option, seq, map, tuple, array, Shapes, no_shapes, shape}
 use Rattle.bcs_registry_model.specs.Container.{Entries, Content, of, one_of, nothing, content_at, payload_shape}
 
--- no map stands in the format, nor behind its names, of which r says the same
+-- the format contains no map, and neither do its named containers, according to `r`
 module _ (r : List ℕ → Bool) where
   abbrev mutual
     pub has_no_map : Shape → Bool
@@ -20,18 +20,17 @@ module _ (r : List ℕ → Bool) where
     have_no_map no_shapes = true
     have_no_map (shape s ss) = has_no_map s && have_no_map ss
 
-  -- nor in what stands in a container
+  -- the contents of a container, in the same sense
   abbrev pub content_has_no_map : Content → Bool
   content_has_no_map (of s) = has_no_map s
   content_has_no_map (one_of cs) = list_all (λ c. has_no_map (payload_shape c.1.1)) cs
   content_has_no_map nothing = true
 
--- the container of this name reaches no map, where so many containers may open, it among them
+-- no map can be reached from the container `n` while at most `d` containers are open, including this one
 abbrev pub named_reaches_no_map : Entries → ℕ → List ℕ → Bool
 named_reaches_no_map registry zero n = true
 named_reaches_no_map registry (suc d) n = content_has_no_map (named_reaches_no_map registry d) (content_at n registry)
 
--- the format reaches no map, where so many containers may open: none stands in it, nor in a container that its names
--- lead to, through as many others as may be open
+-- no map can be reached from the format while at most `d` containers are open, directly or through containers
 abbrev pub reaches_no_map : Entries → ℕ → Shape → Bool
 reaches_no_map registry d s = has_no_map (named_reaches_no_map registry d) s

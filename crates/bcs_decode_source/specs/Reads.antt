@@ -5,25 +5,24 @@ use Rattle.bcs_decode_spec.specs.Reading.{Parser}
 use Rattle.bcs_decode_source.specs.Sees.{Sees, FailedIfRead, Goes, GoesInMap}
 use Rattle.bcs_decode_source.specs.declared.reader.Reader.{Reader}
 
--- a reader may go on: no call of its source has failed, and the place and what the source may still give are together
--- below 2^64
+-- a reader can continue: its source hasn't failed, and the place plus what the source may still give is below 2^64
 pub record Ready {S : Type 0} (is_failed : S → Bool) (allowance : S → ℕ) (p : Reader S) : Type 0 where
   pub good : is_failed p.source.now ≡ false
   pub room : p.at.now.place + allowance p.source.now < 2 ^ 64
 
--- it has the same registry, and goes on with the same source
+-- the registry and the source are the same
 pub record IsSame {S : Type 0} (p q : Reader S) : Type 0 where
   pub registry : q.registry.now ≡ p.registry.now
   pub source : q.source.ghost_name ≡ p.source.ghost_name
   pub at : q.at.ghost_name ≡ p.at.ghost_name
 
--- it took nothing from the source
+-- nothing was read from the source
 pub record IsStill {S : Type 0} (p q : Reader S) : Type 0 where
   pub source : q.source.now ≡ p.source.now
   pub place : q.at.now.place ≡ p.at.now.place
 
 module _ {S : Type 0} (content : S → Option (List ℕ)) (is_failed : S → Bool) (allowance : S → ℕ) where
-  -- the reader went on from p to q; what was returned, seen by view, is what the parser finds in the told bytes
+  -- the reader went from p to q; if the content is known, the result, mapped by `view`, is what the parser finds in it
   pub record Reads {X A : Type 0} (view : X → A) (r : Result X DecodeFault) (p : Reader S) (f : Parser A) (q : Reader S) : Type 0 where
     pub sees : Sees view r (content p.source.now) p.at.now f q.at.now (content q.source.now)
     pub failed : FailedIfRead r (is_failed q.source.now)
@@ -31,7 +30,7 @@ module _ {S : Type 0} (content : S → Option (List ℕ)) (is_failed : S → Boo
     pub goes : Goes r (content p.source.now) p.at.now (content q.source.now) q.at.now
     pub same : IsSame p q
 
-  -- the same within a map: of the bytes that are kept the first n stayed
+  -- the same within a map: the first `n` bytes of `kept` are unchanged
   pub record ReadsInMap {X A : Type 0} (n : ℕ) (view : X → A) (r : Result X DecodeFault) (p : Reader S) (f : Parser A) (q : Reader S) : Type 0 where
     pub sees : Sees view r (content p.source.now) p.at.now f q.at.now (content q.source.now)
     pub failed : FailedIfRead r (is_failed q.source.now)
@@ -39,6 +38,6 @@ module _ {S : Type 0} (content : S → Option (List ℕ)) (is_failed : S → Boo
     pub goes : GoesInMap n r (content p.source.now) p.at.now (content q.source.now) q.at.now
     pub same : IsSame p q
 
--- so many, but no more than bytes are known to come
+-- `n`, or the number of bytes known to follow, if that is less
 abbrev pub room_for : {S : Type 0} → Reader S → ℕ → ℕ
 room_for p n = min n (p.at.now.known - p.at.now.place)

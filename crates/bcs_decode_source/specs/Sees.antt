@@ -1,4 +1,4 @@
--- What a step over a source says of the bytes that were to come, where they are told.
+-- How a step over a source relates to the bytes that it reads, if the source's content is known.
 use Rattle.std.specs.Prelude.{◌≡◌, ℕ, zero, suc, ◌+◌, ◌≤◌, Bool, false, true, if◌then◌else◌, ◌-◌, List, [], ◌++◌, length, take, drop, get_or, Option, Some, None, Result, Ok, Err}
 use Rattle.std.specs.Int.{Width}
 use Rattle.bcs_value_model.specs.Tree as tree
@@ -16,7 +16,7 @@ use Rattle.bcs_decode_spec.specs.declared.decode_fault.DecodeFault.{DecodeFault}
 use Rattle.bcs_decode_spec.specs.declared.decode_fault.DecodeFault.TheVariants.{Stop, Read, OutOfMemory}
 use Rattle.bcs_decode_source.specs.declared.progress.Progress.{Progress}
 
--- the told bytes
+-- the known bytes
 abbrev pub rest_of : Option (List ℕ) → List ℕ
 rest_of None = []
 rest_of (Some b) = b
@@ -25,36 +25,36 @@ abbrev pub is_told : Option (List ℕ) → Bool
 is_told None = false
 is_told (Some b) = true
 
--- the fault is what the parser finds in the told bytes, unless it has another cause
+-- the fault is what the parser finds in the known bytes, unless it has another cause: a failed read, or memory
 abbrev pub FindsFault : {A : Type 0} → DecodeFault → Option (List ℕ) → Progress → Parser A → Type 0
 FindsFault (Stop s) c p f = is_told c ≡ true → f p.place p.nodes (rest_of c) ≡ Err (s.reason, s.place)
 FindsFault Read c p f = Unit {0}
 FindsFault OutOfMemory c p f = Unit {0}
 
--- what was returned, seen by view, is what the parser finds in the told bytes c from p on; after it come q and d
+-- the result, mapped by `view`, is what `f` finds in the known bytes `c` from p on, where it leaves q and `d`
 abbrev pub Sees : {X A : Type 0} → (X → A) → Result X DecodeFault → Option (List ℕ) → Progress → Parser A → Progress → Option (List ℕ) → Type 0
 Sees view (Ok x) c p f q d = is_told c ≡ true → (f p.place p.nodes (rest_of c) ≡ Ok (view x, q.place, q.nodes, rest_of d)) × (is_told d ≡ true)
 Sees view (Err e) c p f q d = FindsFault e c p f
 
--- the source has failed exactly where it is blamed
+-- the source has failed exactly if the fault is `Read`
 abbrev pub FailedIfRead : {X : Type 0} → Result X DecodeFault → Bool → Type 0
 FailedIfRead (Ok x) failed = failed ≡ false
 FailedIfRead (Err (Stop s)) failed = failed ≡ false
 FailedIfRead (Err Read) failed = failed ≡ true
 FailedIfRead (Err OutOfMemory) failed = failed ≡ false
 
--- the first p bytes of b are gone, and the others are told to come
+-- the content is known: it is `b` without its first `p` bytes
 pub record Left (b : List ℕ) (p : ℕ) (c : Option (List ℕ)) : Type 0 where
   pub told : is_told c ≡ true
   pub within : p ≤ length b
   pub is : rest_of c ≡ drop p b
 
--- behind these bytes the buffer has those of b from a place on
+-- the buffer contains `base`, and then what was read of `b` since the place `from`
 pub record Records (b base : List ℕ) (from : ℕ) (p : Progress) : Type 0 where
   pub begun : from ≤ p.place
   pub is : p.kept.items ≡ base ++ take (p.place - from) (drop from b)
 
--- from p to q only bytes were gone past, and recorded where a key is open
+-- from p to q bytes were only skipped, and recorded while a key was open
 pub record Along (c : Option (List ℕ)) (p : Progress) (d : Option (List ℕ)) (q : Progress) : Type 0 where
   pub gone : (b : List ℕ) → Left b p.place c → Left b q.place d
   pub later : p.place ≤ q.place
@@ -63,12 +63,11 @@ pub record Along (c : Option (List ℕ)) (p : Progress) (d : Option (List ℕ)) 
   pub unrecorded : p.is_in_key ≡ false → q.kept.items ≡ p.kept.items
   pub recorded : p.is_in_key ≡ true → (b base : List ℕ) (from : ℕ) → Left b p.place c → Records b base from p → Records b base from q
 
--- from p on the source gave a front of the bytes that were to come, and the others are still to come
+-- since p, the source has given some of its bytes, and the others are still to come
 abbrev pub GaveFront : Option (List ℕ) → Progress → Option (List ℕ) → Type 0
 GaveFront c p d = (b : List ℕ) → Left b p.place c → (n : ℕ) × (p.place ≤ n) × Left b n d
 
--- at a stop too only bytes were gone past, and no fewer than come before its place; at another fault a front was given,
--- however long
+-- after a stop, the reader is at its place or later; after another fault, the source may have given any number of bytes
 abbrev pub Halts : DecodeFault → Option (List ℕ) → Progress → Option (List ℕ) → Progress → Type 0
 Halts (Stop s) c p d q = ((b : List ℕ) → Left b p.place c → Left b q.place d) × (s.place ≤ q.place)
 Halts Read c p d q = GaveFront c p d
@@ -78,7 +77,7 @@ abbrev pub Goes : {X : Type 0} → Result X DecodeFault → Option (List ℕ) �
 Goes (Ok x) c p d q = Along c p d q
 Goes (Err e) c p d q = Halts e c p d q
 
--- the same within a map: of the bytes that are kept the first n stayed
+-- the same within a map: the first `n` bytes of `kept` are unchanged
 pub record AlongMap (n : ℕ) (c : Option (List ℕ)) (p : Progress) (d : Option (List ℕ)) (q : Progress) : Type 0 where
   pub gone : (b : List ℕ) → Left b p.place c → Left b q.place d
   pub later : p.place ≤ q.place
@@ -90,7 +89,7 @@ abbrev pub GoesInMap : {X : Type 0} → ℕ → Result X DecodeFault → Option 
 GoesInMap n (Ok x) c p d q = AlongMap n c p d q
 GoesInMap n (Err e) c p d q = Halts e c p d q
 
--- want of memory is answered in an open key alone
+-- `OutOfMemory` occurs only while a key is open
 abbrev pub OutOfMemoryOnlyInKey : {X : Type 0} → Result X DecodeFault → Progress → Type 0
 OutOfMemoryOnlyInKey (Err OutOfMemory) p = p.is_in_key ≡ true
 OutOfMemoryOnlyInKey r p = Unit {0}
@@ -99,18 +98,18 @@ OutOfMemoryOnlyInKey r p = Unit {0}
 unfoldable pub byte_here : Parser ℕ
 byte_here = chain (bytes_here 1) (λ s. give (get_or s 0 0))
 
--- what was read of a number that began at start
+-- the result of reading the rest of a number that began at `start`
 abbrev pub tail_read : ℕ → ℕ → ℕ → List ℕ → Result (ℕ × ℕ) NumFault → Reading.Read ℕ
 tail_read start p m b (Ok x) = Ok (x.0, p + x.1, m, drop x.1 b)
 tail_read start p m b (Err num.EndOfInput) = Err (EndOfInput, p + length b)
 tail_read start p m b (Err num.LongForm) = Err (LongForm, start)
 tail_read start p m b (Err num.NumberTooLarge) = Err (NumberTooLarge, start)
 
--- a number by ULEB128 that began at start, from its byte i on
+-- a ULEB128 number that began at `start`, from its byte `i` on
 unfoldable pub tail_here : ℕ → ℕ → Parser ℕ
 tail_here start i p m b = tail_read start p m b (uleb_from i b)
 
--- what a number is below, from its byte i on
+-- the limit for the rest of a number, from its byte `i` on
 abbrev pub tail_limit : ℕ → ℕ
 tail_limit zero = 4294967296
 tail_limit (suc zero) = 33554432
@@ -118,16 +117,16 @@ tail_limit (suc (suc zero)) = 262144
 tail_limit (suc (suc (suc zero))) = 2048
 tail_limit _ = 16
 
--- how many elements a row has: the size, or else the length that stands there
+-- the number of elements: the size of an array, or the length that a list begins with
 abbrev pub count_here : Option ℕ → Parser ℕ
 count_here (Some n) = give n
 count_here None = length_here
 
--- a row begins
+-- begins a list or an array
 unfoldable pub row_here : Option ℕ → Parser ℕ
 row_here size = chain node_here (λ _. count_here size)
 
--- values that have no parts
+-- values without parts
 abbrev pub unit_leaf : Parser Tree
 unit_leaf = node (give tree.unit)
 
@@ -149,7 +148,7 @@ text_leaf = node (chain length_here (λ n. chain (text_here n) (λ s. give (tree
 abbrev pub bytes_leaf : Parser Tree
 bytes_leaf = node (chain length_here (λ n. chain (bytes_here n) (λ s. give (tree.bytes s))))
 
--- a value that has no parts. What has parts is read elsewhere
+-- a value without parts; other formats are read elsewhere
 abbrev pub leaf_here : Shape → Parser Tree
 leaf_here shape.unit = unit_leaf
 leaf_here shape.truth = truth_leaf
@@ -161,11 +160,11 @@ leaf_here _ = unsupported_leaf
 
 -- ---- values
 
--- a value of the format, with so many containers left
+-- a value of the format, in which `d` more containers may open
 abbrev pub read : Entries → ℕ → Shape → Parser Tree
 read registry d s = value_here building registry d s
 
--- a row of so many values
+-- `n` consecutive values
 abbrev pub row_leaf : Parser Tree → ℕ → Parser Trees
 row_leaf f n = items_here building f n
 
@@ -180,11 +179,11 @@ module _ {V : Type 0} {R : Type 0} {E : Type 0} (make : Making V R E) where
   unfoldable pub items_node : Parser V → Option ℕ → Parser V
   items_node f size = chain (row_here size) (λ n. chain (items_here make f n) (λ ts. give (make.items ts)))
 
-  -- counted entries, whose keys rise
+  -- a map: a count, and entries whose keys ascend
   unfoldable pub pairs_node : Parser V → Parser V → Parser V
   pairs_node f g = chain (row_here None) (λ n. chain (pairs_here make f g None n) (λ ps. give (make.pairs ps)))
 
--- values in turn
+-- one value of each format
 abbrev pub each : Entries → ℕ → Shapes → Parser Trees
 each registry d ss = each_here building (named_here building registry d) ss
 
@@ -200,7 +199,7 @@ entries_leaf f g n = pairs_here building f g None n
 abbrev pub key_leaf : Parser Tree → Option (List ℕ) → Parser (Tree × List ℕ)
 key_leaf f last = key_here f last
 
--- what stands in a container
+-- the contents of a container
 abbrev pub content_value : Entries → ℕ → Content → Parser Tree
 content_value registry d c = content_here building (named_here building registry d) c
 
@@ -211,7 +210,7 @@ container_value registry d c = chain (enter_here d) (λ _. chain (content_value 
 abbrev pub named_value : Entries → ℕ → List ℕ → Parser Tree
 named_value registry d name = container_value registry d (content_at name registry)
 
--- no memory is taken for values of these formats
+-- values of these formats are built without allocating
 abbrev pub takes_no_memory : Shape → Bool
 takes_no_memory shape.unit = true
 takes_no_memory shape.truth = true
@@ -219,7 +218,7 @@ takes_no_memory (shape.unsigned w) = true
 takes_no_memory (shape.signed w) = true
 takes_no_memory _ = false
 
--- want of memory is answered in an open key, or of a format whose values take memory
+-- `OutOfMemory` occurs only while a key is open, or if values of the format allocate
 abbrev pub OutOfMemoryIfAllocating : {X : Type 0} → Bool → Result X DecodeFault → Progress → Type 0
 OutOfMemoryIfAllocating true r p = OutOfMemoryOnlyInKey r p
 OutOfMemoryIfAllocating false r p = Unit {0}

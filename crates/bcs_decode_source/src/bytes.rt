@@ -1,4 +1,4 @@
-//! Bytes from a source.
+//! Reads bytes from a source.
 ghost use Rattle.std.specs.Prelude.{◌≡◌, ◌+◌, ◌++◌, false, true, length, Ok, OnOk, IfErr};
 ghost use Rattle.bcs_decode_spec.specs.Reading.{bytes_here};
 ghost use Rattle.bcs_decode_spec.specs.declared.decode_fault.DecodeFault.TheVariants.{OutOfMemory};
@@ -13,7 +13,7 @@ use bcs_decode_spec::{DecodeFault, Reason, Stop};
 use bcs_io::ByteSource;
 use bcs_io::filling::fill;
 
-/// A node begins.
+/// Counts a node.
 #[tactic(auto, unfolding(bcs_decode_spec::specs::Reading::node, bcs_decode_spec::specs::Reading::give))]
 pub fn begin<S: ByteSource>(reader: &mut Reader<'_, S>) -> Result<(), DecodeFault>
     requires ready { Ready S.is_failed S.allowance reader.old }
@@ -31,7 +31,7 @@ pub fn begin<S: ByteSource>(reader: &mut Reader<'_, S>) -> Result<(), DecodeFaul
     Ok(())
 }
 
-/// Fills the buffer with the next bytes.
+/// Fills `buf` with the next bytes.
 #[inline(always)]
 #[tactic(auto, unfolding(bcs_decode_spec::specs::Reading::bytes_here))]
 pub fn read_exact<S: ByteSource>(
@@ -58,7 +58,7 @@ pub fn read_exact<S: ByteSource>(
     Ok(())
 }
 
-/// Records bytes that were taken, where a key is open.
+/// Records bytes that were read, if a key is open.
 fn record(at: &mut Progress, bytes: &[u8]) -> Result<(), DecodeFault>
     ensures same { SamePlace at.old at.new }
     ensures unrecorded { at.old.is_in_key ≡ false → (result ≡ Ok tt) × (at.new.kept.items ≡ at.old.kept.items) }
@@ -71,7 +71,7 @@ fn record(at: &mut Progress, bytes: &[u8]) -> Result<(), DecodeFault>
     Ok(())
 }
 
-/// The next byte.
+/// Reads a byte.
 #[tactic(auto, unfolding(bcs_decode_spec::specs::Reading::chain, bcs_decode_spec::specs::Reading::give, crate::specs::Sees::byte_here))]
 pub fn byte<S: ByteSource>(reader: &mut Reader<'_, S>) -> Result<u8, DecodeFault>
     requires ready { Ready S.is_failed S.allowance reader.old }
@@ -82,7 +82,7 @@ pub fn byte<S: ByteSource>(reader: &mut Reader<'_, S>) -> Result<u8, DecodeFault
     Ok(found[0])
 }
 
-/// As many bytes as the array has.
+/// Reads `N` bytes.
 #[inline(always)]
 pub fn array<S: ByteSource, const N: usize>(
     reader: &mut Reader<'_, S>,

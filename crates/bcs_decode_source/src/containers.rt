@@ -1,4 +1,4 @@
-//! What stands in containers, from a source.
+//! Reads containers from a source.
 ghost use Rattle.std.specs.Prelude.{◌≡◌, [], length, map, vec_capacity};
 ghost use Rattle.bcs_registry_model.specs.Container as spec;
 ghost use Rattle.bcs_registry_model.specs.Container.{field_shapes, payload_shape};
@@ -22,7 +22,7 @@ use bcs_registry::{Container, Format, Named, VariantFormat};
 use bcs_value::Value;
 use bcs_value_model::slot::{keep, wrap_named, wrap_variant};
 
-/// The container of this name.
+/// Reads a value of the container `name`.
 #[inline(never)]
 #[cycle(streaming)]
 pub fn named<S: ByteSource>(
@@ -45,7 +45,7 @@ pub fn named<S: ByteSource>(
     container(reader, found, depth, slot)
 }
 
-/// A container of the registry.
+/// Reads a value of a container of the registry.
 #[inline(always)]
 #[cycle(streaming)]
 #[tactic(auto, unfolding(bcs_decode_spec::specs::Reading::chain, bcs_decode_spec::specs::Reading::give, crate::specs::Sees::container_value))]
@@ -65,7 +65,7 @@ pub fn container<S: ByteSource>(
     Ok(())
 }
 
-/// What stands in a container of the registry.
+/// Reads the contents of a container of the registry.
 #[inline(never)]
 #[cycle(streaming)]
 fn content<S: ByteSource>(
@@ -99,7 +99,7 @@ fn content<S: ByteSource>(
     }
 }
 
-/// What a variant carries.
+/// Reads the contents of a variant.
 #[inline(never)]
 #[cycle(streaming)]
 pub fn payload<S: ByteSource>(
@@ -119,7 +119,7 @@ pub fn payload<S: ByteSource>(
     }
 }
 
-/// The fields of a struct.
+/// Reads the fields of a struct.
 #[inline(never)]
 #[cycle(streaming)]
 #[tactic(auto, unfolding(bcs_decode_spec::specs::Reading::chain, bcs_decode_spec::specs::Reading::give, crate::specs::Sees::tuple_value))]
@@ -139,7 +139,7 @@ pub fn structure<S: ByteSource>(
     finish(read, found, slot)
 }
 
-/// A value of each field's format in turn.
+/// Appends one value for each field.
 #[cycle(streaming)]
 fn each_field<S: ByteSource>(
     reader: &mut Reader<'_, S>,

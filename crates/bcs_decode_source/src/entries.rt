@@ -10,18 +10,17 @@ use bcs_value_model::Value;
 use bcs_value_model::slot::put_pairs;
 use std::alloc::AllocError;
 
-/// Entries that were read, and the key whose value is to come. They stand on the heap, so that a level of maps takes
-/// little of the stack.
+/// The entries read so far, and the key whose value comes next. They are on the heap, to keep stack frames small.
 #[derive(Drop)]
 pub struct Entries {
     pub found: Vec<(Value, Value)>,
     pub key: Value,
-    /// How many entries the map has.
+    /// The number of entries that the map has.
     pub count: u64,
 }
 
 impl Entries {
-    /// No entries, with room for so many, but for no more than bytes are known to come.
+    /// An empty list with capacity for `count` entries, or for the number of bytes known to follow, if that is less.
     #[inline(never)]
     pub fn with_room<S>(reader: &Reader<'_, S>, count: u64) -> Result<Box<Entries>, AllocError>
         ensures count { IfOk result (λ e. e.value.count ≡ count) }
@@ -35,7 +34,7 @@ impl Entries {
     }
 }
 
-/// Puts the entries into the slot.
+/// Moves the entries into the slot, as a map.
 #[inline(never)]
 pub fn put_entries(slot: &mut Value, entries: Box<Entries>)
     ensures { tree_of slot.new ≡ pairs (entries_pairs entries.value.found.items) }

@@ -7,23 +7,23 @@ use crate::progress::Progress;
 use bcs_decode_spec::DecodeFault;
 use bcs_key_order::following::follows;
 
-/// The keys of a map that is being read, among the bytes that are kept.
+/// The keys of a map that is being read. Their bytes are in `Progress::kept`.
 #[derive(Drop)]
 pub struct MapKeys {
-    /// How many bytes were kept when the map began.
+    /// The length of `kept` when the map began.
     pub begun: usize,
-    /// Where the last key stands.
+    /// The range of the last key, if there is one.
     pub last: Option<Span>,
 }
 
-/// A range of the bytes that are kept.
+/// A range of `kept`.
 #[derive(Clone, Copy)]
 pub struct Span {
     pub from: usize,
     pub to: usize,
 }
 
-/// Tests that the key that is kept from `from` on may follow the last one, and makes it the last.
+/// Checks that the key from `from` on is above the last key, and makes it the last key.
 #[inline(never)]
 pub fn follow(
     at: &mut Progress,
@@ -46,7 +46,7 @@ pub fn follow(
     Ok(())
 }
 
-/// Whether the key that is kept from `from` on may follow the last one.
+/// Checks that the key from `from` on is above the last key.
 fn validate(keys: &MapKeys, kept: &[u8], from: usize, start: u64) -> Result<(), DecodeFault>
     requires stands { Stands keys.now.last keys.now.begun from }
     requires long { from ≤ length kept.now }
@@ -62,7 +62,7 @@ fn validate(keys: &MapKeys, kept: &[u8], from: usize, start: u64) -> Result<(), 
     }
 }
 
-/// Makes the key that is kept from `from` on the last one. Outside keys it is moved to where the map began.
+/// Makes the key from `from` on the last key. If no outer key is open, moves it down to where the map began.
 fn settle(at: &mut Progress, keys: &mut MapKeys, from: usize)
     requires stands { Stands keys.old.last keys.old.begun from }
     requires long { from ≤ length at.old.kept.items }
@@ -87,7 +87,7 @@ fn settle(at: &mut Progress, keys: &mut MapKeys, from: usize)
     });
 }
 
-/// Lets the last key of a map go that stands outside keys.
+/// Drops the last key of a map that has ended, unless an outer key is open.
 #[inline(never)]
 pub fn forget_last_key(at: &mut Progress, keys: &MapKeys)
     ensures same { SamePlace at.old at.new }

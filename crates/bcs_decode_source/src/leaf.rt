@@ -1,4 +1,4 @@
-//! A value that has no parts, whichever it is. It stands outside the cycle of readers.
+//! Reads any value without parts. It is outside the recursion, to keep the frames of the recursive functions small.
 ghost use Rattle.bcs_registry_model.specs.View.{shape_of};
 ghost use Rattle.bcs_value_model.specs.View.{tree_of};
 ghost use Rattle.bcs_decode_source.specs.Reads.{Ready, Reads};
@@ -11,7 +11,7 @@ use bcs_io::ByteSource;
 use bcs_registry_model::{Format, IntegerKind, Kind, Scalar};
 use bcs_value_model::Value;
 
-/// A value of a format that has no parts. A format that has parts is refused, as it is read elsewhere.
+/// Reads a value of a format without parts. Other formats are read elsewhere, and give `Unsupported` here.
 #[inline(never)]
 pub fn leaf<S: ByteSource>(
     reader: &mut Reader<'_, S>,

@@ -1,5 +1,5 @@
-//! Values that have no parts, each built in the caller's slot. Those that `leaf` alone reads are part of it, so that
-//! a width is known where its bytes are taken.
+//! Reads values without parts, each into the caller's slot. Those that only `leaf` reads are inlined there, so that the
+//! width is a constant where the bytes are read.
 ghost use Rattle.std.specs.Prelude.{IsErr};
 ghost use Rattle.bcs_value_model.specs.Tree.{unit as no_value};
 ghost use Rattle.bcs_num.specs.Le.{width_of};
@@ -17,7 +17,7 @@ use bcs_io::ByteSource;
 use bcs_num::Width;
 use bcs_value_model::Value;
 
-/// A byte that is `00` or `01`.
+/// Reads a byte that must be `00` or `01`. The stop for any other byte has the reason `bad`.
 #[tactic(auto, using(crate::proofs::Chains::flag_is), unfolding(bcs_decode_spec::specs::Reading::chain, bcs_decode_spec::specs::Reading::give, bcs_decode_spec::specs::Reading::fail))]
 pub fn flag<S: ByteSource>(reader: &mut Reader<'_, S>, bad: Reason) -> Result<bool, DecodeFault>
     requires ready { Ready S.is_failed S.allowance reader.old }
@@ -35,7 +35,7 @@ pub fn flag<S: ByteSource>(reader: &mut Reader<'_, S>, bad: Reason) -> Result<bo
     Ok(byte == 1)
 }
 
-/// An option's first byte.
+/// Reads the tag byte of an option.
 #[inline(never)]
 pub fn flag_node<S: ByteSource>(reader: &mut Reader<'_, S>) -> Result<bool, DecodeFault>
     requires ready { Ready S.is_failed S.allowance reader.old }
@@ -46,7 +46,7 @@ pub fn flag_node<S: ByteSource>(reader: &mut Reader<'_, S>) -> Result<bool, Deco
     flag(reader, Reason::BadOption)
 }
 
-/// An unsigned number.
+/// Reads an unsigned integer, in little-endian order.
 #[inline(always)]
 #[tactic(auto, unfolding(bcs_decode_spec::specs::Reading::chain, bcs_decode_spec::specs::Reading::give, bcs_decode_spec::specs::Reading::unsigned_here))]
 pub fn unsigned<S: ByteSource>(
@@ -66,7 +66,7 @@ pub fn unsigned<S: ByteSource>(
     }
 }
 
-/// A signed number.
+/// Reads a signed integer: two's complement, in little-endian order.
 #[inline(always)]
 #[tactic(auto, unfolding(bcs_decode_spec::specs::Reading::chain, bcs_decode_spec::specs::Reading::give, bcs_decode_spec::specs::Reading::signed_here))]
 pub fn signed<S: ByteSource>(reader: &mut Reader<'_, S>, width: Width) -> Result<i128, DecodeFault>
@@ -83,7 +83,7 @@ pub fn signed<S: ByteSource>(reader: &mut Reader<'_, S>, width: Width) -> Result
     }
 }
 
-/// Nothing stands there.
+/// A unit value, which has no bytes.
 #[inline(never)]
 #[tactic(auto, using(crate::proofs::Chains::node_is, crate::proofs::ValueViews::tree_unit), unfolding(bcs_decode_spec::specs::Reading::chain, bcs_decode_spec::specs::Reading::give))]
 pub fn put_unit<S: ByteSource>(
@@ -99,7 +99,7 @@ pub fn put_unit<S: ByteSource>(
     Ok(())
 }
 
-/// A truth value.
+/// Reads a Boolean.
 #[inline(always)]
 pub fn put_truth<S: ByteSource>(
     reader: &mut Reader<'_, S>,
@@ -115,7 +115,7 @@ pub fn put_truth<S: ByteSource>(
     Ok(())
 }
 
-/// An unsigned number.
+/// Reads an unsigned integer.
 #[inline(always)]
 pub fn put_unsigned<S: ByteSource>(
     reader: &mut Reader<'_, S>,
@@ -132,7 +132,7 @@ pub fn put_unsigned<S: ByteSource>(
     Ok(())
 }
 
-/// A signed number.
+/// Reads a signed integer.
 #[inline(always)]
 pub fn put_signed<S: ByteSource>(
     reader: &mut Reader<'_, S>,
@@ -149,7 +149,7 @@ pub fn put_signed<S: ByteSource>(
     Ok(())
 }
 
-/// A text.
+/// Reads a string.
 #[inline(always)]
 pub fn put_text<S: ByteSource>(
     reader: &mut Reader<'_, S>,
@@ -165,7 +165,7 @@ pub fn put_text<S: ByteSource>(
     Ok(())
 }
 
-/// A byte string.
+/// Reads a byte string.
 #[inline(always)]
 pub fn put_bytes<S: ByteSource>(
     reader: &mut Reader<'_, S>,
@@ -181,7 +181,7 @@ pub fn put_bytes<S: ByteSource>(
     Ok(())
 }
 
-/// No value stands there.
+/// Fails with `Unsupported`: the format has no values.
 #[inline(never)]
 #[tactic(auto, using(crate::proofs::Chains::node_is), unfolding(bcs_decode_spec::specs::Reading::chain, bcs_decode_spec::specs::Reading::give, bcs_decode_spec::specs::Reading::fail_here))]
 pub fn refuse<S: ByteSource>(reader: &mut Reader<'_, S>) -> Result<(), DecodeFault>

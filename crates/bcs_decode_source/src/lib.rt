@@ -1,4 +1,4 @@
-//! Values from a source, read from front to back.
+//! Decodes or skips values from a byte source, in one forward pass.
 #![tactic(auto)]
 
 pub mod bytes;

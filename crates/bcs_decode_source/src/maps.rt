@@ -1,4 +1,4 @@
-//! Maps from a source.
+//! Reads maps from a source.
 ghost use Rattle.std.specs.Prelude.{◌≡◌, [], length, vec_capacity, Some, IfOk};
 ghost use Rattle.bcs_registry_model.specs.View.{shape_of};
 ghost use Rattle.bcs_value_model.specs.View.{tree_of, entries_pairs};
@@ -19,7 +19,7 @@ use bcs_registry::Format;
 use bcs_value::Value;
 use bcs_value_model::slot::keep_entry;
 
-/// A map.
+/// Reads a map.
 #[inline(never)]
 #[cycle(streaming)]
 #[tactic(auto, unfolding(bcs_decode_spec::specs::Reading::chain, bcs_decode_spec::specs::Reading::give, crate::specs::Sees::pairs_node))]
@@ -47,7 +47,7 @@ pub fn pairs<S: ByteSource>(
     }
 }
 
-/// So many entries, whose keys rise.
+/// Reads the entries of a map, whose keys must ascend.
 #[cycle(streaming)]
 fn each_entry<S: ByteSource>(
     reader: &mut Reader<'_, S>,
@@ -76,7 +76,7 @@ fn each_entry<S: ByteSource>(
     Ok(())
 }
 
-/// A key that may follow the last one. Its bytes are recorded while it is read.
+/// Reads a key, which must be above the last key. Its bytes are recorded while it is read.
 #[inline(never)]
 #[cycle(streaming)]
 fn next_key<S: ByteSource>(

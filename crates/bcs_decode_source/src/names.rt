@@ -1,4 +1,4 @@
-//! Where containers and variants begin.
+//! Opens containers and variants.
 ghost use Rattle.std.specs.Prelude.{◌<◌, IfOk};
 ghost use Rattle.bcs_decode_source.specs.Reads.{IsStill, Ready, Reads};
 ghost use Rattle.bcs_decode_slice.specs.Passing.{enter_here};
@@ -10,7 +10,7 @@ use crate::reader::Reader;
 use bcs_decode_spec::{DecodeFault, Reason, Stop};
 use bcs_io::ByteSource;
 
-/// A container is opened.
+/// Counts the node of a container. Fails with `TooDeep` if `depth` is 0.
 #[inline(never)]
 #[tactic(auto, using(crate::proofs::Streamed::enter_none, crate::proofs::Streamed::enter_more), unfolding(bcs_decode_spec::specs::Reading::fail_here))]
 pub fn enter<S: ByteSource>(reader: &mut Reader<'_, S>, depth: u32) -> Result<(), DecodeFault>
@@ -29,7 +29,7 @@ pub fn enter<S: ByteSource>(reader: &mut Reader<'_, S>, depth: u32) -> Result<()
     begin(reader)
 }
 
-/// The number of a variant.
+/// Reads a variant's number.
 #[inline(never)]
 pub fn variant_number<S: ByteSource>(reader: &mut Reader<'_, S>) -> Result<u32, DecodeFault>
     requires ready { Ready S.is_failed S.allowance reader.old }

@@ -1,4 +1,4 @@
-//! Numbers by ULEB128 from a source.
+//! Reads ULEB128 numbers from a source.
 ghost use Rattle.std.specs.Prelude.{◌<◌, ◌≤◌, IfOk};
 ghost use Rattle.bcs_decode_spec.specs.Reading.{number_here, length_here};
 ghost use Rattle.bcs_decode_source.specs.Reads.{Ready, Reads};
@@ -10,7 +10,7 @@ use bcs_decode_spec::{DecodeFault, Reason, Stop};
 use bcs_io::ByteSource;
 use bcs_num::LENGTH_LIMIT;
 
-/// A number.
+/// Reads a number of at most 32 bits.
 #[tactic(auto, using(crate::proofs::Chains::number_is))]
 pub fn number<S: ByteSource>(reader: &mut Reader<'_, S>) -> Result<u32, DecodeFault>
     requires ready { Ready S.is_failed S.allowance reader.old }
@@ -21,7 +21,7 @@ pub fn number<S: ByteSource>(reader: &mut Reader<'_, S>) -> Result<u32, DecodeFa
     tail(reader, start, 0)
 }
 
-/// What a number has from its byte `index` on.
+/// Reads the rest of a number that began at `start`, from its byte `index` on.
 #[tactic(auto, using(crate::proofs::Chains::tail_step), unfolding(bcs_decode_spec::specs::Reading::chain, bcs_decode_spec::specs::Reading::give, bcs_decode_spec::specs::Reading::fail))]
 fn tail<S: ByteSource>(
     reader: &mut Reader<'_, S>,
@@ -55,7 +55,7 @@ fn tail<S: ByteSource>(
     Ok(u32::from(byte - 128) + high * 128)
 }
 
-/// A length.
+/// Reads a length, at most 2^31 - 1.
 #[tactic(auto, unfolding(bcs_decode_spec::specs::Reading::chain, bcs_decode_spec::specs::Reading::give, bcs_decode_spec::specs::Reading::fail, bcs_decode_spec::specs::Reading::length_here))]
 pub fn length<S: ByteSource>(reader: &mut Reader<'_, S>) -> Result<u32, DecodeFault>
     requires ready { Ready S.is_failed S.allowance reader.old }
@@ -73,7 +73,7 @@ pub fn length<S: ByteSource>(reader: &mut Reader<'_, S>) -> Result<u32, DecodeFa
     Ok(length)
 }
 
-/// A row begins, of this size or else of the length that stands there.
+/// Begins a list or an array: returns `size`, or else reads the length.
 #[inline(never)]
 #[tactic(auto, unfolding(bcs_decode_spec::specs::Reading::chain, bcs_decode_spec::specs::Reading::give, crate::specs::Sees::row_here))]
 pub fn row_count<S: ByteSource>(

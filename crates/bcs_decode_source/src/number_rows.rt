@@ -1,4 +1,4 @@
-//! Lists of whole numbers from a source, in one loop.
+//! Reads lists of integers from a source, in one loop.
 ghost use Rattle.std.specs.Prelude.{◌≡◌, ℕ, ◌*◌, ◌<◌, ◌≤◌, ◌++◌, [], length, map, take, vec_capacity, OnOk, IfSome, None};
 ghost use Rattle.bcs_registry_model.specs.Whole.{whole_len, whole_shape};
 ghost use Rattle.bcs_value_model.specs.View.{items_trees, tree_of};
@@ -16,7 +16,7 @@ use bcs_registry_model::IntegerKind;
 use bcs_value_model::Value;
 use std::alloc::AllocError;
 
-/// So many numbers. They are taken by blocks, of no more numbers than may begin.
+/// Reads `count` integers, a block at a time. A block never has more integers than there are nodes left.
 #[inline(never)]
 pub fn push_numbers<S: ByteSource>(
     reader: &mut Reader<'_, S>,
@@ -49,7 +49,7 @@ pub fn push_numbers<S: ByteSource>(
     Ok(())
 }
 
-/// Appends the numbers that the bytes hold.
+/// Appends the integers in `bytes`.
 fn push_block(format: IntegerKind, bytes: &[u8], found: &mut Vec<Value>) -> Result<(), AllocError>
     ensures { (n : ℕ) → length bytes.now ≡ n * whole_len format
         → OnOk result (map tree_of found.new.items ≡ map tree_of found.old.items ++ numbers format n bytes.now) }
@@ -62,7 +62,7 @@ fn push_block(format: IntegerKind, bytes: &[u8], found: &mut Vec<Value>) -> Resu
     Ok(())
 }
 
-/// The number at the front. `None`: there are fewer bytes than it has.
+/// The first integer in `bytes`. `None` if there are too few bytes.
 #[inline(always)]
 fn front_number(format: IntegerKind, bytes: &[u8]) -> Option<Value>
     ensures found { IfSome result (λ v. (whole_len format ≤ length bytes.now) × (tree_of v ≡ number_of format (take (whole_len format) bytes.now))) }

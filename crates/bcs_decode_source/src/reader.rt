@@ -1,10 +1,10 @@
-//! What a value is read with.
+//! The state that all readers share.
 
 use crate::progress::Progress;
 use bcs_registry::Registry;
 use std::alloc::Global;
 
-/// The registry, the source, and how far it was read.
+/// The registry, the source, and how far the source has been read.
 #[derive(Drop)]
 pub struct Reader<'a, S> {
     pub alloc: Global,

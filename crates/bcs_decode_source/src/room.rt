@@ -1,11 +1,11 @@
-//! Memory for what is known to come.
+//! Reserves memory, but at most for values that are known to exist.
 ghost use Rattle.std.specs.Prelude.{◌≡◌, [], vec_capacity, OnOk};
 ghost use Rattle.bcs_decode_source.specs.Reads.{room_for};
 
 use crate::reader::Reader;
 use std::alloc::AllocError;
 
-/// Makes the vector an empty one with room for so many, but for no more than bytes are known to come.
+/// Empties the vector and reserves capacity for `count` elements, or at most one for each byte known to follow.
 #[inline(never)]
 pub fn make_room<S, T: Drop>(
     reader: &Reader<'_, S>,

@@ -1,4 +1,4 @@
-//! Values in a row from a source.
+//! Reads lists, arrays and tuples from a source.
 ghost use Rattle.std.specs.Prelude.{◌≡◌, [], length, vec_capacity};
 ghost use Rattle.bcs_registry_model.specs.Container.{content};
 ghost use Rattle.bcs_registry_model.specs.View.{container_of, shape_of, formats_shapes};
@@ -24,7 +24,7 @@ use bcs_registry_model::IntegerKind;
 use bcs_value::Value;
 use bcs_value_model::slot::keep;
 
-/// A list or an array.
+/// Reads a list, or an array of `size` elements.
 #[inline(never)]
 #[cycle(streaming)]
 #[tactic(auto, unfolding(bcs_decode_spec::specs::Reading::chain, bcs_decode_spec::specs::Reading::give, crate::specs::Sees::items_node))]
@@ -45,7 +45,7 @@ pub fn items<S: ByteSource>(
     finish(read, found, slot)
 }
 
-/// So many values: whole numbers in one loop, and others each read into the slot first. A container is looked up once.
+/// Reads `count` values: integers in one loop, and others one by one, with one lookup of their container.
 #[cycle(streaming)]
 fn row<S: ByteSource>(
     reader: &mut Reader<'_, S>,
@@ -76,7 +76,7 @@ fn row<S: ByteSource>(
     Ok(())
 }
 
-/// So many values of a container of the registry.
+/// Reads `count` values of one container of the registry.
 #[inline(never)]
 #[cycle(streaming)]
 fn containers<S: ByteSource>(
@@ -100,7 +100,7 @@ fn containers<S: ByteSource>(
     Ok(())
 }
 
-/// A tuple.
+/// Reads a tuple.
 #[inline(never)]
 #[cycle(streaming)]
 #[tactic(auto, unfolding(bcs_decode_spec::specs::Reading::chain, bcs_decode_spec::specs::Reading::give, crate::specs::Sees::tuple_value))]
@@ -120,7 +120,7 @@ pub fn tuple<S: ByteSource>(
     finish(read, found, slot)
 }
 
-/// A value of each format in turn.
+/// Reads one value of each format.
 #[cycle(streaming)]
 fn parts<S: ByteSource>(
     reader: &mut Reader<'_, S>,

@@ -1,5 +1,5 @@
-//! Values that are skipped, front to back, and not built. `value` is part of its callers, and no leaf is part of one,
-//! so that each level of a format takes little of the stack: 384 bytes where maps nest as keys, and less elsewhere.
+//! Skips values without building them. `value` is inlined and leaves aren't, so that each level of a format takes
+//! little stack: 384 bytes for maps that nest as keys, and less otherwise.
 mod blocks;
 mod containers;
 mod integers;

@@ -6,8 +6,7 @@ use bcs_num::GREATEST_LEN;
 /// The length of a block in bytes.
 pub const BLOCK: usize = 512;
 
-/// How many of the remaining values the next block contains, if this many nodes may begin. A block contains any number
-/// of values that have no bytes.
+/// How many of the remaining values are in the next block, if `nodes` may begin. Values without bytes all fit into one.
 pub fn share(width: usize, left: u64, nodes: u32) -> u32
     requires small { width ≤ GREATEST_LEN }
     ensures left { result ≤ left }

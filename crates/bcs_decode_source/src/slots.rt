@@ -1,4 +1,4 @@
-//! What is put into the slot, and let go. These calls stand outside the cycle of readers, whose frames stay small.
+//! Fills slots and drops what isn't needed. Separate functions outside the recursion, to keep its stack frames small.
 ghost use Rattle.std.specs.Prelude.{◌≡◌, IfOk};
 ghost use Rattle.bcs_value_model.specs.Tree.{absent, items};
 ghost use Rattle.bcs_value_model.specs.View.{tree_of, items_trees};
@@ -7,7 +7,7 @@ use bcs_decode_spec::DecodeFault;
 use bcs_value_model::Value;
 use bcs_value_model::slot::put_items;
 
-/// Puts the option without a value into the slot.
+/// Puts an empty option into the slot.
 #[inline(never)]
 #[tactic(auto, using(crate::proofs::ValueViews::tree_absent))]
 pub fn put_absent(slot: &mut Value)
@@ -16,13 +16,13 @@ pub fn put_absent(slot: &mut Value)
     *slot = Value::Absent;
 }
 
-/// Lets go of what was read before a fault.
+/// Drops what was read before a fault.
 #[inline(never)]
 pub fn discard<T: Drop>(found: T) {
     drop(found);
 }
 
-/// Puts the row that was read into the slot, or lets go of it after a fault, which is answered.
+/// Puts the list into the slot, or drops it if reading failed. Returns `read`.
 #[inline(never)]
 pub fn finish(
     read: Result<(), DecodeFault>,

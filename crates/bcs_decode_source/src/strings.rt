@@ -1,4 +1,4 @@
-//! Byte strings and texts from a source.
+//! Reads byte strings and strings from a source.
 ghost use Rattle.std.specs.Prelude.{◌≡◌, ◌+◌, length, string_bytes, IfOk};
 ghost use Rattle.bcs_decode_spec.specs.Reading.{bytes_here, text_here};
 ghost use Rattle.bcs_decode_source.specs.Reads.{Ready, Reads};
@@ -9,14 +9,14 @@ use crate::room::make_room;
 use bcs_decode_spec::{DecodeFault, Reason, Stop};
 use bcs_io::ByteSource;
 
-/// How many bytes are taken at first.
+/// The size of the first block, in bytes.
 const FIRST_BLOCK: usize = 512;
 
-/// The most bytes that are taken at a time.
+/// The maximum size of a block, in bytes.
 const LAST_BLOCK: usize = 65536;
 
-/// So many bytes. They are taken by blocks that are as long as what was read before them, so that memory follows what
-/// was read.
+/// Reads `count` bytes. Each block is as long as what was read before it, from `FIRST_BLOCK` to `LAST_BLOCK` bytes. So
+/// memory grows with what the source really gives, whatever length the input claims.
 pub fn bytes<S: ByteSource>(reader: &mut Reader<'_, S>, count: u32) -> Result<Vec<u8>, DecodeFault>
     requires ready { Ready S.is_failed S.allowance reader.old }
     ensures reads { Reads S.content S.is_failed S.allowance (λ v. v.items) result reader.old (bytes_here count) reader.new }
@@ -33,7 +33,7 @@ pub fn bytes<S: ByteSource>(reader: &mut Reader<'_, S>, count: u32) -> Result<Ve
     Ok(found)
 }
 
-/// A text of so many bytes.
+/// Reads a string of `count` bytes, which must be UTF-8 (RFC 3629).
 #[tactic(auto, unfolding(bcs_decode_spec::specs::Reading::chain, bcs_decode_spec::specs::Reading::give, bcs_decode_spec::specs::Reading::fail, bcs_decode_spec::specs::Reading::text_here))]
 pub fn text<S: ByteSource>(reader: &mut Reader<'_, S>, count: u32) -> Result<String, DecodeFault>
     requires ready { Ready S.is_failed S.allowance reader.old }

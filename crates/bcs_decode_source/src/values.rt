@@ -1,4 +1,4 @@
-//! Values from a source, each built in the caller's slot.
+//! Reads values from a source, each into the caller's slot.
 ghost use Rattle.bcs_registry_model.specs.View.{shape_of};
 ghost use Rattle.bcs_value_model.specs.View.{tree_of};
 ghost use Rattle.bcs_decode_spec.specs.Reading.{building};
@@ -19,7 +19,7 @@ use bcs_registry_model::Kind;
 use bcs_value::Value;
 use bcs_value_model::slot::wrap_present;
 
-/// A value of the format, inside which so many containers may open.
+/// Reads one value of `format`. At most `depth` more containers may be opened.
 #[inline(always)]
 #[cycle(streaming)]
 pub fn value<S: ByteSource>(
@@ -43,7 +43,7 @@ pub fn value<S: ByteSource>(
     }
 }
 
-/// An option.
+/// Reads an option.
 #[inline(never)]
 #[cycle(streaming)]
 #[tactic(auto, unfolding(bcs_decode_spec::specs::Reading::chain, bcs_decode_spec::specs::Reading::give, crate::specs::Sees::option_node))]

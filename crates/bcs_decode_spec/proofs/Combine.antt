@@ -1,4 +1,4 @@
--- Exact parsers, one after another.
+-- Combinations of exact parsers.
 use Rattle.bcs_decode_spec.proofs.Prelude.{◌≡◌, ℕ, zero, suc, ◌+◌, ◌<◌, List, [], ◌∷◌, ◌++◌, length, Ok, Err, refl, sym, ap, subst, ◌∙◌, append_assoc, arith, inl, inr, ◌⊎◌, length-append, All-tail, Reason, TooManyNodes, Read, Parser, follow, chain, give, fail, fail_here, node, Stopping, NodeStop, FailStop, AreBytes, Reads, Exact}
 
 abbrev pub done : {A : Type 0} → A → ℕ → ℕ → List ℕ → Read A
@@ -31,7 +31,7 @@ rest_bytes (x ∷ s) c h = rest_bytes s c (All-tail (λ y. y < 256) x (s ++ c) h
 pub bytes_left : (b s c : List ℕ) → AreBytes b → b ≡ s ++ c → AreBytes c
 bytes_left b s c h e = rest_bytes s c (subst AreBytes e h)
 
--- ---- nothing is read
+-- ---- reading nothing
 
 abbrev pub GiveReads : {A : Type 0} → A → Reads A
 GiveReads x y w s = (y ≡ x) × (w ≡ 0) × (s ≡ [])
@@ -75,7 +75,7 @@ exact_fail_here {A} d = record {
   stops = λ p m b e o k. rw (k.0, k.1) refl;
 }
 
--- ---- the same in other words
+-- ---- an equivalent relation
 
 pub exact_same : {A : Type 0} {R Q : Reads A} {S T : Stopping} {f : Parser A} → Exact R S f
     → ((x : A) (w : ℕ) (s : List ℕ) → R x w s → Q x w s) → ((x : A) (w : ℕ) (s : List ℕ) → Q x w s → R x w s)
@@ -115,7 +115,7 @@ exact_node {A} {R} {S} {f} ex = record { ok = ok; again = again; stop = stop; st
 joined : (b r c t d : List ℕ) → b ≡ r ++ c → c ≡ t ++ d → b ≡ (r ++ t) ++ d
 joined b r c t d h k = h ∙ ap (λ (z : List ℕ). r ++ z) k ∙ sym (append_assoc r t d)
 
--- ---- one after another; the second may know where the first began
+-- ---- one parser after another; the second one may depend on the place where the first started
 
 abbrev pub ThenReads : {A B : Type 0} → Reads A → (A → Reads B) → Reads B
 ThenReads {A} {B} R Q y w s = (a : A) × (v u : ℕ) × (r t : List ℕ) × R a v r × Q a y u t × (w ≡ v + u) × (s ≡ r ++ t)

@@ -1,4 +1,4 @@
--- What a decodable value's parts are, and what parts make one.
+-- The parts of a decodable value are decodable, and such parts form a decodable value.
 use Rattle.bcs_decode_spec.proofs.Prelude.{◌≡◌, ℕ, max, ◌≤◌, Bool, true, false, ◌&&◌, List, Option, Some, None, refl, arith, and_parts, and_from, max-le, le-max_left, le-max_right, Shape, Shapes, shape, Entries, Content, of, Tree, Trees, no_trees, tree, Pairs, no_pairs, pair, depth, trees_depth, pairs_depth, fits, all_fit, each_fits, pairs_fit, plain, IsCanonical, AllCanonical, EachCanonical, PairsCanonical, Rises, RisesFrom, length_limit, lengths_hold, all_hold, each_holds, pairs_hold, canonical_distinct, IsDecodable, AllAre, AllRise, Follows}
 
 module _ (registry : Entries) (d : ℕ) where
@@ -15,7 +15,7 @@ module _ (registry : Entries) (d : ℕ) where
     canonical = canonical;
   }
 
-  -- ---- values in a row
+  -- ---- lists of values
 
   pub record RowIs (fit : Bool) (Canonical : Type 0) (deep : ℕ) (long : Bool) : Type 0 where
     pub fit_is : fit ≡ true
@@ -73,9 +73,9 @@ module _ (registry : Entries) (d : ℕ) where
         record { fit_is = fit.1; canonical_is = h.canonical_is.1; deep_is = right_le (depth t) (trees_depth ts) h.deep_is; long_is = long.1 },
       )
 
-  -- ---- entries in a row
+  -- ---- lists of entries
 
-  -- the keys rise, from the last one on
+  -- the keys ascend, and the first one is above the last one
   abbrev pub RisesAfter : Option (List ℕ) → Pairs → Shape → Type 0
   RisesAfter None ps f = Rises registry ps f
   RisesAfter (Some b) ps f = RisesFrom registry b ps f

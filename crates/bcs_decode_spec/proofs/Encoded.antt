@@ -37,7 +37,7 @@ exact_decoding_is = λ registry limits s b. (
   is_decoded registry limits s b,
 )
 
--- what stops is no value's encoding
+-- an input with a stop isn't the encoding of any value
 pub no_encoding_stops : (registry : Entries) (limits : Bounds) (s : Shape) (b : List ℕ) (e : Reason) (o : ℕ) → StopsAll registry limits s b e o → (v : Tree) → Encodes registry limits s v b → ⊥
 no_encoding_stops registry limits s b e o k v h =
     let form = encoded_is_accepted_is registry limits s v b h in

@@ -1,8 +1,8 @@
--- What grows with a registry: what is accepted stays accepted, and stops stay, but where a variant may have come.
+-- When a registry grows, what is accepted stays accepted, and stops stay, except where a variant may have been added.
 use Rattle.bcs_decode_spec.proofs.Prelude.{◌≡◌, ◌≢◌, ℕ, zero, suc, ◌+◌, true, is_some, List, ◌++◌, length, Option, Some, None, refl, sym, ap, ap₂, subst, ◌∙◌, inl, inr, option_map_or, false≢true, and_parts, uleb, Shape, Shapes, no_shapes, shape, Container, unit_struct, newtype_struct, tuple_struct, field_struct, enumeration, Entries, Content, of, one_of, nothing, Choice, content, container_at, content_at, choice_at, Grows, IsWellFormed, has_few_levels, is_known, are_known, StaysIn, HasChoices, content_at-grows, choice_at-grows, content_at-inside, choice_at-inside, Tree, Trees, no_trees, tree, Pairs, no_pairs, pair, plain, plain_items, plain_pairs, keeps_soundness, keeps_order, keeps_bytes, Reason, UnknownVariant, IsDecodable, Stopping, AfterLength, OptionStop, NodeStop, AllAre, ItemsStop, Follows, AllRise, last_key, Misplaced, EntryStop, PairsStop, ShapeStop, EachStop, ChoiceStop, VariantStop, ContentStop, NamedStop, GrowthKeepsAccepting, GrowthKeepsStops, GrowthKeepsStopsAll}
 use Rattle.bcs_registry_model.specs.Shape as shape
 
--- a stop for another reason than that no variant has the number stays
+-- a stop for any reason except UnknownVariant stays
 abbrev pub Keeps : Stopping → Stopping → Type 0
 Keeps S T = (p m : ℕ) (b : List ℕ) (e : Reason) (o : ℕ) → e ≢ UnknownVariant → S p m b e o → T p m b e o
 
@@ -28,7 +28,7 @@ module _ (older newer : Entries) (grows : Grows older newer) where
     canonical = keeps_order older newer f t grows h.sound.fit h.canonical;
   }
 
-  -- ---- parts in a row
+  -- ---- lists of parts
 
   bytes_are : (d : ℕ) (f : Content) (t : Tree) → IsDecodable older d f t → plain older t f ≡ plain newer t f
   bytes_are d f t h = sym (keeps_bytes older newer f t grows h.sound.fit)
@@ -150,7 +150,7 @@ module _ (older newer : Entries) (grows : Grows older newer) where
       keeps_each (shape s ss) h =
           let both = and_parts (is_known older s) (are_known older ss) h in keeps_next s ss (keeps_shape s both.0) (keeps_each ss both.1)
 
-    -- the variant that was there stays
+    -- an existing variant stays
     keeps_choice : (start : ℕ) (f g : Content) → StaysIn f g → ((s : Shape) → f ≡ of s → is_known older s ≡ true)
         → Keeps (ChoiceStop older d N start f) (ChoiceStop newer d M start g)
     keeps_choice start (of s) (of u) stays known =

@@ -1,8 +1,8 @@
--- Elements in a row.
+-- Lists of elements.
 use Rattle.bcs_decode_spec.proofs.Prelude.{◌≡◌, ℕ, zero, suc, ◌+◌, List, [], ◌++◌, length, refl, sym, ap, ap₂, subst, ◌∙◌, append_assoc, arith, inl, inr, length-append, append-nil, Shape, Entries, Content, of, Tree, Trees, no_trees, tree, count, nodes, trees_nodes, plain, plain_items, Reason, Parser, items_here, building, Stopping, AllAre, ItemsStop, Reads, Exact}
 use Rattle.bcs_decode_spec.proofs.Combine.{exact_give, exact_chain, exact_same, GiveReads, NoStop, ThenReads, ThenStop}
 
--- what is read of a tree
+-- reading a tree with the property Good
 abbrev pub Says : Entries → Content → (Tree → Type 0) → Reads Tree
 Says registry f Good t w s = Good t × (w ≡ nodes t) × (s ≡ plain registry t f)
 

@@ -1,4 +1,4 @@
--- A key, as the bytes that were gone past.
+-- Keys, compared as the bytes that were read.
 use Rattle.bcs_decode_spec.proofs.Prelude.{◌≡◌, ℕ, ◌+◌, ◌-◌, List, [], ◌++◌, length, take, Option, Some, None, Ok, Err, refl, sym, ap, ap₂, subst, ◌∙◌, arith, inl, inr, ◌⊎◌, nat_cmp, match_ordering, Ordering, Less, Equal, Greater, slice_cmp, append-nil, take_at, Shape, Entries, of, Tree, nodes, plain, Below, same_equal, below_less, below_greater, less_below, order, Reason, KeyOrder, KeyRepeated, Read, Parser, chain, give, fail, key_after, key_here, Stopping, Follows, Misplaced, AreBytes, Reads, Exact}
 use Rattle.bcs_decode_spec.proofs.Combine.{exact_give, exact_fail, exact_from, exact_chain, exact_same, GiveReads, NoStop, ThenReads, ThenStop}
 use Rattle.bcs_decode_spec.proofs.Items.{Says}
@@ -69,7 +69,7 @@ module _ (registry : Entries) (f : Shape) (Good : Tree → Type 0) (S : Stopping
   abbrev Here : Reads Tree
   Here = Says registry (of f) Good
 
-  -- the same, where the bytes are made again of the key
+  -- the same, with the bytes recomputed from the key
   placed : Option (List ℕ) → ℕ → Tree → Parser (Tree × List ℕ)
   placed last p a = chain (key_after last (bytes_of a) p) (λ _. give {A = Tree × List ℕ} (a, bytes_of a))
 
@@ -113,7 +113,7 @@ module _ (registry : Entries) (f : Shape) (Good : Tree → Type 0) (S : Stopping
       exact_same (exact_from {Q = PlacedReads last} {T = PlacedStop last} {k = placed last} ex (λ p a v r h. exact_chain (exact_after registry last (bytes_of a) p) (λ _ u z i. exact_give (a, bytes_of a))))
       (key_to last) (key_from last) (key_on last) (key_back last)
 
-  -- it is the same where the bytes that were gone past are the key's
+  -- both agree if the bytes that were read are those of the key
   same_ok : (last : Option (List ℕ)) (p m : ℕ) (b : List ℕ) (x : Tree × ℕ × ℕ × List ℕ) → parser p m b ≡ Ok x → take (x.1 - p) b ≡ bytes_of x.0
       → key_here parser last p m b ≡ made last p m b
   unfolding key_here made placed chain

@@ -1,4 +1,4 @@
--- Exact parsers of one value: what is made of what was read.
+-- Exact parsers of one value, in terms of what is built.
 use Rattle.bcs_decode_spec.proofs.Prelude.{◌≡◌, ℕ, ◌+◌, ◌≤◌, Bool, true, false, if◌then◌else◌, List, [], ◌∷◌, ◌++◌, length, refl, sym, ap, ap₂, subst, ◌∙◌, arith, inl, inr, ◌⊎◌, append-nil, uleb, Tree, length_limit, Reason, BadOption, Parser, chain, give, length_here, option_here, building, Stopping, LengthStop, AfterLength, FlagStop, OptionStop, Reads, Exact}
 use Rattle.bcs_value_model.specs.Tree as tree
 use Rattle.bcs_decode_spec.proofs.Combine.{exact_give, exact_chain, exact_same, GiveReads, NoStop, ThenReads, ThenStop}
@@ -33,7 +33,7 @@ module _ {A : Type 0} {B : Type 0} (make : A → B) (R : Reads A) (S : Stopping)
   pub exact_made : Exact (Made make R) S (chain parser (λ x. give (make x)))
   exact_made = exact_same (exact_chain ex (λ x v r h. exact_give (make x))) to from on back
 
--- ---- what follows a length
+-- ---- something after its length
 
 abbrev pub Counted : {A : Type 0} → (A → Tree) → (ℕ → Reads A) → Reads Tree
 Counted {A} make R t w s = (n : ℕ) × (x : A) × (u : List ℕ) × (n ≤ length_limit) × R n x w u × (t ≡ make x) × (s ≡ uleb n ++ u)
@@ -67,7 +67,7 @@ module _ {A : Type 0} (make : A → Tree) (R : ℕ → Reads A) (S : ℕ → Sto
 
 -- ---- an option
 
--- absent, or what is present
+-- absent, or present with a value
 abbrev pub OptionReads : Reads Tree → Reads Tree
 OptionReads R t w s =
     ((t ≡ tree.absent) × (w ≡ 0) × (s ≡ 0 ∷ []))

@@ -1,4 +1,4 @@
--- Numbers, lengths, byte strings, texts and flags.
+-- Numbers, lengths, byte strings, strings and flags.
 use Rattle.bcs_decode_spec.proofs.Prelude.{◌≡◌, ℕ, suc, ◌+◌, ◌-◌, ◌<◌, ◌≤◌, ◌^◌, ◌==◌, nat_lt, Bool, true, false, if◌then◌else◌, ℤ, List, [], ◌∷◌, ◌++◌, length, take, drop, Result, Ok, Err, refl, sym, ap, ap₂, subst, ◌∙◌, arith, inl, inr, and_parts, and_from, cases_lt, cases_Bool, cases_eq, le-ltb, lt-ltb, ltb-true, length-append, take-append-drop, length-take, take_at, drop_at, append-nil, All-nil, All-cons, All-head, All-tail, Width, byte_len, from_le_bytes, is_utf8, utf8_valid_len, NumFault, uleb, IsUnsigned, IsSigned, le, le_signed, unsigned_read, unsigned_written, signed_number, signed_read, signed_written, number_from, number_at, number_at_number, number_at_fault, number_at_is_number, number_at_is_fault, are_bytes, length_limit, truth_byte, Reason, EndOfInput, LongForm, NumberTooLarge, LengthTooLarge, BadUtf8, Parser, chain, give, fail, shifted, uleb_from, number_read, number_here, length_here, bytes_here, text_here, flag_here, unsigned_here, signed_here, Stopping, NumberStop, LengthStop, BytesStop, TextStop, FlagStop, AreBytes, Reads, Exact}
 use Rattle.bcs_num.specs.declared.fault.NumFault.TheVariants as num
 use Rattle.bcs_num.proofs.UlebReading as reading
@@ -149,7 +149,7 @@ exact_bytes n = record { ok = ok; again = again; stop = stop; stops = stops }
     stops : (p m : ℕ) (b : List ℕ) (e : Reason) (o : ℕ) → BytesStop n p m b e o → bytes_here n p m b ≡ Err (e, o)
     stops p m b e o k = rw (lt-ltb (length b) n k.0, k.1, k.2) refl
 
--- ---- texts
+-- ---- strings
 
 abbrev pub TextReads : ℕ → Reads (List ℕ)
 TextReads n x w s = (is_utf8 x ≡ true) × BytesReads n x w s
@@ -193,7 +193,7 @@ exact_text n =
 abbrev pub FlagReads : Reads Bool
 FlagReads x w s = (w ≡ 0) × (s ≡ truth_byte x ∷ [])
 
--- which byte it is
+-- the byte of a flag
 few : (x : ℕ) → x ≤ 1 → truth_byte (x == 1) ≡ x
 few x le = elim (cases_eq x 1) [
   | inl one ↦ rw one refl
@@ -238,13 +238,13 @@ exact_flag bad = record { ok = ok; again = again; stop = stop; stops = stops }
     stops p m b e o (inl k) = rw (k.0, k.1, k.2) refl
     stops p m b e o (inr (x, c, lt, d, k, i)) = rw (d, lt-ltb 1 x lt, k, i) refl
 
--- ---- whole numbers
+-- ---- integers
 
 front_bytes : (s c : List ℕ) → AreBytes (s ++ c) → AreBytes s
 front_bytes [] c h = All-nil (λ y. y < 256)
 front_bytes (x ∷ s) c h = All-cons (λ y. y < 256) x s (All-head (λ y. y < 256) x (s ++ c) h) (front_bytes s c (All-tail (λ y. y < 256) x (s ++ c) h))
 
--- they pass the test of `fits`
+-- bytes pass the test that `fits` uses
 pub bytes_pass : (s : List ℕ) → AreBytes s → are_bytes s ≡ true
 bytes_pass [] h = refl
 bytes_pass (x ∷ s) h =
@@ -259,7 +259,7 @@ pass_bytes (x ∷ s) h =
 abbrev pub ByteReads : {A : Type 0} → Reads A → Reads A
 ByteReads R x w s = AreBytes s × R x w s
 
--- what is read of bytes is of bytes
+-- results read from bytes have bytes
 pub exact_of_bytes : {A : Type 0} {R : Reads A} {S : Stopping} {f : Parser A} → Exact R S f → Exact (ByteReads R) S f
 exact_of_bytes ex = record {
   ok = λ p m b x q l c h e. (let t = ex.ok p m b x q l c h e in (t.0, t.1, (front_bytes t.1 c (subst AreBytes t.3 h), t.2), t.3, t.4, t.5));
@@ -268,7 +268,7 @@ exact_of_bytes ex = record {
   stops = λ p m b e o k. ex.stops p m b e o k;
 }
 
--- what is made of so many bytes
+-- a number built from n bytes
 module _ {A : Type 0} (n : ℕ) (number : List ℕ → A) (Is : A → Type 0) (bytes_of : A → List ℕ) (read : (s : List ℕ) → AreBytes s → length s ≡ n → Is (number s) × (s ≡ bytes_of (number s)))
     (written : (x : A) → Is x → AreBytes (bytes_of x) × (length (bytes_of x) ≡ n) × (number (bytes_of x) ≡ x)) where
   abbrev pub WholeReads : Reads A

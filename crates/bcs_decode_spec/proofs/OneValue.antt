@@ -1,4 +1,4 @@
--- A value of each kind, over exact parsers of its parts.
+-- A value of each kind, from exact parsers of its parts.
 use Rattle.bcs_decode_spec.proofs.Prelude.{◌≡◌, ℕ, suc, ◌^◌, ◌==◌, nat_le, false, List, ◌∷◌, ◌++◌, length, None, refl, sym, ap, ap₂, subst, ◌∙◌, arith, inl, inr, false≢true, and_parts, and_from, ltb-true, lt-ltb, leb-true, le-leb, eq-eqb, nat-same, Width, byte_len, bits, uleb, le, holds_signed-is, is-holds_signed, Shape, shape, Entries, Content, of, Tree, Trees, tree, Pairs, count, pair_count, nodes, trees_nodes, pairs_nodes, all_fit, plain, plain_items, plain_pairs, length_limit, all_hold, pairs_hold, Reason, BadBool, Unsupported, IsDecodable, Parser, chain, give, fail_here, node, length_here, bytes_here, text_here, flag_here, unsigned_here, signed_here, items_here, pairs_here, option_here, building, Stopping, AfterLength, BytesStop, TextStop, FlagStop, FailStop, OptionStop, NodeStop, ItemsStop, PairsStop, AreBytes, Reads, Exact}
 use Rattle.bcs_registry_model.specs.Shape as shape
 use Rattle.bcs_value_model.specs.Tree as tree
@@ -18,7 +18,7 @@ same_stop S p m b e o s = s
 module _ (registry : Entries) (d : ℕ) where
   -- ---- values without parts
 
-  -- in other words, one node more
+  -- an equivalent relation, with one node more
   module _ (f : Content) (R : Reads Tree) (S : Stopping) (parser : Parser Tree) (ex : Exact R S parser)
       (to : (t : Tree) (v : ℕ) (s : List ℕ) → R t v s → Here registry d f t (suc v) s)
       (from : (t : Tree) (v w : ℕ) (s : List ℕ) → IsDecodable registry d f t → w ≡ nodes t → s ≡ plain registry t f → (v : ℕ) × (w ≡ suc v) × R t v s) where

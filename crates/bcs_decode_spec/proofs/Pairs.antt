@@ -1,4 +1,4 @@
--- Entries in a row, with keys that rise.
+-- Lists of entries with ascending keys.
 use Rattle.bcs_decode_spec.proofs.Prelude.{◌≡◌, ℕ, zero, suc, ◌+◌, List, [], ◌++◌, length, Option, Some, refl, sym, ap, ap₂, subst, ◌∙◌, append_assoc, arith, inl, inr, length-append, append-nil, Shape, Entries, of, Tree, Pairs, no_pairs, pair, pair_count, nodes, pairs_nodes, plain, plain_pairs, Reason, Parser, pairs_here, building, Stopping, AllRise, last_key, EntryStop, PairsStop, Reads, Exact}
 use Rattle.bcs_decode_spec.proofs.Combine.{exact_give, exact_chain, exact_same, GiveReads, NoStop, ThenReads, ThenStop}
 use Rattle.bcs_decode_spec.proofs.Items.{Says, moved}

@@ -1,4 +1,4 @@
--- What the proofs use of other crates, and of this crate's definitions.
+-- What the proofs use from other crates, and from this crate's definitions.
 pub use Rattle.std.proofs.Common.{[], ap, append_assoc, ap₂, arith, Bool, Bor, codes, drop, Err, false, get_or, if◌then◌else◌, inl, inr, is_some, length, List, map, max, nat_le, nat_lt, None, Ok, Option, option_map, refl, Result, Some, subst, suc, sym, take, true, zero, ℕ, ℤ, ◌&&◌, ◌++◌, ◌+◌, ◌-◌, ◌<◌, ◌==◌, ◌^◌, ◌∙◌, ◌∷◌, ◌≡◌, ◌≢◌, ◌≤◌, ◌⊎◌}
 pub use Rattle.std.proofs.Math.Nat.{le-max_left, le-max_right, max-le}
 pub use Rattle.std.proofs.lemmas.Bool.{and_from, and_parts, cases_Bool, cases_eq, cases_lt, eq-eqb, false≢true, le-leb, le-ltb, leb-true, lt-ltb, ltb-true}

@@ -1,4 +1,4 @@
--- What was gone past is the one verdict.
+-- Skipping a value finds the one verdict.
 use Rattle.bcs_decode_spec.proofs.Prelude.{◌≡◌, ℕ, ◌-◌, List, drop, Ok, Err, sym, ◌∙◌, Shape, Entries, Tree, nodes, Bounds, Reason, Accepts, skip_value, Stops}
 use Rattle.bcs_decode_spec.proofs.Combine.{parts, fault_parts}
 use Rattle.bcs_decode_spec.proofs.Verdicts.{accepts_skips, stops_skips}

@@ -1,4 +1,4 @@
--- Reading is the same whatever is made of what is read: one homomorphism, from the tree to nothing among others.
+-- Reading is the same whatever is built: a homomorphism between results, for example from trees to nothing.
 use Rattle.bcs_decode_spec.proofs.Prelude.{◌≡◌, ℕ, zero, suc, ◌-◌, Bool, true, false, if◌then◌else◌, ℤ, List, take, Option, Some, None, Ok, Err, refl, sym, ap, ◌∙◌, Shape, Shapes, no_shapes, shape, Entries, Content, of, one_of, nothing, Choice, content_at, choice_at, Bounds, Reason, BadBool, BadOption, Unsupported, Read, Parser, follow, chain, give, fail, fail_here, node, number_here, length_here, bytes_here, text_here, flag_here, unsigned_here, signed_here, key_after, key_here, Making, items_here, pairs_here, option_here, shape_here, each_here, choice_here, variant_here, content_here, named_here, value_here, building, skipping, read_value, skip_value}
 use Rattle.bcs_registry_model.specs.Shape as shape
 
@@ -6,11 +6,11 @@ abbrev pub mapped : {A B : Type 0} → (A → B) → Read A → Read B
 mapped f (Ok x) = Ok (f x.0, x.1, x.2, x.3)
 mapped f (Err e) = Err e
 
--- the second parser is the first, with f of what it reads
+-- the second parser is the first one with f applied to its result
 abbrev pub IsMapped : {A B : Type 0} → (A → B) → Parser A → Parser B → Type 0
 IsMapped f p q = (i m : ℕ) (b : List ℕ) → q i m b ≡ mapped f (p i m b)
 
--- ---- one after another
+-- ---- one parser after another
 
 mapped_follow : {A A2 B B2 : Type 0} (f : A → A2) (g : B → B2) (r : Read A) (k : A → Parser B) (l : A2 → Parser B2)
     → ((x : A) → IsMapped g (k x) (l (f x))) → follow (mapped f r) l ≡ mapped g (follow r k)
@@ -42,9 +42,9 @@ unfolding node
 mapped_node f p q h i zero b = refl
 mapped_node f p q h i (suc m) b = h i m b
 
--- ---- what is made
+-- ---- building results
 
--- f, g and h lead from what one makes to what the other makes
+-- f, g and h map the results of make to those of remake
 pub record Leads {V R E V' R' E' : Type 0} (make : Making V R E) (remake : Making V' R' E') (f : V → V') (g : R → R') (h : E → E') : Type 0 where
   pub unit_is : f make.unit ≡ remake.unit
   pub truth_is : (x : Bool) → f (make.truth x) ≡ remake.truth x
@@ -122,7 +122,7 @@ module _ {V R E V' R' E' : Type 0} (make : Making V R E) (remake : Making V' R' 
   made p mk mk2 k =
       mapped_node f (chain p (λ x. give (mk x))) (chain p (λ x. give (mk2 x))) (mapped_after f p (λ x. give (mk x)) (λ x. give (mk2 x)) (λ x. mapped_give f (mk x) (mk2 x) (k x)))
 
-  -- one after its length
+  -- something after its length
   counted : {A : Type 0} {A2 : Type 0} (k : A → A2) (p : ℕ → Parser A) (q : ℕ → Parser A2) (mk : A → V) (mk2 : A2 → V')
       → ((n : ℕ) → IsMapped k (p n) (q n)) → ((x : A) → f (mk x) ≡ mk2 (k x))
       → IsMapped f (node (chain length_here (λ n. chain (p n) (λ x. give (mk x))))) (node (chain length_here (λ n. chain (q n) (λ x. give (mk2 x)))))
@@ -131,7 +131,7 @@ module _ {V R E V' R' E' : Type 0} (make : Making V R E) (remake : Making V' R' 
       (mapped_after f length_here (λ n. chain (p n) (λ x. give (mk x))) (λ n. chain (q n) (λ x. give (mk2 x)))
       (λ n. mapped_then k f (p n) (q n) (λ x. give (mk x)) (λ x. give (mk2 x)) (parts n) (λ x. mapped_give f (mk x) (mk2 (k x)) (is x))))
 
-  -- values in a row
+  -- lists of values
   row : (p : Parser R) (q : Parser R') → IsMapped g p q
       → IsMapped f (node (chain p (λ ts. give (make.items ts)))) (node (chain q (λ ts. give (remake.items ts))))
   row p q k =
@@ -230,7 +230,7 @@ forgets = record {
   entry_is = λ x y z. refl;
 }
 
--- going past a value is reading it, and letting it go
+-- skipping a value is reading it and dropping the result
 pub skip_is_read : (registry : Entries) (limits : Bounds) (s : Shape) (b : List ℕ)
     → skip_value registry limits s b ≡ mapped forget (read_value registry limits s b)
 skip_is_read registry limits s b = mapped_value building skipping forget forget forget forgets registry limits.depth s 0 limits.nodes b

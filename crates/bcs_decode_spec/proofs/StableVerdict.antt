@@ -1,8 +1,8 @@
--- What later bytes change: where they stop for want of bytes.
+-- Appending bytes changes a stop only if the bytes ended too early.
 use Rattle.bcs_decode_spec.proofs.Prelude.{◌≡◌, ◌≢◌, ℕ, zero, suc, ◌+◌, ◌≤◌, List, [], ◌∷◌, ◌++◌, length, take, Option, Some, None, refl, sym, ap, ◌∙◌, append_assoc, arith, inl, inr, ◌⊎◌, length-append, byte_len, uleb, IsLongForm, IsTooLarge, Shape, Shapes, no_shapes, shape, Entries, Content, of, one_of, nothing, Choice, content_at, choice_at, Tree, Bounds, plain, plain_items, plain_pairs, Reason, EndOfInput, BadBool, BadOption, TooDeep, Unsupported, IsDecodable, Accepts, Stopping, NumberStop, LengthStop, AfterLength, BytesStop, TextStop, FlagStop, OptionStop, FailStop, NodeStop, ItemsStop, PairsStop, EntryStop, Misplaced, last_key, ShapeStop, EachStop, ChoiceStop, VariantStop, ContentStop, NamedStop, Stops, StopsAll, VerdictIsStable}
 use Rattle.bcs_registry_model.specs.Shape as shape
 
--- a stop for want of bytes is where they end, and any other stays when z comes after them
+-- a stop with EndOfInput is at the end of the bytes; any other one stays if z is appended
 abbrev Still : List ℕ → Stopping → Stopping
 Still z S p m b e o = ((e ≡ EndOfInput) × (o ≡ p + length b)) ⊎ ((e ≡ EndOfInput → ⊥) × S p m (b ++ z) e o)
 
@@ -12,7 +12,7 @@ IsStableUnderMore z S = (p m : ℕ) (b : List ℕ) (e : Reason) (o : ℕ) → S 
 longer : (b r c s : List ℕ) → b ≡ r ++ c → b ++ s ≡ r ++ (c ++ s)
 longer b r c s d = ap (λ (x : List ℕ). x ++ s) d ∙ append_assoc r c s
 
--- a part stops where the whole begins, or behind the bytes r
+-- a part stops at the start of the whole, or after the bytes r
 at_front : {E N A B : Type 0} → E ⊎ (N × A) → (A → B) → E ⊎ (N × B)
 at_front (inl h) f = inl h
 at_front (inr h) f = inr (h.0, f h.1)
@@ -65,7 +65,7 @@ module _ (z : List ℕ) where
   stable_option S st p m b e o (inl k) = at_front (stable_flag BadOption (λ i. cc) p m b e o k) (λ x. inl x)
   stable_option S st p m b e o (inr (c, d, k)) = behind p o b (1 ∷ []) c d (st (p + 1) m c e o k) (λ x. inr (c ++ z, longer b (1 ∷ []) c z d, x))
 
-  -- a stop that looks at no byte
+  -- a stop that doesn't depend on any byte
   stable_fail : (reason : Reason) → (reason ≡ EndOfInput → ⊥) → IsStableUnderMore z (FailStop reason)
   stable_fail reason other p m b e o k = inr ((λ h. other (sym k.0 ∙ h)), k)
 
@@ -73,7 +73,7 @@ module _ (z : List ℕ) where
   stable_node S st p zero b e o k = inr ((λ h. let i = k.0 in cc), k)
   stable_node S st p (suc m) b e o k = st p m b e o k
 
-  -- ---- rows
+  -- ---- lists
 
   module _ (registry : Entries) where
     stable_items : (f : Shape) (Good : Tree → Type 0) (S : Stopping) → IsStableUnderMore z S → (n : ℕ) → IsStableUnderMore z (ItemsStop registry f Good S n)

@@ -1,4 +1,4 @@
--- A value of a format is read exactly where bytes begin with one, and stops exactly where they stop.
+-- The decoder reads a value exactly if the bytes start with one, and stops exactly where they stop.
 use Rattle.bcs_decode_spec.proofs.Prelude.{◌≡◌, ℕ, zero, suc, ◌+◌, ◌^◌, false, List, ◌++◌, length, Option, Some, None, refl, sym, ap, ap₂, subst, ◌∙◌, arith, inl, inr, false≢true, and_from, lt-ltb, uleb, Shape, Shapes, no_shapes, shape, Entries, Content, of, one_of, nothing, Choice, Payload, content_at, choice_at, choice_numbered, payload_shape, option_map_or, Tree, Trees, no_trees, tree, nodes, trees_nodes, number_fits, payload_fits, plain, plain_each, Reason, TooDeep, UnknownVariant, Unsupported, IsDecodable, Parser, chain, give, node, shape_here, each_here, choice_here, variant_here, content_here, named_here, value_here, building, Stopping, NumberStop, NodeStop, ShapeStop, EachStop, ChoiceStop, VariantStop, ContentStop, NamedStop, Reads, Exact}
 use Rattle.bcs_registry_model.specs.Shape as shape
 use Rattle.bcs_value_model.specs.Tree as tree
@@ -9,7 +9,7 @@ use Rattle.bcs_decode_spec.proofs.Makings.{Made, exact_made}
 use Rattle.bcs_decode_spec.proofs.Decodable.{decodable, EachIs, each_is, is_each}
 use Rattle.bcs_decode_spec.proofs.OneValue.{Here, exact_here, exact_unit, exact_truth, exact_unsigned_value, exact_signed_value, exact_unsupported, exact_text_value, exact_bytes_value, exact_option_value, exact_seq_value, exact_array_value, exact_map_value}
 
--- ---- formats, where names are read by r
+-- ---- formats, where r reads containers by name
 
 module _ (registry : Entries) (d : ℕ) (N : List ℕ → Stopping) (r : List ℕ → Parser Tree) (named : (name : List ℕ) → Exact (Here registry d (of (shape.name name))) (N name) (r name)) where
   -- a value for each format

@@ -1,4 +1,4 @@
--- One verdict for every input.
+-- Each input has exactly one verdict.
 use Rattle.bcs_decode_spec.proofs.Prelude.{◌≡◌, ℕ, ◌+◌, ◌-◌, List, ◌++◌, length, take, drop, Ok, Err, refl, sym, ap, subst, ◌∙◌, arith, inl, inr, ◌⊎◌, cases_lt, length-append, length-take, take-append-drop, take_at, Shape, Entries, of, Tree, nodes, Bounds, plain, Reason, TrailingBytes, Accepts, Read, read_value, skip_value, Stops, StopsAll, AreBytes, SomeVerdict, NoTwoVerdicts, AcceptsOnce, StopsOnce, SomeVerdictOfAll, NoTwoVerdictsOfAll, StopsAllOnce}
 use Rattle.bcs_decode_spec.proofs.Combine.{parts, fault_parts}
 use Rattle.bcs_decode_spec.proofs.Decodable.{decodable}
@@ -43,7 +43,7 @@ module _ (registry : Entries) (limits : Bounds) (s : Shape) where
   pub reads_stops : (b : List ℕ) (e : Reason) (o : ℕ) → AreBytes b → read_value registry limits s b ≡ Err (e, o) → Stops registry limits s b e o
   reads_stops b e o h k = (exact_value registry limits.depth s).stop 0 limits.nodes b e o h k
 
-  -- ---- the same of going past a value
+  -- ---- the same for skipping a value
 
   pub accepts_skips : (b : List ℕ) (n : ℕ) (c : Tree) → Accepts registry limits s b n c
       → skip_value registry limits s b ≡ Ok (tt, n, limits.nodes - nodes c, drop n b)

@@ -1,4 +1,4 @@
--- What the definitions say of some inputs, by computation.
+-- The verdicts for some inputs, by computation.
 use Rattle.bcs_decode_spec.proofs.Prelude.{◌≡◌, ℕ, List, [], ◌∷◌, codes, Ok, Err, refl, w8, w16, Shape, Entries, unit, newtype, newtype_struct, field_struct, enumeration, Bounds, EndOfInput, BadBool, BadOption, LongForm, NumberTooLarge, LengthTooLarge, UnknownVariant, KeyOrder, KeyRepeated, TooDeep, TooManyNodes, Read, skip_value, value_here, shape_here, each_here, named_here, node, chain, give, fail, fail_here, number_here, length_here, bytes_here, flag_here, unsigned_here, key_after, key_here, items_here, pairs_here, option_here, choice_here, variant_here, content_here}
 use Rattle.bcs_registry_model.specs.Shape as shape
 
@@ -58,13 +58,13 @@ a_number_that_ends : bytes_front (0x80 ∷ 0x80 ∷ []) ≡ Err (EndOfInput, 2)
 unfolding value_here shape_here node chain number_here length_here
 a_number_that_ends = refl
 
--- ---- rows
+-- ---- lists
 
 a_row_that_ends : front [] (shape.seq u8) (0xff ∷ 0xff ∷ 0xff ∷ 0xff ∷ 0x07 ∷ []) ≡ Err (EndOfInput, 5)
 unfolding value_here shape_here node chain give number_here length_here bytes_here unsigned_here items_here
 a_row_that_ends = refl
 
--- units take no bytes, but nodes
+-- units have no bytes, but count as nodes
 a_row_of_units : skip_value [] (of_limits 500 20) (shape.seq shape.unit) (0xff ∷ 0xff ∷ 0xff ∷ 0xff ∷ 0x07 ∷ []) ≡ Err (TooManyNodes, 5)
 unfolding value_here shape_here node chain give number_here length_here items_here
 a_row_of_units = refl
@@ -73,7 +73,7 @@ a_row_of_three : skip_value [] (of_limits 500 3) (shape.seq u8) (3 ∷ 0 ∷ 1 �
 unfolding value_here shape_here node chain give number_here length_here bytes_here unsigned_here items_here
 a_row_of_three = refl
 
--- 256 is written 0001 and comes before 1, which is written 0100
+-- 256 is encoded as 0001 and comes before 1, which is encoded as 0100
 keys_out_of_order : front [] (shape.map (shape.unsigned w16) shape.truth) (2 ∷ 1 ∷ 0 ∷ 1 ∷ 0 ∷ 1 ∷ 0 ∷ []) ≡ Err (KeyOrder, 4)
 unfolding value_here shape_here node chain give fail number_here length_here bytes_here flag_here unsigned_here key_after key_here pairs_here
 keys_out_of_order = refl
@@ -82,7 +82,7 @@ keys_in_order : front [] (shape.map (shape.unsigned w16) shape.truth) (2 ∷ 0 �
 unfolding value_here shape_here node chain give fail number_here length_here bytes_here flag_here unsigned_here key_after key_here pairs_here
 keys_in_order = refl
 
--- although the values agree
+-- even though the values are equal
 a_key_again : front [] (shape.map u8 u8) (2 ∷ 5 ∷ 1 ∷ 5 ∷ 1 ∷ []) ≡ Err (KeyRepeated, 3)
 unfolding value_here shape_here node chain give fail number_here length_here bytes_here unsigned_here key_after key_here pairs_here
 a_key_again = refl
@@ -116,7 +116,7 @@ a_second_container : skip_value list_registry (of_limits 1 10) list_shape (1 ∷
 unfolding value_here shape_here each_here named_here content_here node chain give fail_here flag_here option_here
 a_second_container = refl
 
--- N: {"NEWTYPESTRUCT":{"TYPENAME":"N"}}, which no value has
+-- N: {"NEWTYPESTRUCT":{"TYPENAME":"N"}}, which has no values
 endless : skip_value ((codes "N", newtype_struct (shape.name (codes "N"))) ∷ []) (of_limits 3 10) (shape.name (codes "N")) [] ≡ Err (TooDeep, 0)
 unfolding value_here shape_here named_here content_here node chain fail_here
 endless = refl

@@ -1,4 +1,4 @@
--- A parser that reads and stops exactly where two relations hold.
+-- Parsers that are exact: a relation states what they read, and another where they stop.
 use Rattle.std.specs.Prelude.{◌≡◌, ℕ, ◌+◌, ◌<◌, List, ◌++◌, length, Ok, Err}
 use Rattle.std.specs.List.{All}
 use Rattle.bcs_decode_spec.specs.declared.reason.Reason.{Reason}
@@ -8,7 +8,7 @@ use Rattle.bcs_decode_spec.specs.Stopping.{Stopping}
 abbrev pub AreBytes : List ℕ → Type 0
 AreBytes b = All (λ x. x < 256) b
 
--- what is read of so many nodes and of exactly these bytes
+-- a result, the number of its nodes, and its bytes
 abbrev pub Reads : Type 0 → Type 1
 Reads A = A → ℕ → List ℕ → Type 0
 

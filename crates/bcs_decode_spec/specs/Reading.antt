@@ -1,5 +1,5 @@
--- Reading from front to back, with the first reason to stop and its place. What is made of what is read is left open:
--- the tree, or nothing. Keys are compared as the bytes that were gone past.
+-- A reference decoder: reads from left to right, and reports the first stop. It is generic over what it builds: the
+-- tree, or nothing. Keys are compared as the bytes that were read.
 use Rattle.std.specs.Prelude.{ℕ, zero, suc, ℤ, ◌+◌, ◌-◌, ◌*◌, ◌==◌, nat_lt, Bool, if◌then◌else◌, List, [], ◌∷◌, length, take, drop, Option, Some, None, Result, Ok, Err, ◌&&◌}
 use Rattle.std.specs.Int.{Width, byte_len, from_le_bytes, cast_signed}
 use Rattle.std.specs.Ordering.{nat_cmp, match_ordering}
@@ -18,11 +18,11 @@ use Rattle.bcs_encode_spec.specs.Lengths.{length_limit}
 use Rattle.bcs_decode_spec.specs.declared.reason.Reason.{Reason}
 use Rattle.bcs_decode_spec.specs.declared.reason.Reason.TheVariants.{EndOfInput, BadBool, BadOption, LongForm, NumberTooLarge, LengthTooLarge, UnknownVariant, BadUtf8, KeyOrder, KeyRepeated, TooDeep, TooManyNodes, Unsupported}
 
--- what was read with the place after it, the nodes and the bytes that are left; or a stop
+-- the result, the place after it, the remaining nodes and the remaining bytes; or a stop
 abbrev pub Read : Type 0 → Type 0
 Read A = Result (A × ℕ × ℕ × List ℕ) (Reason × ℕ)
 
--- from a place, the nodes that are left, and the bytes from there on
+-- takes a place, the remaining nodes, and the bytes from that place on
 abbrev pub Parser : Type 0 → Type 0
 Parser A = ℕ → ℕ → List ℕ → Read A
 
@@ -39,23 +39,23 @@ give x p m b = Ok (x, p, m, b)
 unfoldable pub fail : {A : Type 0} → Reason → ℕ → Parser A
 fail e o p m b = Err (e, o)
 
--- the stop is here
+-- stops at this place
 unfoldable pub fail_here : {A : Type 0} → Reason → Parser A
 fail_here e p m b = Err (e, p)
 
--- one node begins here
+-- a node starts here
 unfoldable pub node : {A : Type 0} → Parser A → Parser A
 node f p zero b = Err (TooManyNodes, p)
 node f p (suc m) b = f p m b
 
 -- ---- numbers and bytes
 
--- the number with so much less, and its length with so many bytes more
+-- puts len bytes in front of a result: the value is scaled by worth, low is added, and the length grows
 abbrev pub shifted : ℕ → ℕ → ℕ → Result (ℕ × ℕ) NumFault → Result (ℕ × ℕ) NumFault
 shifted low worth len (Ok x) = Ok (low + x.0 * worth, len + x.1)
 shifted low worth len (Err e) = Err e
 
--- the number by ULEB128 whose bytes begin so many places before these, and its length
+-- the rest of a ULEB128 number, from its byte at index i on, and its length
 abbrev pub uleb_from : ℕ → List ℕ → Result (ℕ × ℕ) NumFault
 uleb_from i [] = Err num.EndOfInput
 uleb_from i (b ∷ bytes) =
@@ -63,7 +63,7 @@ uleb_from i (b ∷ bytes) =
     else (if nat_lt b 128 then (if (b == 0) && nat_lt 0 i then Err num.LongForm else Ok (b, 1))
     else shifted (b - 128) 128 1 (uleb_from (suc i) bytes))
 
--- at a place, the number or its fault
+-- converts to a result at a place
 abbrev pub number_read : ℕ → ℕ → List ℕ → Result (ℕ × ℕ) NumFault → Read ℕ
 number_read p m b (Ok x) = Ok (x.0, p + x.1, m, drop x.1 b)
 number_read p m b (Err num.EndOfInput) = Err (EndOfInput, p + length b)
@@ -82,7 +82,7 @@ bytes_here n p m b = if nat_lt (length b) n then Err (EndOfInput, p + length b) 
 unfoldable pub text_here : ℕ → Parser (List ℕ)
 text_here n p = chain (bytes_here n) (λ s. if is_utf8 s then give s else fail BadUtf8 (p + utf8_valid_len s)) p
 
--- a byte that is 00 or 01
+-- a byte that must be 00 or 01
 unfoldable pub flag_here : Reason → Parser Bool
 flag_here bad p m [] = Err (EndOfInput, p)
 flag_here bad p m (x ∷ b) = if nat_lt 1 x then Err (bad, p) else Ok (x == 1, p + 1, m, b)
@@ -93,18 +93,18 @@ unsigned_here w = chain (bytes_here (byte_len w)) (λ s. give (from_le_bytes w s
 unfoldable pub signed_here : Width → Parser ℤ
 signed_here w = chain (bytes_here (byte_len w)) (λ s. give (cast_signed w (from_le_bytes w s)))
 
--- whether a key may follow the last one
+-- fails unless the key may follow the last one
 unfoldable pub key_after : Option (List ℕ) → List ℕ → ℕ → Parser (Unit {0})
 key_after None key start = give tt
 key_after (Some last) key start = match_ordering (slice_cmp nat_cmp last key) (give tt) (fail KeyRepeated start) (fail KeyOrder start)
 
--- a key, and its bytes
+-- a key and its bytes
 unfoldable pub key_here : {A : Type 0} → Parser A → Option (List ℕ) → Parser (A × List ℕ)
 key_here {A} k last p m b = follow (k p m b) (λ a q l c. follow (key_after last (take (q - p) b) p q l c) (λ _. give {A = A × List ℕ} (a, take (q - p) b)))
 
 -- ---- values
 
--- what is made of what is read: of a value, of values in a row, and of entries
+-- how to build results: a value V, a list of values R, and a list of entries E
 pub record Making (V : Type 0) (R : Type 0) (E : Type 0) : Type 0 where
   pub unit : V
   pub truth : Bool → V
@@ -135,7 +135,7 @@ module _ {V : Type 0} {R : Type 0} {E : Type 0} (make : Making V R E) where
   unfoldable pub option_here : Parser V → Parser V
   option_here f = chain (flag_here BadOption) (λ some. if some then chain f (λ t. give (make.present t)) else give make.absent)
 
-  -- r reads what a name stands for
+  -- r reads a container by its name
   module _ (r : List ℕ → Parser V) where
     unfoldable mutual
       pub shape_here : Shape → Parser V
@@ -157,7 +157,7 @@ module _ {V : Type 0} {R : Type 0} {E : Type 0} (make : Making V R E) where
       each_here no_shapes = give make.no_items
       each_here (shape s ss) = chain (shape_here s) (λ t. chain (each_here ss) (λ ts. give (make.item t ts)))
 
-    -- what the variant's number stands for
+    -- the content of the variant with this number
     unfoldable pub choice_here : ℕ → Content → Parser V
     choice_here start (of s) = shape_here s
     choice_here start _ = fail UnknownVariant start
@@ -170,16 +170,16 @@ module _ {V : Type 0} {R : Type 0} {E : Type 0} (make : Making V R E) where
     content_here (one_of cs) = node (variant_here cs)
     content_here nothing = fail_here Unsupported
 
-  -- with so many containers left
+  -- a container by its name, if d more containers may be opened
   unfoldable pub named_here : Entries → ℕ → List ℕ → Parser V
   named_here registry zero name = fail_here TooDeep
   named_here registry (suc d) name = node (chain (content_here (named_here registry d) (content_at name registry)) (λ t. give (make.named t)))
 
-  -- a value of the format, with so many containers left
+  -- a value of the format, if d more containers may be opened
   unfoldable pub value_here : Entries → ℕ → Shape → Parser V
   value_here registry d s = shape_here (named_here registry d) s
 
--- ---- the tree, and nothing
+-- ---- building the tree, and building nothing
 
 abbrev pub building : Making Tree Trees Pairs
 building = record {
@@ -221,7 +221,7 @@ skipping = record {
   entry = λ _ _ _. tt;
 }
 
--- the value of the format at the front of bytes, or the stop
+-- the value at the start of bytes, or the stop
 abbrev pub read_value : Entries → Bounds → Shape → List ℕ → Read Tree
 read_value registry limits s b = value_here building registry limits.depth s 0 limits.nodes b
 

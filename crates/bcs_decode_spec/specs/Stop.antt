@@ -1,4 +1,4 @@
--- What a reason is printed as.
+-- The names of reasons, as they are printed.
 use Rattle.std.specs.Prelude.{ℕ, List, codes}
 use Rattle.bcs_decode_spec.specs.declared.reason.Reason.{Reason}
 use Rattle.bcs_decode_spec.specs.declared.reason.Reason.TheVariants.{EndOfInput, BadBool, BadOption, LongForm, NumberTooLarge, LengthTooLarge, UnknownVariant, BadUtf8, KeyOrder, KeyRepeated, TooDeep, TrailingBytes, TooManyNodes, Unsupported}

@@ -1,18 +1,18 @@
-//! Why a source gives no value.
+//! Why decoding fails.
 
 use crate::stop::Stop;
 use thiserror::Error;
 
-/// Why no value was decoded. The message is the variant's name alone.
+/// Why no value was decoded. The message is the name of the variant.
 #[derive(Clone, Copy, Debug, Drop, PartialEq, Eq, Error)]
 pub enum DecodeFault {
-    /// The bytes stop being a value.
+    /// The bytes aren't a value: decoding stopped at this place, for this reason.
     #[error("Stop")]
     Stop(Stop),
     /// The source failed.
     #[error("Read")]
     Read,
-    /// Memory ran out.
+    /// An allocation failed.
     #[error("OutOfMemory")]
     OutOfMemory,
 }

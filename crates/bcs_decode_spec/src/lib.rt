@@ -1,4 +1,5 @@
-//! Which value bytes have, where and why bytes stop being one, and the one verdict: definitions and laws.
+//! Decoding: definitions of the value that bytes represent and of where and why they stop being one, and laws, for
+//! example that there is exactly one verdict.
 #![tactic(auto)]
 
 mod decode_fault;

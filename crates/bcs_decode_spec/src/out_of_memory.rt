@@ -1,4 +1,4 @@
-//! A refused growth is a fault of decoding.
+//! Allocation errors as decoding faults.
 
 use crate::decode_fault::DecodeFault;
 use std::alloc::{AllocError, AllocFailed};

@@ -1,39 +1,39 @@
-//! Why bytes are no value.
+//! Why bytes aren't a value.
 ghost use Rattle.std.specs.Prelude.{◌≡◌};
 ghost use Rattle.bcs_decode_spec.specs.Stop.{reason_name};
 
 use std::fmt;
 
-/// Why bytes are no value. It is printed as its name alone.
+/// Why bytes aren't a value. Each reason is printed as its name.
 #[derive(Clone, Copy, Debug, Drop, PartialEq, Eq)]
 pub enum Reason {
-    /// The bytes end within the value.
+    /// The bytes end inside the value.
     EndOfInput = 1,
-    /// A truth value's byte is above `01`.
+    /// The byte of a `BOOL` is above `01`.
     BadBool,
-    /// An option's byte is above `01`.
+    /// The tag byte of an option is above `01`.
     BadOption,
-    /// A shorter form of the ULEB128 number exists.
+    /// A ULEB128 number has a shorter form.
     LongForm,
-    /// The ULEB128 number is above 4294967295.
+    /// A ULEB128 number is above 4294967295.
     NumberTooLarge,
-    /// The length is above 2147483647.
+    /// A length is above 2147483647 (BCS specification).
     LengthTooLarge,
-    /// No variant has the number.
+    /// The enum has no variant with this number.
     UnknownVariant,
-    /// The text isn't UTF-8.
+    /// A string isn't valid UTF-8 (RFC 3629).
     BadUtf8,
-    /// The key's bytes are below those of the key before it.
+    /// A key is below the previous key, compared as bytes.
     KeyOrder,
-    /// The key's bytes are those of the key before it.
+    /// A key is equal to the previous key.
     KeyRepeated,
-    /// No further container may be open.
+    /// The limits don't allow another open container.
     TooDeep,
-    /// Bytes come after the value.
+    /// More bytes follow the value.
     TrailingBytes,
-    /// No further node may begin.
+    /// The limits don't allow another node.
     TooManyNodes,
-    /// No value has the format: it is `F32`, `F64` or `CHAR`.
+    /// The format has no values: it is `F32`, `F64` or `CHAR`.
     Unsupported,
 }
 

@@ -1,20 +1,20 @@
-//! Where reading stops.
+//! Where and why decoding stops.
 
 use crate::reason::Reason;
 
-/// The place at which bytes stop being a value, and why. The place counts bytes from the value's start:
+/// Where and why bytes stop being a value. The place is a byte offset from the start of the value:
 ///
-/// - `EndOfInput`: the input's length;
-/// - `BadBool`, `BadOption`: the byte;
+/// - `EndOfInput`: the length of the input;
+/// - `BadBool`, `BadOption`: the invalid byte;
 /// - `LongForm`, `NumberTooLarge`, `LengthTooLarge`, `UnknownVariant`: the first byte of the number;
-/// - `BadUtf8`: the text's first byte plus the length of its longest front that is UTF-8;
+/// - `BadUtf8`: the end of the longest valid prefix of the string;
 /// - `KeyOrder`, `KeyRepeated`: the first byte of the later key;
-/// - `TooDeep`, `TooManyNodes`, `Unsupported`: where the container, the node or the value would begin;
+/// - `TooDeep`, `TooManyNodes`, `Unsupported`: where the container, the node or the value would start;
 /// - `TrailingBytes`: the first byte after the value.
 #[derive(Clone, Copy, Debug, Drop, PartialEq, Eq)]
 pub struct Stop {
-    /// Why it stops.
+    /// Why decoding stopped.
     pub reason: Reason,
-    /// How many bytes come before the place.
+    /// The byte offset where it stopped.
     pub place: u64,
 }

@@ -4,10 +4,10 @@ use crate::formats::{place_of_name, place_of_word};
 use crate::no_json::{place_of_no_format_json, place_of_no_json};
 use crate::rules::place_of_rule;
 use crate::shapes::{place_of_format_shape, place_of_registry_shape};
-use crate::texts::place_of_text;
+use crate::texts::line_at;
 use crate::wholes::whole_line;
 use crate::wrong_text::WrongText;
-use bcs_json::JsonFault;
+use bcs_json::TextRefusal;
 use bcs_registry::{Format, Registry, RegistryFault};
 use bcs_value::Limits;
 use std::alloc::{AllocError, Global};
@@ -48,18 +48,19 @@ pub fn format_line(
     }
 }
 
-/// Where JSON of a value has this fault: in all of it, or at a location in it. `None` if memory runs out.
-pub fn text_line(
+/// Where the JSON document of a value is refused, and what was expected there. `None` if an allocation fails.
+pub fn refusal_line(
     alloc: Global,
     registry: &Registry,
     format: &Format,
     limits: &Limits,
     text: &[u8],
-    fault: JsonFault,
+    refusal: &TextRefusal,
 ) -> Option<Vec<u8>> {
-    match whole_line(alloc, limits, text, fault) {
-        Some(line) => Some(line),
-        None => place_of_text(alloc, registry, format, limits, text),
+    let fault = refusal.fault;
+    match &refusal.steps {
+        None => whole_line(alloc, limits, text, fault),
+        Some(steps) => line_at(alloc, registry, format, limits, text, (fault, steps)),
     }
 }
 

@@ -3,7 +3,6 @@
 use crate::content::Content;
 use bcs_json::JsonStep;
 use bcs_registry::{Format, Named, Registry};
-use serde_json::Value as Json;
 
 /// What is to stand at a place in JSON.
 #[derive(Clone, Copy)]
@@ -13,12 +12,11 @@ pub(crate) enum Target<'a> {
     Entry(&'a Format, &'a Format),
 }
 
-/// A place in JSON: how many containers may still open there, what is to stand there, and the JSON there.
+/// A place in JSON: how many containers may still open there, and what is expected there.
 #[derive(Clone, Copy)]
 pub(crate) struct Location<'a> {
     pub(crate) left: u32,
     pub(crate) target: Target<'a>,
-    pub(crate) json: &'a Json,
 }
 
 /// Where steps lead.
@@ -36,14 +34,10 @@ pub(crate) fn location_at<'a>(
 
 /// The same place behind names, each of which opens a container. `None`: no more may open.
 pub(crate) fn opened<'a>(registry: &'a Registry, location: Location<'a>) -> Option<Location<'a>> {
-    let Location {
-        mut target,
-        json,
-        ..
-    } = location;
+    let mut target = location.target;
     for left in (0..=location.left).rev() {
         let Target::Content(Content::One(Format::TypeName(name))) = target else {
-            return Some(Location { left, target, json });
+            return Some(Location { left, target });
         };
         let name = name.as_str();
         target = Target::Content(Content::of(name, registry.container(name)?));
@@ -54,22 +48,13 @@ pub(crate) fn opened<'a>(registry: &'a Registry, location: Location<'a>) -> Opti
 impl<'a> Location<'a> {
     /// Where a step leads, where no name stands.
     fn inside(self, registry: &Registry, step: &JsonStep) -> Option<Location<'a>> {
-        let (target, json) = match step {
-            JsonStep::Item(number) => {
-                let number = *number as usize;
-                (self.target.item(number)?, self.json.get(number)?)
-            }
-            JsonStep::Member(name) => {
-                (
-                    self.target.member(registry, name.as_str())?,
-                    self.json.get(name.as_str())?,
-                )
-            }
+        let target = match step {
+            JsonStep::Item(number) => self.target.item(*number as usize)?,
+            JsonStep::Member(name) => self.target.member(registry, name.as_str())?,
         };
         Some(Location {
             left: self.left,
             target,
-            json,
         })
     }
 }

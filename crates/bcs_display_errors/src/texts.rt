@@ -1,36 +1,36 @@
-//! Where a JSON text of a value is refused.
+//! Where the JSON document of a value is refused.
 
 use crate::content::Content;
 use crate::expectations::Expected;
+use crate::json_outline::json_outline;
 use crate::kinds::expectation;
 use crate::pointers::Pointer;
 use crate::targets::{Location, Target, location_at, opened};
-use bcs_json::{JsonStep, fault_place};
+use bcs_json::{JsonFault, JsonStep};
 use bcs_registry::{Format, Registry};
-use bcs_registry_json::read_json;
 use bcs_value::Limits;
 use serde_json::Value as Json;
 use std::alloc::{AllocError, Global};
 
-/// Where a JSON text of a value is refused by the tests that go through it with the format, and what was wanted there.
-pub fn place_of_text(
+/// The line for a document that is refused with this fault at the end of these steps, and what was expected there.
+pub(crate) fn line_at(
     alloc: Global,
     registry: &Registry,
     format: &Format,
     limits: &Limits,
     text: &[u8],
+    (fault, steps): (JsonFault, &[JsonStep]),
 ) -> Option<Vec<u8>> {
-    let (fault, steps) = fault_place(alloc, registry, format, limits, text)?;
-    let json = read_json(alloc, text).ok()?;
-    let pointer = Pointer(&steps);
-    let line = match expectation_at(alloc, registry, format, limits, &json, &steps).ok()? {
+    let json = json_outline(alloc, text, steps)?;
+    let pointer = Pointer(steps);
+    let line = match expectation_at(alloc, registry, format, limits, &json, steps).ok()? {
         Some(expectation) => format!(in alloc; "at {pointer}: {fault}: {expectation}"),
         None => format!(in alloc; "at {pointer}: {fault}"),
     };
     Some(line.ok()?.into_bytes())
 }
 
-// What is wanted where the steps lead.
+// What is expected at the end of the steps, where this JSON is.
 fn expectation_at<'a>(
     alloc: Global,
     registry: &'a Registry,
@@ -42,13 +42,12 @@ fn expectation_at<'a>(
     let whole = Location {
         left: limits.depth(),
         target: Target::Content(Content::One(format)),
-        json,
     };
     let Some(place) = location_at(registry, whole, steps) else {
         return Ok(None);
     };
     match opened(registry, place) {
-        Some(location) => expectation(alloc, registry, location.target, location.json),
+        Some(location) => expectation(alloc, registry, location.target, json),
         None => Ok(Some(Expected::Words("more containers are open than allowed"))),
     }
 }

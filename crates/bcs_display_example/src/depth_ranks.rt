@@ -1,13 +1,12 @@
-//! The ranks of containers, found in rounds.
+//! Finds the least examples of containers in rounds.
 
 use crate::least_examples::LeastExamples;
 use crate::needed::Entry;
 use crate::node_counts::least_of_container;
 use std::alloc::{AllocError, Global};
 
-/// The ranks of the containers, if at most so many are open at once. In each round a container gets its rank if those of
-/// the rounds before are enough, so that one found later opens more containers. Where a round finds none, no later one
-/// does.
+/// Finds the least examples that open at most `depth` containers at once. Round N uses only containers found in earlier
+/// rounds, so what it finds opens exactly N containers inside itself. If a round finds none, no later one will.
 pub(crate) fn find_least_examples<'r>(
     alloc: Global,
     containers: Vec<Entry<'r>>,
@@ -25,7 +24,7 @@ pub(crate) fn find_least_examples<'r>(
     Ok(least_examples)
 }
 
-/// Gives ranks to the containers that those of the rounds before are enough for, and hands back the others.
+/// Finds the containers for which the earlier rounds suffice, and returns the others.
 fn run_round<'r>(
     alloc: Global,
     waiting: &[Entry<'r>],

@@ -15,12 +15,12 @@ use bcs_registry::{Format, Registry};
 use bcs_value::{Limits, Value};
 use std::alloc::Global;
 
-/// The example of the format: a value that opens as few containers at once as any, ready to be filled in. Options are
-/// absent, lists, maps, texts and byte strings empty, numbers 0 and truths false. Of an enum it has the variant of the
-/// least number among those whose examples open the fewest containers.
+/// Returns the example of `format`: a value that opens as few containers at once as possible, for you to fill in.
+/// Options are absent; lists, maps, strings and byte strings are empty; numbers are 0 and booleans are false. An enum
+/// has the variant with the least number among those whose examples open the fewest containers.
 ///
-/// `NoValue`: no value of the format keeps to the limits' depth. `TooManyNodes`: the example has more nodes than the
-/// limits allow.
+/// `NoValue`: no value of the format is within the depth limit. `TooManyNodes`: the example has more nodes than the
+/// limits allow. `OutOfMemory`: an allocation failed.
 pub fn example_value(
     alloc: Global,
     registry: &Registry,
@@ -37,16 +37,16 @@ pub fn example_value(
     Ok(example_with(alloc, registry, format, &example_options, limits)?)
 }
 
-/// The example of the format that is wished for, ready to be filled in.
+/// Returns the requested example of `format`, for you to fill in.
 ///
-/// With the name of a variant, the format is the name of an enum, and the value has this variant, round the example of what
-/// it carries; else it is the example of the format. Both are least, as `example_value` gives them, or full: each option,
-/// list and map has one element, where there is one, but a container that stands in itself is the least one there, so that
-/// the value comes to an end. In a full example an enum has the first variant that has a value.
+/// If `variant` is set, the format must be the name of an enum; the value then has this variant, with an example as
+/// payload. The form is `Least`, as in `example_value`, or `Full`: each option, list and map has one element if one
+/// exists, and an enum has the first variant that has a value. In a full example, a container inside itself is the
+/// least one, so that the value is finite.
 ///
-/// `UnknownVariant`: the format isn't the name of an enum that has a variant of this name. `NoValue`: no value of the
-/// format, or none that has the variant, keeps to the limits' depth. `TooManyNodes`: there is one, and what is wished for
-/// has more nodes than the limits allow.
+/// `UnknownVariant`: the format isn't the name of an enum that has this variant. `NoValue`: no value of the format
+/// (with this variant) is within the depth limit. `TooManyNodes`: the example has more nodes than the limits allow.
+/// `OutOfMemory`: an allocation failed.
 pub fn example_with(
     alloc: Global,
     registry: &Registry,
@@ -58,7 +58,7 @@ pub fn example_with(
     ensures canonical { IfOk result (λ v. IsCanonical registry.now (tree_of v) (of (shape_of format.now))) }
 {
     let made = make_wished(alloc, registry, format, example_options, limits)?;
-    // The encoder validates what was made, and what its bytes decode to is sound and canonical.
+    // The encoder validates the value, and decoding its bytes gives a value that is sound and canonical.
     let bytes = encode(alloc, registry, format, limits, &made)?;
     drop(made);
     Ok(decode_encoded(alloc, registry, format, limits, &bytes)?)

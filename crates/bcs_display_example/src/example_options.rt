@@ -1,19 +1,19 @@
-//! What may be wished of an example.
+//! The options for an example.
 
-/// What stands in the options, lists and maps of an example.
+/// What the options, lists and maps of an example contain.
 #[derive(Clone, Copy, Debug, PartialEq, Eq)]
 pub enum ExampleForm {
-    /// Nothing: options are absent, lists and maps empty.
+    /// Nothing: options are absent, lists and maps are empty.
     Least,
-    /// One element each, where there is one.
+    /// One element each, if one exists.
     Full,
 }
 
-/// Which example of a format is wished for.
+/// Which example of a format to build.
 #[derive(Clone, Copy, Debug)]
 pub struct ExampleOptions<'a> {
-    /// The name of the variant that it has; the format is then the name of an enum.
+    /// The variant that the value must have, if any. The format must then be the name of an enum.
     pub variant: Option<&'a str>,
-    /// What stands in its options, lists and maps.
+    /// What its options, lists and maps contain.
     pub form: ExampleForm,
 }

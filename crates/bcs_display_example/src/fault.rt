@@ -1,17 +1,17 @@
-//! Why no example is given.
+//! Why there is no example.
 
 use bcs_encode::EncodeFault;
 use std::alloc::AllocError;
 use thiserror::Error;
 
-/// Why no example of a format is given. The message of each is its name.
+/// Why a format has no example. The message of each fault is its name.
 #[derive(Clone, Copy, Debug, PartialEq, Eq, Error)]
 pub enum ExampleFault {
-    /// No value of the format opens as few containers at once as the limits ask: a container can't do without itself,
-    /// an enum has no variants, or `F32`, `F64` or `CHAR` stands where no way goes round it.
+    /// No value of the format is within the depth limit: a container always contains itself, an enum has no variants,
+    /// or `F32`, `F64` or `CHAR` can't be avoided.
     #[error("NoValue")]
     NoValue,
-    /// There is a value, and the example has more nodes than the limits allow.
+    /// The example has more nodes than the limits allow.
     #[error("TooManyNodes")]
     TooManyNodes,
     /// Memory ran out.
@@ -22,7 +22,7 @@ pub enum ExampleFault {
 impl From<ExampleOptionsFault> for ExampleFault {
     fn from(fault: ExampleOptionsFault) -> Self {
         match fault {
-            // No variant is asked for where this is called.
+            // The caller requested no variant.
             ExampleOptionsFault::UnknownVariant | ExampleOptionsFault::NoValue =>
                 ExampleFault::NoValue,
             ExampleOptionsFault::TooManyNodes => ExampleFault::TooManyNodes,
@@ -31,15 +31,15 @@ impl From<ExampleOptionsFault> for ExampleFault {
     }
 }
 
-/// Why an example that is wished for isn't given. The message of each is its name.
+/// Why there is no example with these options. The message of each fault is its name.
 #[derive(Clone, Copy, Debug, PartialEq, Eq, Error)]
 #[error("{}", self.name())]
 pub enum ExampleOptionsFault {
-    /// The format isn't the name of an enum that has a variant of the name that is asked for.
+    /// The format isn't the name of an enum that has the requested variant.
     UnknownVariant,
-    /// No value of the format, or none that has the variant, opens as few containers at once as the limits ask.
+    /// No value of the format (with the requested variant) is within the depth limit.
     NoValue,
-    /// There is a value, and what is wished for has more nodes than the limits allow.
+    /// The example has more nodes than the limits allow.
     TooManyNodes,
     /// Memory ran out.
     OutOfMemory,
@@ -63,7 +63,7 @@ impl From<AllocError> for ExampleOptionsFault {
     }
 }
 
-/// What the encoder says of a value that isn't sound. Examples are, so only memory runs out.
+/// Examples are sound, so encoding one fails only if memory runs out.
 impl From<EncodeFault> for ExampleOptionsFault {
     fn from(fault: EncodeFault) -> Self {
         match fault {
@@ -77,13 +77,13 @@ impl From<EncodeFault> for ExampleOptionsFault {
     }
 }
 
-/// Why no text of an example is given. The message of each is its name.
+/// Why an example has no JSON. The message of each fault is its name.
 #[derive(Clone, Copy, Debug, PartialEq, Eq, Error)]
 #[error("{}", self.name())]
 pub enum ExampleTextFault {
-    /// There is no such example, or it is too large, or memory ran out.
+    /// There is no such example, it is too large, or memory ran out.
     Options(ExampleOptionsFault),
-    /// There is one, and the arrays and objects of its text would nest more than 100 deep.
+    /// The JSON of the example would nest arrays and objects more than 100 deep.
     TooNested,
 }
 

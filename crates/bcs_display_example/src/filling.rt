@@ -1,4 +1,4 @@
-//! Making examples, each in the caller's slot: so a level of a deep one needs little of the stack.
+//! Builds each example in the caller's slot, to keep stack frames small.
 ghost use Rattle.std.specs.Prelude.{◌≤◌};
 
 use crate::example_options::ExampleForm;
@@ -16,7 +16,7 @@ use bcs_value_model::slot::{
 };
 use std::alloc::{AllocError, Global};
 
-/// What examples are made by.
+/// The inputs for building examples.
 #[derive(Clone, Copy)]
 pub(crate) struct Maker<'a, 'r> {
     pub(crate) alloc: Global,
@@ -25,14 +25,14 @@ pub(crate) struct Maker<'a, 'r> {
 }
 
 impl<'a, 'r> Maker<'a, 'r> {
-    /// Whether one element stands in an option, a list or a map there.
+    /// Whether an option, list or map with this element format has an element in this place.
     fn has_element(&self, format: &Format, place: Place<'_, 'r>) -> bool {
         place.form == ExampleForm::Full
             && format_nodes(format, self.least_examples, place.depth).is_some()
     }
 
-    /// In which form the container of this name is made there. Where it is open already, it is the least one, whose nodes
-    /// are validated before anything of it is made: so a full example comes to an end.
+    /// The form of the container in this place. A container that is already open gets its least example, so that a full
+    /// example is finite. Its nodes are checked before it is built.
     fn form_of(
         &self,
         name: &str,
@@ -49,7 +49,7 @@ impl<'a, 'r> Maker<'a, 'r> {
         Ok(place.form)
     }
 
-    /// What stands in the container of this name, and how many may be open at once inside it.
+    /// The contents of the container, and how many containers may be open at once inside it.
     fn enter(&self, name: &str, form: ExampleForm, depth: u32) -> Option<(Content<'r>, u32)> {
         match form {
             ExampleForm::Least => {
@@ -65,10 +65,10 @@ impl<'a, 'r> Maker<'a, 'r> {
     }
 }
 
-/// Makes the example of the format, and takes its nodes from those that are left.
+/// Builds the example of `format` in `slot`, and subtracts its nodes from `left`.
 ///
-/// `TooManyNodes`: it has more than are left. It comes when they are used up, so the memory for as many may have been
-/// asked for. The slot then holds any value.
+/// `TooManyNodes`: it has more nodes than `left`. This is found only while building, so memory for up to that many
+/// nodes may have been allocated. The slot then contains any value.
 #[cycle(filling)]
 fn fill<'r>(
     maker: &Maker<'_, 'r>,
@@ -102,7 +102,7 @@ fn fill<'r>(
     }
 }
 
-/// The value of the format without parts: numbers 0, truths false, options absent, and all else empty.
+/// The value without parts: 0, false, absent, or empty.
 #[inline(never)]
 fn put_empty(alloc: Global, format: &Format, slot: &mut Value) -> Result<(), ExampleOptionsFault> {
     *slot = match format.kind() {
@@ -137,7 +137,7 @@ fn fill_option<'r>(
     Ok(wrap_present(maker.alloc, slot)?)
 }
 
-/// The list or array in which the element stands so many times. Its nodes are validated before it is copied.
+/// Builds a list or array with `size` copies of one element. The nodes of all copies are charged before any is made.
 #[cycle(filling)]
 fn fill_copies<'r>(
     maker: &Maker<'_, 'r>,
@@ -156,7 +156,7 @@ fn fill_copies<'r>(
     Ok(repeat(maker.alloc, size, slot)?)
 }
 
-/// Puts so many times what is in the slot into it.
+/// Replaces the value in `slot` by a list of `count` copies of it.
 #[inline(never)]
 fn repeat(alloc: Global, count: u64, slot: &mut Value) -> Result<(), AllocError> {
     let mut row = Vec::with_capacity(alloc, count as usize)?;
@@ -168,7 +168,7 @@ fn repeat(alloc: Global, count: u64, slot: &mut Value) -> Result<(), AllocError>
     Ok(())
 }
 
-/// The map of one entry.
+/// Builds a map with one entry.
 #[cycle(filling)]
 fn fill_entry<'r>(
     maker: &Maker<'_, 'r>,
@@ -235,7 +235,7 @@ fn fill_fields<'r>(
     Ok(())
 }
 
-/// The same of a part.
+/// Like `fill`, for a part.
 #[cycle(filling)]
 pub(crate) fn fill_part<'r>(
     maker: &Maker<'_, 'r>,
@@ -258,7 +258,7 @@ pub(crate) fn fill_part<'r>(
     }
 }
 
-/// The same of the container of this name.
+/// Like `fill`, for a container.
 #[cycle(filling)]
 fn fill_named<'r>(
     maker: &Maker<'_, 'r>,

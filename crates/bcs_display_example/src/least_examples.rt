@@ -1,35 +1,33 @@
-//! What is known of containers' least examples.
+//! The least examples of containers.
 
 use crate::part::Content;
 use std::alloc::{AllocError, Global};
 use std::collections::BTreeMap;
 
-/// What the least example of a container is like.
+/// The least example of a container.
 #[derive(Clone, Copy)]
 pub(crate) struct LeastExample<'r> {
-    /// How many containers are open at once inside this one.
+    /// How many containers it opens at once inside this one.
     pub(crate) below: u32,
-    /// How many nodes it has, or 18446744073709551615 where they are more.
+    /// Its number of nodes, which saturates at 18446744073709551615.
     pub(crate) nodes: u64,
-    /// What it has in it.
     pub(crate) content: Content<'r>,
 }
 
-/// The ranks of containers by name.
+/// The least examples by container name.
 #[derive(Drop)]
 pub(crate) struct LeastExamples<'r> {
     found: BTreeMap<&'r str, LeastExample<'r>>,
 }
 
 impl<'r> LeastExamples<'r> {
-    /// No ranks.
     pub(crate) fn new(alloc: Global) -> LeastExamples<'r> {
         LeastExamples {
             found: BTreeMap::new(alloc),
         }
     }
 
-    /// The rank of the container of this name, if at most so many containers are open at once, itself included.
+    /// The least example of a container, if it opens at most `depth` containers at once, itself included.
     pub(crate) fn within(&self, name: &str, depth: u32) -> Option<LeastExample<'r>> {
         match self.found.get(name) {
             Some(least) if least.below < depth => Some(*least),
@@ -37,7 +35,6 @@ impl<'r> LeastExamples<'r> {
         }
     }
 
-    /// Puts a container's rank.
     pub(crate) fn put(&mut self, name: &'r str, least: LeastExample<'r>) -> Result<(), AllocError> {
         self.found.insert(name, least)?;
         Ok(())

@@ -1,4 +1,4 @@
-//! Examples of formats: a sound value of each, and its text, ready to be filled in.
+//! Examples of formats: a sound value for each, and its JSON, for you to fill in.
 #![tactic(auto)]
 
 mod depth_ranks;

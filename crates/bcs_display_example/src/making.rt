@@ -1,4 +1,4 @@
-//! The example that is wished for.
+//! Builds the requested example.
 
 use crate::depth_ranks::find_least_examples;
 use crate::example_options::{ExampleForm, ExampleOptions};
@@ -13,10 +13,10 @@ use bcs_value::{Limits, Value};
 use bcs_value_model::slot::{wrap_named, wrap_variant};
 use std::alloc::Global;
 
-/// The nodes of a container and of the variant in it, without those of what the variant carries.
+/// The nodes of an enum and its variant, without the payload.
 const NODES_AROUND: u32 = 2;
 
-/// Makes the example that is wished for.
+/// Builds the requested example.
 pub(crate) fn make_wished<'r>(
     alloc: Global,
     registry: &'r Registry,
@@ -38,7 +38,7 @@ pub(crate) fn make_wished<'r>(
     make_variant(alloc, registry, chosen, example_options.form, limits)
 }
 
-/// Makes the variant, round the example of what it carries.
+/// Builds the variant with an example as payload.
 fn make_variant<'r>(
     alloc: Global,
     registry: &'r Registry,
@@ -67,13 +67,12 @@ fn make_variant<'r>(
 /// A variant of an enum.
 #[derive(Clone, Copy)]
 struct Chosen<'r> {
-    /// The name of the enum.
     name: &'r str,
     number: u32,
     payload: &'r VariantFormat,
 }
 
-/// The variant of this name, if the format is the name of an enum that has it.
+/// Looks up the variant, if the format is the name of an enum that has it.
 fn find_variant<'r>(registry: &'r Registry, format: &'r Format, word: &str) -> Option<Chosen<'r>> {
     let Format::TypeName(name) = format else {
         return None;
@@ -92,7 +91,8 @@ fn find_variant<'r>(registry: &'r Registry, format: &'r Format, word: &str) -> O
     }
 }
 
-/// Makes the example of the part there, if it has no more nodes than these. A least one is validated before anything is made.
+/// Builds the example of `part` if it has at most `nodes` nodes. For a least example this is checked before anything is
+/// built.
 fn make<'r>(
     alloc: Global,
     registry: &'r Registry,

@@ -1,4 +1,4 @@
-//! The containers that an example may open.
+//! Finds the containers that an example may open.
 
 use crate::part::Part;
 use bcs_registry::{Container, Registry};
@@ -8,7 +8,7 @@ use bcs_registry_model::mentions::{
 use std::alloc::{AllocError, Global};
 use std::collections::BTreeSet;
 
-/// A container with its name, so that it is looked up once.
+/// A container and its name, so that it is looked up once.
 #[derive(Clone, Copy)]
 pub(crate) struct Entry<'r> {
     pub(crate) name: &'r str,
@@ -28,7 +28,8 @@ pub(crate) fn all_containers(
     Ok(entries)
 }
 
-/// The containers that a value of the part can't do without. What stands only in options, lists and maps isn't among them.
+/// The containers that every value of the part must contain, and those that they mention in turn. Mentions inside
+/// options, lists and maps don't count.
 pub(crate) fn needed_containers<'r>(
     alloc: Global,
     registry: &'r Registry,
@@ -52,7 +53,7 @@ pub(crate) fn needed_containers<'r>(
     Ok(needed.in_order)
 }
 
-/// Containers of the registry, each once, in the order in which they came.
+/// Containers of the registry without duplicates, in the order in which they were found.
 #[derive(Drop)]
 struct Needed<'r> {
     registry: &'r Registry,

@@ -1,9 +1,9 @@
-//! The nodes that an example may have, as they are spent.
+//! The node budget of an example.
 ghost use Rattle.std.specs.Prelude.{◌≡◌, ◌+◌, ◌≤◌, OnOk};
 
 use crate::fault::ExampleOptionsFault;
 
-/// Spends so many nodes, if so many are left.
+/// Subtracts `count` nodes from the budget. Fails if fewer are left.
 pub(crate) fn spend(count: u64, left: &mut u32) -> Result<(), ExampleOptionsFault>
     ensures spent { OnOk result (left.old ≡ left.new + count) }
     ensures fewer { left.new ≤ left.old }
@@ -17,8 +17,7 @@ pub(crate) fn spend(count: u64, left: &mut u32) -> Result<(), ExampleOptionsFaul
     }
 }
 
-/// Spends the nodes of the other copies of an element, when those of one are spent: as many as were left before, less what
-/// is left now.
+/// Charges the remaining copies of an element, after its first copy has been charged. One copy costs `before - left`.
 pub(crate) fn spend_copies(
     before: u32,
     copies: u64,

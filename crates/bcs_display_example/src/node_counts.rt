@@ -1,4 +1,4 @@
-//! How many nodes least examples have, from what is known of containers.
+//! Counts the nodes of least examples, given those of the containers.
 
 use crate::least_examples::{LeastExample, LeastExamples};
 use crate::part::{Content, Part, payload_part};
@@ -6,8 +6,8 @@ use bcs_registry::{Container, Format, Named, VariantFormat};
 use bcs_registry_model::{Kind, Scalar};
 use std::collections::BTreeMap;
 
-/// The nodes of the format's least example, or 18446744073709551615 where they are more. `None`: there is none in which at
-/// most so many containers are open at once.
+/// The number of nodes of the least example of `format`, which saturates at 18446744073709551615. Returns `None` if
+/// `least_examples` yields none with at most `depth` containers open at once.
 #[cycle(node_counts)]
 pub(crate) fn format_nodes(
     format: &Format,
@@ -51,7 +51,7 @@ fn fields_nodes(
     Some(total)
 }
 
-/// The same of a part.
+/// Like `format_nodes`, for a part.
 pub(crate) fn part_nodes(
     part: Part<'_>,
     least_examples: &LeastExamples<'_>,
@@ -65,7 +65,7 @@ pub(crate) fn part_nodes(
     }
 }
 
-/// What an example of the container has in it: of an enum the first variant that has an example.
+/// The contents of an example of the container. An enum has its first variant that has an example.
 pub(crate) fn content_of<'r>(
     container: &'r Container,
     least_examples: &LeastExamples<'r>,
@@ -101,7 +101,8 @@ fn first_variant<'r>(
     None
 }
 
-/// The rank of the container, if those that are known are enough, in which at most so many containers are open at once.
+/// The least example of a container with at most `depth` containers open inside it, if `least_examples` suffices to
+/// find it.
 pub(crate) fn least_of_container<'r>(
     container: &'r Container,
     least_examples: &LeastExamples<'r>,

@@ -1,9 +1,9 @@
-//! What an example is made of.
+//! The parts of an example.
 ghost use Rattle.std.specs.Prelude.{◌<◌};
 
 use bcs_registry::{Format, Named, VariantFormat};
 
-/// What stands in a container, or what a variant carries, or a format by itself.
+/// The contents of a container, the payload of a variant, or a single format.
 #[derive(Clone, Copy)]
 pub(crate) enum Part<'r> {
     Nothing,
@@ -12,17 +12,17 @@ pub(crate) enum Part<'r> {
     Fields(&'r [Named<Format>]),
 }
 
-/// What the example of a container has in it.
+/// The contents of a container's example.
 #[derive(Clone, Copy)]
 pub(crate) struct Content<'r> {
-    /// Of an enum the number of the variant.
+    /// The number of the variant, if the container is an enum.
     pub(crate) variant: Option<u32>,
-    /// What stands in the container, or in the variant.
+    /// The contents of the container or of the variant.
     pub(crate) part: Part<'r>,
 }
 
 impl Content<'_> {
-    /// The nodes round the part: the container's, and the variant's.
+    /// The number of nodes around the part: the container, and the variant of an enum.
     pub(crate) fn nodes_around(self) -> u32
         ensures { 0 < result }
     {
@@ -33,7 +33,7 @@ impl Content<'_> {
     }
 }
 
-/// What a variant carries.
+/// The payload of a variant, as a part.
 pub(crate) fn payload_part(payload: &VariantFormat) -> Part<'_> {
     match payload {
         VariantFormat::Unit => Part::Nothing,

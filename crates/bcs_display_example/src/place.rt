@@ -1,36 +1,34 @@
-//! Where a part of an example stands.
+//! The context in which a part of an example is built.
 
 use crate::example_options::ExampleForm;
 
-/// The names of the containers that are open, the innermost first. They stand on the stack, so they take no memory.
+/// The names of the open containers, innermost first: a list linked through stack frames, without allocation.
 #[derive(Clone, Copy)]
 pub(crate) enum Opened<'t, 'r> {
     Nothing,
     Within(&'r str, &'t Opened<'t, 'r>),
 }
 
-/// Where a part of an example stands.
+/// The context in which a part of an example is built.
 #[derive(Clone, Copy)]
 pub(crate) struct Place<'t, 'r> {
-    /// What stands in options, lists and maps there.
+    /// What options, lists and maps contain.
     pub(crate) form: ExampleForm,
-    /// How many containers may be open at once in it.
+    /// The number of containers that may be open at once inside the part.
     pub(crate) depth: u32,
-    /// Those that are open round it.
+    /// The containers that are open around the part.
     pub(crate) opened: &'t Opened<'t, 'r>,
 }
 
-/// No container is open.
 pub(crate) fn nothing_opened<'t, 'r>() -> Opened<'t, 'r> {
     Opened::Nothing
 }
 
-/// The container of this name is open too, within those that are.
+/// Adds an open container inside the others.
 pub(crate) fn opened_within<'t, 'r>(name: &'r str, outer: &'t Opened<'t, 'r>) -> Opened<'t, 'r> {
     Opened::Within(name, outer)
 }
 
-/// Whether the container of this name is open.
 pub(crate) fn is_opened(name: &str, opened: &Opened<'_, '_>) -> bool {
     match opened {
         Opened::Nothing => false,

@@ -1,4 +1,4 @@
-//! Examples as texts.
+//! Examples as JSON.
 ghost use Rattle.std.specs.Prelude.{IfOk, string_bytes};
 ghost use Rattle.bcs_registry_model.specs.View.{shape_of};
 ghost use Rattle.bcs_value_model.specs.Tree.{Tree};
@@ -14,10 +14,10 @@ use bcs_registry_json::NESTING_LIMIT;
 use bcs_value::Limits;
 use std::alloc::Global;
 
-/// The compact JSON text of the example of the format that the wish asks for, ready to be filled in.
+/// Returns the requested example of `format` as compact JSON, for you to fill in.
 ///
-/// `Options`: there is no such example, or it has more nodes than the limits allow. `TooNested`: there is one, and the arrays
-/// and objects of its text would nest more than 100 deep.
+/// `Options`: there is no such example, or it has more nodes than the limits allow, or memory ran out. `TooNested`: its
+/// JSON would nest arrays and objects more than 100 deep.
 pub fn example_text(
     alloc: Global,
     registry: &Registry,

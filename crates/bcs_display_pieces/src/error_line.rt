@@ -1,4 +1,4 @@
-//! The line of the bytes that are no pieces, and why.
+//! The line for the bytes that don't decode, and the reason.
 
 use crate::halt::Halt;
 use crate::lines::{MEANING_WIDTH, PLACE_WIDTH, put_first_row};
@@ -9,11 +9,11 @@ use bcs_display_text::style::{Form, Style};
 use bcs_explain::Stop;
 use std::alloc::AllocError;
 
-// Red and bold.
+// Bold red.
 const DAMAGE_COLOR: &str = "1;31";
 
-/// Appends the first ones of the bytes, which stand at a place, why they are no value, what would have been right and the
-/// way to it, and how many come after them.
+/// Appends the line for the invalid bytes `rest`, which start at offset `place`: the first of them, the reason, what
+/// was expected and the field path. A second line counts the bytes that aren't shown.
 pub(crate) fn put_error(
     style: Style,
     place: u64,
@@ -45,7 +45,7 @@ fn put_mark(stop: Stop, halt: &Halt, out: &mut Vec<u8>) -> Result<(), AllocError
     out.extend_from_slice(&halt.expected)
 }
 
-// How many bytes are left out, on a line of its own where there are any.
+// Appends a line with the number of bytes that aren't shown, if there are any.
 fn put_left_out(count: usize, out: &mut Vec<u8>) -> Result<(), AllocError> {
     if count == 0 {
         return Ok(());

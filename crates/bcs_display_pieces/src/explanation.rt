@@ -1,4 +1,4 @@
-//! What is printed of bytes.
+//! The output of `bcs explain`.
 ghost use Rattle.std.specs.Prelude.{IfOk};
 ghost use Rattle.bcs_registry_model.specs.View.{shape_of};
 ghost use Rattle.bcs_registry_model.specs.WellFormed.{Admits};
@@ -12,17 +12,17 @@ use bcs_registry::{Format, Registry};
 use bcs_value::Limits;
 use std::alloc::{AllocError, Global};
 
-/// What is printed of bytes, and where they stop being a value.
+/// The printed pieces, and where the bytes stop being a value.
 #[derive(Debug, Drop)]
 pub struct Explanation {
-    /// A line for each piece, and the damage where there is one.
+    /// One line per piece, followed by the error line if the bytes are invalid.
     pub text: Vec<u8>,
-    /// `None` where the bytes are a value's.
+    /// The byte offset and the reason, or `None` if the bytes encode a value.
     pub stop: Option<Stop>,
 }
 
-/// The pieces of the value that these bytes are, a line each. Where they aren't one, the pieces before they stop being a
-/// value, and then the first ones of the bytes that are left.
+/// Prints the pieces of the value that `bytes` encodes, one per line. If the bytes are invalid, prints the pieces
+/// before the stop, and then the error line. Fails only if memory runs out.
 pub fn explain_text(
     alloc: Global,
     registry: &Registry,

@@ -1,4 +1,4 @@
-//! Where bytes stop, as it is printed: what would have been right there, and the way to it.
+//! What is printed about a stop: the expected item and the field path.
 
 use crate::meaning::{counted_word, put_bits, put_octets, put_quantity};
 use crate::steps::{put_field_path, put_path};
@@ -6,19 +6,19 @@ use bcs_display_text::escaping::put_escaped;
 use bcs_explain::{Expected, Trail};
 use std::alloc::{AllocError, Global};
 
-/// The texts of a stop.
+/// The texts that describe a stop.
 #[derive(Drop)]
 pub(crate) struct Halt {
-    /// What would have been right there.
+    /// What was expected there.
     pub expected: Vec<u8>,
-    /// The way to it, in names.
+    /// The field path, by names.
     pub way: Vec<u8>,
-    /// The word PATH along it.
+    /// The PATH argument for the same position, or `-` if there is none.
     pub path: Vec<u8>,
 }
 
 impl Halt {
-    /// The first byte behind a whole value. It is where bytes stop unless a listener is told of another place.
+    /// The stop directly after a whole value. It applies unless the listener receives another one.
     pub(crate) fn at_end(alloc: Global) -> Result<Halt, AllocError> {
         Ok(Halt {
             expected: Vec::from_slice(alloc, b"the end")?,
@@ -27,7 +27,7 @@ impl Halt {
         })
     }
 
-    /// Where the trail leads.
+    /// The stop at the position that `trail` leads to.
     pub(crate) fn at(
         alloc: Global,
         trail: &Trail<'_, '_, '_>,

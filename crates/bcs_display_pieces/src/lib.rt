@@ -1,4 +1,4 @@
-//! What is printed of a value's bytes, piece by piece, and of where bytes stop being one.
+//! Prints the encoding of a value piece by piece, and where invalid bytes stop being a value.
 #![tactic(auto)]
 
 mod error_line;

@@ -1,4 +1,4 @@
-//! Lines in columns: a place, the bytes there, what they are, and the way to them.
+//! Lines in columns: the byte offset, the bytes, their meaning and the field path.
 
 use crate::meaning::put_meaning;
 use crate::steps::{put_branch, put_field_path, put_path};
@@ -8,7 +8,7 @@ use bcs_display_text::style::{Form, Paint, Style};
 use bcs_explain::{Meaning, Trail};
 use std::alloc::AllocError;
 
-/// How many bytes stand on a line.
+/// The number of bytes per line.
 const ROW_SIZE: usize = 32;
 
 pub(crate) const PLACE_WIDTH: usize = 6;
@@ -20,7 +20,7 @@ pub(crate) const MEANING_WIDTH: usize = 30;
 // Cyan.
 const PLACE_COLOR: &str = "36";
 
-/// Appends the lines of a piece: one, and more where its bytes are more than stand on one.
+/// Appends the line of a piece, and more lines if it has more than `ROW_SIZE` bytes.
 pub(crate) fn put_lines(
     style: Style,
     place: u64,
@@ -39,8 +39,7 @@ pub(crate) fn put_lines(
     put_more_rows(style.paint, place, rest, out)
 }
 
-/// Appends up to so many first ones of the bytes that stand on a line, behind their place and in a column, and answers
-/// those that are left.
+/// Appends the offset and the first `ROW_SIZE` bytes as a padded column, and returns the bytes that are left.
 pub(crate) fn put_first_row<'a>(
     paint: Paint,
     place: u64,
@@ -55,7 +54,7 @@ pub(crate) fn put_first_row<'a>(
     Ok(rest)
 }
 
-// The bytes behind a whole row that stands at the place.
+// Appends `rest`, the bytes after the first row, which starts at `place`.
 fn put_more_rows(
     paint: Paint,
     mut place: u64,
@@ -63,7 +62,7 @@ fn put_more_rows(
     out: &mut Vec<u8>,
 ) -> Result<(), AllocError> {
     for row in rest.chunks(ROW_SIZE) {
-        // Places of bytes are below 2^64, so this never wraps.
+        // This never wraps: byte offsets are below 2^64.
         place = place.wrapping_add(ROW_SIZE as u64);
         put_spot(paint, place, out)?;
         put_hex(row, out)?;
@@ -91,7 +90,7 @@ fn put_led(form: Form, trail: &Trail<'_, '_, '_>, out: &mut Vec<u8>) -> Result<(
     }
 }
 
-// Lengths are yellow, options and variants magenta, and the rest is green.
+// Yellow for lengths, magenta for options and variants, green for everything else.
 fn color_of(meaning: Meaning<'_>) -> &'static str {
     match meaning {
         Meaning::Length(_, _) => "33",

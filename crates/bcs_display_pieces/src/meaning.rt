@@ -1,4 +1,4 @@
-//! What a piece is, in words.
+//! The meaning of a piece, in words.
 
 use crate::steps::container_name;
 use bcs_display_text::columns::{put_decimal, put_signed};
@@ -6,7 +6,7 @@ use bcs_display_text::escaping::put_escaped;
 use bcs_explain::{Counted, Meaning, Trail};
 use std::alloc::AllocError;
 
-/// Appends what a piece of so many bytes is, where the trail leads to it.
+/// Appends the meaning of a piece of `size` bytes at the end of `trail`.
 pub(crate) fn put_meaning(
     trail: &Trail<'_, '_, '_>,
     size: usize,
@@ -40,7 +40,7 @@ pub(crate) fn put_meaning(
     }
 }
 
-/// Appends its format alone, or the names of its container and its variant.
+/// Appends only the format of a piece, or the names of its container and variant.
 pub(crate) fn put_format(
     trail: &Trail<'_, '_, '_>,
     size: usize,
@@ -60,19 +60,19 @@ pub(crate) fn put_format(
     }
 }
 
-/// The format of a number of so many bytes.
+/// Appends the format of an integer of `size` bytes: `letter` and the number of bits.
 pub(crate) fn put_bits(letter: u8, size: usize, out: &mut Vec<u8>) -> Result<(), AllocError> {
     out.push(letter)?;
     put_decimal(8 * size as u128, out)
 }
 
-/// So many `U8` in a row.
+/// Appends the format of `count` consecutive `U8`.
 pub(crate) fn put_octets(count: u64, out: &mut Vec<u8>) -> Result<(), AllocError> {
     put_decimal(u128::from(count), out)?;
     out.extend_from_slice(b" x U8")
 }
 
-/// So many of what has these names: one of it, or more.
+/// Appends `count`, followed by `one` if it is 1 and by `more` otherwise.
 pub(crate) fn put_quantity(
     count: u64,
     one: &str,
@@ -84,7 +84,7 @@ pub(crate) fn put_quantity(
     out.extend_from_slice(name.as_bytes())
 }
 
-/// What a length counts, by the format that has it.
+/// The format whose length this is.
 pub(crate) fn counted_word(counted: Counted) -> &'static str {
     match counted {
         Counted::Text => "STR",
@@ -111,7 +111,7 @@ fn put_quoted(text: &str, out: &mut Vec<u8>) -> Result<(), AllocError> {
     Ok(out.push(b'"')?)
 }
 
-// A variant's names: its container's and its own.
+// Appends the names of the container and of the variant.
 fn put_variant(trail: &Trail<'_, '_, '_>, name: &str, out: &mut Vec<u8>) -> Result<(), AllocError> {
     put_escaped(container_name(trail), out)?;
     out.extend_from_slice(b"::")?;

@@ -1,5 +1,5 @@
-//! A piece as a JSON object, and the objects that stand behind the last piece. Each is on a line of its own. The fields of
-//! the structs are in the order of their names, in which the members are printed.
+//! Pieces, the end and the stop as JSON objects, one per line. The fields of each struct are in alphabetical order,
+//! which is the order in which they are printed.
 
 use crate::halt::Halt;
 use crate::meaning::put_format;
@@ -25,7 +25,7 @@ struct PieceObject<'a> {
 enum PieceValue<'a> {
     Flag(bool),
     Count(u64),
-    /// A whole number, as it may have 128 bits.
+    /// An integer, as a string: it may have 128 bits.
     Digits(String),
     Text(&'a str),
 }
@@ -44,7 +44,6 @@ struct StopObject<'a> {
     want: String,
 }
 
-/// Appends the object of a piece.
 pub(crate) fn put_piece_object(
     place: u64,
     bytes: &[u8],
@@ -65,12 +64,11 @@ pub(crate) fn put_piece_object(
     put_object(&object, out)
 }
 
-/// Appends the object of the end of a whole value.
 pub(crate) fn put_end_object(end: usize, out: &mut Vec<u8>) -> Result<(), AllocError> {
     put_object(&EndObject { end }, out)
 }
 
-/// Appends the object of where bytes stop being a value, and why.
+/// Appends the object for the stop: the offset, the reason and what was expected.
 pub(crate) fn put_stop_object(stop: Stop, halt: Halt, out: &mut Vec<u8>) -> Result<(), AllocError> {
     let object = StopObject {
         name: ascii_text(halt.way)?,
@@ -82,7 +80,8 @@ pub(crate) fn put_stop_object(stop: Stop, halt: Halt, out: &mut Vec<u8>) -> Resu
     put_object(&object, out)
 }
 
-// Only an allocation fails here: a struct of texts and numbers has no other fault. No clause of `serde_json` says so.
+// Only an allocation can fail here: a struct of strings and numbers has no other error. No clause of `serde_json` says
+// so.
 fn put_object<T: Serialize>(object: &T, out: &mut Vec<u8>) -> Result<(), AllocError> {
     let line = serde_json::to_vec(*out.allocator(), object).map_err(|_| AllocError)?;
     out.extend_from_slice(&line)?;
@@ -103,7 +102,7 @@ fn kind_word(meaning: Meaning<'_>) -> &'static str {
     }
 }
 
-// A whole number is a text of its digits, as it may have 128 bits; what is counted is a number.
+// Integers are strings, since they may have 128 bits. Lengths and counts are numbers.
 fn meaning_value<'a>(
     alloc: Global,
     size: usize,
@@ -129,7 +128,7 @@ fn meaning_value<'a>(
     }
 }
 
-// What the piece is of, by names.
+// The field path of the piece, by names.
 fn way_text(alloc: Global, trail: &Trail<'_, '_, '_>) -> Result<String, AllocError> {
     let mut way = Vec::new(alloc);
     put_field_path(trail, &mut way)?;
@@ -153,7 +152,7 @@ fn format_text(
     ascii_text(format)
 }
 
-// The word PATH, or `null` where no path leads.
+// The PATH argument, or `null` if no path leads there.
 fn path_text(path: Vec<u8>) -> Result<Option<String>, AllocError> {
     if path.as_slice() == b"-".as_slice() {
         return Ok(None);
@@ -161,7 +160,7 @@ fn path_text(path: Vec<u8>) -> Result<Option<String>, AllocError> {
     Ok(Some(ascii_text(path)?))
 }
 
-// All that is put together here is ASCII, so it is never refused; no clause says so.
+// Everything printed here is ASCII, so the conversion never fails. No clause says so.
 fn ascii_text(bytes: Vec<u8>) -> Result<String, AllocError> {
     match String::from_utf8(bytes) {
         Ok(text) => Ok(text),

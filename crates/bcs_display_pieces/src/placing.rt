@@ -1,4 +1,4 @@
-//! Where bytes stop being a value, in a line.
+//! One line about where bytes stop being a value.
 ghost use Rattle.std.specs.Prelude.{◌≡◌, ⊤, IfOk, IfSome, None, Some};
 ghost use Rattle.bcs_registry_model.specs.View.{shape_of};
 ghost use Rattle.bcs_registry_model.specs.WellFormed.{Admits};
@@ -12,8 +12,8 @@ use bcs_registry::{Format, Registry};
 use bcs_value::Limits;
 use std::alloc::{AllocError, Global};
 
-/// Where bytes stop being a value, and what would have been right there, in ASCII and without a line end:
-/// `at .owner: BadBool: expected BOOL`. `None`: they are a value.
+/// Describes in ASCII, without a line end, where the bytes stop being a value and what was expected there: `at .owner:
+/// BadBool: wanted BOOL`. Returns `None` if they encode a value. Fails only if memory runs out.
 pub fn stop_place(
     alloc: Global,
     registry: &Registry,
@@ -39,7 +39,7 @@ pub fn stop_place(
     Ok(Some(place_line(alloc, stop.reason, &keeper.halt)?))
 }
 
-// The way to a stop, its reason, and what was wanted.
+// Joins the field path of a stop, its reason and what was expected.
 fn place_line(alloc: Global, reason: Reason, halt: &Halt) -> Result<Vec<u8>, AllocError> {
     let mut line = Vec::from_slice(alloc, b"at ")?;
     line.extend_from_slice(&halt.way)?;
@@ -50,12 +50,12 @@ fn place_line(alloc: Global, reason: Reason, halt: &Halt) -> Result<Vec<u8>, All
     Ok(line)
 }
 
-/// A listener that keeps where the bytes stop.
+/// A listener that stores where the bytes stop.
 #[derive(Drop)]
 struct StopKeeper {
     alloc: Global,
     halt: Halt,
-    /// Whether memory ran out.
+    /// Whether an allocation failed.
     has_lost: bool,
 }
 

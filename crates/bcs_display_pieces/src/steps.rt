@@ -1,5 +1,5 @@
-//! The way to a piece: in names, as the word PATH, and as a branch of a tree. A trail leads from the last step up, and going
-//! up in a loop takes no stack; so a way is put back to front, and then turned.
+//! Prints the field path of a piece: by names, as a PATH argument, or as a branch of a tree. A trail is linked from the
+//! last step upwards, and a loop that follows it needs no stack. So the text is written backwards and then reversed.
 
 use crate::meaning::put_quantity;
 use bcs_display_text::columns::{put_blanks, put_decimal, put_hex};
@@ -7,7 +7,8 @@ use bcs_display_text::escaping::put_escaped;
 use bcs_explain::{Step, Trail};
 use std::alloc::AllocError;
 
-// How many bytes of a key are printed in a step. Every piece below the key repeats its step.
+// The number of bytes printed of a key in a step. Every piece below a map entry repeats its key, so longer keys are
+// cut.
 const KEY_SIZE: usize = 32;
 
 #[derive(Clone, Copy)]
@@ -16,7 +17,7 @@ enum Spelling {
     Path,
 }
 
-/// Appends the steps from the whole value down, by their names, or `.` where none is written.
+/// Appends the names of the steps from the whole value down, or `.` if there are none.
 pub(crate) fn put_field_path(
     trail: &Trail<'_, '_, '_>,
     out: &mut Vec<u8>,
@@ -24,7 +25,7 @@ pub(crate) fn put_field_path(
     put_steps(Spelling::Names, trail, out)
 }
 
-/// Appends the word PATH that `bcs part` takes: `.` for the whole value, and `-` where no path leads there.
+/// Appends the PATH argument for `bcs part`: `.` for the whole value, and `-` if no path leads there.
 pub(crate) fn put_path(trail: &Trail<'_, '_, '_>, out: &mut Vec<u8>) -> Result<(), AllocError> {
     if is_in_key(trail) {
         return Ok(out.push(b'-')?);
@@ -32,7 +33,7 @@ pub(crate) fn put_path(trail: &Trail<'_, '_, '_>, out: &mut Vec<u8>) -> Result<(
     put_steps(Spelling::Path, trail, out)
 }
 
-/// Appends the last step that is written, behind two blanks for each before it, or `.` where none is written.
+/// Appends the last printed step, indented by two spaces for each one before it, or `.` if there are none.
 pub(crate) fn put_branch(trail: &Trail<'_, '_, '_>, out: &mut Vec<u8>) -> Result<(), AllocError> {
     let mut last = None;
     let mut rest = trail;
@@ -51,7 +52,7 @@ pub(crate) fn put_branch(trail: &Trail<'_, '_, '_>, out: &mut Vec<u8>) -> Result
     }
 }
 
-/// The name of the container that the last step opens; empty where it opens none.
+/// The name of the container that the last step opens, or an empty string if it opens none.
 pub(crate) fn container_name<'r>(trail: &Trail<'_, 'r, '_>) -> &'r str {
     match trail {
         Trail::Below(_, Step::Container(name)) => name,
@@ -59,7 +60,7 @@ pub(crate) fn container_name<'r>(trail: &Trail<'_, 'r, '_>) -> &'r str {
     }
 }
 
-// Whether the way leads into a key, where no path leads.
+// Whether the position is inside a key, where no PATH leads.
 fn is_in_key(trail: &Trail<'_, '_, '_>) -> bool {
     let mut rest = trail;
     while let Trail::Below(above, step) = rest {
@@ -106,14 +107,14 @@ fn put_step_back(
     Ok(())
 }
 
-// Turns what was put since the buffer had so many bytes.
+// Reverses the bytes of `out` from `start` on.
 fn turn_from(start: usize, out: &mut Vec<u8>) {
     if let Some(text) = out.as_mut_slice().get_mut(start..) {
         text.reverse();
     }
 }
 
-// What a container holds is reached without a step that is written: its name stands at the variants.
+// Container steps aren't printed. The container's name appears at its variants.
 fn is_written(step: &Step<'_, '_>) -> bool {
     !matches!(step, Step::Container(_))
 }
@@ -147,7 +148,7 @@ fn put_bracketed(word: &[u8], number: u64, out: &mut Vec<u8>) -> Result<(), Allo
     Ok(out.push(b']')?)
 }
 
-// The step as PATH has it. No step leads into a key.
+// Appends the step in the syntax of PATH, which has no step into a key.
 fn put_word(step: &Step<'_, '_>, out: &mut Vec<u8>) -> Result<(), AllocError> {
     match step {
         Step::Item(number) | Step::Field(number, _) => put_decimal(u128::from(*number), out),
@@ -157,7 +158,7 @@ fn put_word(step: &Step<'_, '_>, out: &mut Vec<u8>) -> Result<(), AllocError> {
     }
 }
 
-// A longer key is cut, and the dots and the number of bytes left out keep it from being read as a whole one.
+// Longer keys are cut. The dots and the number of missing bytes make clear that the key isn't complete.
 fn put_key(key: &[u8], out: &mut Vec<u8>) -> Result<(), AllocError> {
     let (first, rest) = key.split_at(KEY_SIZE.min(key.len()));
     out.extend_from_slice(b"key:")?;

@@ -1,4 +1,4 @@
-//! Where a whole input stops being a value.
+//! Finds where a whole input stops being a value.
 ghost use Rattle.bcs_registry_model.specs.View.{shape_of};
 ghost use Rattle.bcs_registry_model.specs.WellFormed.{Admits};
 ghost use Rattle.bcs_display_pieces.specs.EndsAt.{EndsAt};
@@ -7,7 +7,8 @@ use bcs_explain::{Listener, Reason, Stop, explain};
 use bcs_registry::{Format, Registry};
 use bcs_value::Limits;
 
-/// Tells of the pieces. `None`: the bytes are a value's. Bytes behind a value stop it.
+/// Sends the pieces to `out` and returns the stop, or `None` if the bytes encode a value. Bytes after a value are a
+/// stop, with the reason `TrailingBytes`.
 pub(crate) fn stop_of<T: Listener>(
     registry: &Registry,
     format: &Format,

@@ -9,15 +9,15 @@ use bcs_display_text::style::{Form, Style};
 use bcs_explain::{Expected, Listener, Meaning, Stop, Trail};
 use std::alloc::{AllocError, Global};
 
-/// What is printed of the pieces that were told of so far.
+/// The lines of the pieces received so far.
 #[derive(Drop)]
 pub(crate) struct Table {
     style: Style,
     text: Vec<u8>,
-    /// Where the last piece ends.
+    /// The byte offset after the last piece.
     end: u64,
     halt: Halt,
-    /// Whether memory ran out.
+    /// Whether an allocation failed.
     has_lost: bool,
 }
 
@@ -32,7 +32,8 @@ impl Table {
         })
     }
 
-    /// All that is printed of the bytes, which stop there or are a value's. Fails for want of memory alone.
+    /// Completes the output: appends the error line if there is a stop, or in JSON form the object for the stop or the
+    /// end. Fails only if memory runs out.
     pub(crate) fn finish(self, bytes: &[u8], stop: Option<Stop>) -> Result<Vec<u8>, AllocError> {
         let Table {
             style,

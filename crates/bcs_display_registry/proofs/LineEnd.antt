@@ -1,4 +1,4 @@
--- A line end behind a text changes nothing of what `serde_json` reads in it.
+-- A trailing line end doesn't change what `serde_json` reads from a text.
 use Rattle.std.proofs.Common.{◌≡◌, ℕ, ◌+◌, ◌-◌, ◌*◌, List, [], ◌∷◌, ◌++◌, length, take, drop, Option, Some, None, option_map, option_and_then, Bool, true, false, ◌&&◌, ◌||◌, ◌==◌, cond, nat_eq, nat_lt, refl, ap, ap₂, ◌∙◌, arith}
 use Rattle.std.proofs.Math.Path.{fun_ext}
 use Rattle.std.specs.Char.{digit_value, encode_utf8, is_ascii_digit, is_digit}
@@ -91,7 +91,7 @@ literal_ended name k t h = ap (λ b. cond b k bad) (stands_ended name t h)
 
 -- ---- numbers
 
--- what a part of a number leaves of the text, it leaves of the text with a line end, with that line end
+-- parsing a part of a number leaves the same rest, with the line end still at its end
 abbrev Leaves : (List ℕ → Option (List ℕ)) → Type 0
 Leaves f = (t : List ℕ) → f (ended t) ≡ option_map ended (f t)
 

@@ -1,4 +1,4 @@
-//! A registry, or a part of it, in JSON.
+//! Prints a registry, or part of it, as JSON.
 ghost use Rattle.std.specs.Prelude.{IfOk};
 ghost use Rattle.bcs_display_registry.specs.Shows.{WritesSome};
 
@@ -8,7 +8,7 @@ use bcs_registry_json::printing::registry_value;
 use std::alloc::{AllocError, Global};
 use std::collections::BTreeSet;
 
-/// The JSON of the containers that are selected, and the end of its line.
+/// The selected containers as JSON on one line, with a line end.
 pub(crate) fn json_line(
     alloc: Global,
     registry: &Registry,
@@ -31,7 +31,8 @@ fn whole_line(alloc: Global, registry: &Registry) -> Result<Vec<u8>, AllocError>
     Ok(text.into_bytes())
 }
 
-/// The line of the containers of these names. It is read again, so that no more need be known of the names.
+/// The line for the containers with these names. It is parsed again, which proves that it is a registry without any
+/// fact about `names`.
 fn part_line(
     alloc: Global,
     registry: &Registry,

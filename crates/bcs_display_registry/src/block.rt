@@ -1,4 +1,4 @@
-//! The lines of what a container has.
+//! The lines for the contents of a container.
 
 use crate::formats::{put_format, put_row};
 use crate::names::put_name;
@@ -7,7 +7,7 @@ use bcs_registry_model::{Container, Format, Named, VariantFormat};
 use std::alloc::AllocError;
 use std::collections::BTreeMap;
 
-/// Appends a line for each format, each field, or each variant with its fields.
+/// Appends a line for each format, for each field, or for each variant and its fields.
 pub(crate) fn put_container(container: &Container, out: &mut Vec<u8>) -> Result<(), AllocError> {
     match container {
         Container::UnitStruct => Ok(()),
@@ -31,7 +31,7 @@ fn put_format_lines(formats: &[Format], out: &mut Vec<u8>) -> Result<(), AllocEr
     Ok(())
 }
 
-/// Appends a line for each field, set in by so many blanks.
+/// Appends a line for each field, indented by `indent` spaces.
 fn put_fields(
     fields: &[Named<Format>],
     indent: usize,
@@ -61,7 +61,7 @@ fn put_variants(
     Ok(())
 }
 
-/// Appends what stands behind a variant's name.
+/// Appends the payload of a variant, after its name.
 fn put_payload(payload: &VariantFormat, out: &mut Vec<u8>) -> Result<(), AllocError> {
     match payload {
         VariantFormat::Unit => {}

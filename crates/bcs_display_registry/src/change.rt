@@ -1,46 +1,46 @@
-//! What two registries differ in, and lines of it.
+//! The differences between two registries, and how they are printed.
 
 use bcs_display_text::columns::put_decimal;
 use bcs_display_text::escaping::put_escaped;
 use bcs_registry_model::{Container, GrowthFault, Named, VariantFormat};
 use std::alloc::{AllocError, Global};
 
-/// Something under a container's name that two registries don't have alike.
+/// A difference between two registries, in a container that at least one of them has.
 #[derive(Clone, Copy)]
 pub struct Difference<'a> {
-    /// The container's name.
+    /// The name of the container.
     pub container: &'a str,
-    /// What the newer registry has other under it.
+    /// How the newer registry differs there.
     pub change: Change<'a>,
 }
 
-/// What a newer registry has other than an older one under a name.
+/// How a container of a newer registry differs from the one of the same name in an older registry.
 #[derive(Clone, Copy)]
 pub enum Change<'a> {
-    /// A container, where the older one has none.
+    /// Only the newer registry has the container.
     ContainerAdded {
         newer: &'a Container,
     },
-    /// No container of its name.
+    /// Only the older registry has the container.
     Missing {
         older: &'a Container,
     },
-    /// Another container of its name, where they aren't both enums.
+    /// The containers differ, and at least one of them isn't an enum.
     Changed {
         older: &'a Container,
         newer: &'a Container,
     },
-    /// An enum with a variant of this number, where the older enum has none.
+    /// Only the newer enum has a variant with this number.
     VariantAdded {
         number: u32,
         newer: &'a Named<VariantFormat>,
     },
-    /// An enum without a variant of this number.
+    /// Only the older enum has a variant with this number.
     VariantMissing {
         number: u32,
         older: &'a Named<VariantFormat>,
     },
-    /// An enum with another variant of this number: it has another name or payload.
+    /// Both enums have a variant with this number, but its name or payload differs.
     VariantChanged {
         number: u32,
         older: &'a Named<VariantFormat>,
@@ -49,7 +49,7 @@ pub enum Change<'a> {
 }
 
 impl<'a> Change<'a> {
-    /// The fault of growth that it is. `None`: the newer registry has more, which growth allows.
+    /// The growth fault that this change causes, or `None` for an addition, which growth allows.
     pub fn fault(&self) -> Option<GrowthFault> {
         match self {
             Change::ContainerAdded { .. } | Change::VariantAdded { .. } => None,
@@ -61,7 +61,7 @@ impl<'a> Change<'a> {
     }
 }
 
-/// A line for each difference, in their order.
+/// Returns one line for each difference, in the given order. Fails only if memory runs out.
 pub fn difference_lines(
     alloc: Global,
     differences: &[Difference<'_>],
@@ -74,7 +74,7 @@ pub fn difference_lines(
     Ok(lines)
 }
 
-/// Appends the container, of an enum the variant, and what is other, with no end of line.
+/// Appends the container's name, the variant if there is one, and the kind of change, without a line end.
 pub fn put_difference(difference: &Difference<'_>, out: &mut Vec<u8>) -> Result<(), AllocError> {
     put_escaped(difference.container, out)?;
     match &difference.change {

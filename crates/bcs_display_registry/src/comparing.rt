@@ -1,4 +1,4 @@
-//! The differences of two registries.
+//! Compares two registries.
 
 use crate::change::{Change, Difference};
 use bcs_registry_model::equality::{is_same_struct, is_same_variant};
@@ -9,8 +9,8 @@ use std::collections::{BTreeMap, BTreeSet};
 /// The variants of an enum by number.
 type Variants = BTreeMap<u32, Named<VariantFormat>>;
 
-/// All differences between the containers of an older registry and those of a newer one, by rising name, and those of
-/// two enums by rising number. Fails only for want of memory.
+/// Returns all differences between the containers of two registries, ordered by container name and, within an enum, by
+/// variant number. Fails only if memory runs out.
 pub fn differences<'a>(
     alloc: Global,
     older: &'a BTreeMap<String, Container>,
@@ -35,7 +35,7 @@ pub fn differences<'a>(
     Ok(found)
 }
 
-/// Appends the differences of two enums of one name.
+/// Appends the differences between two enums with the same name.
 fn push_variant_changes<'a>(
     alloc: Global,
     container: &'a str,
@@ -61,7 +61,7 @@ fn push_variant_changes<'a>(
     Ok(())
 }
 
-/// The keys that either map has.
+/// The keys of both maps.
 fn keys_of_both<'a, K: Ord, V>(
     alloc: Global,
     older: &'a BTreeMap<K, V>,

@@ -1,12 +1,12 @@
-//! Formats in short.
+//! Formats in short notation.
 
 use crate::names::put_name;
 use bcs_display_text::columns::put_decimal;
 use bcs_registry_model::{Format, Kind};
 use std::alloc::AllocError;
 
-/// Appends a format in short: the registry's word or the container's name, `F?` for an option, `[F]` for a list,
-/// `{K: V}` for a map, `(F, G)` for a tuple and `[F; 32]` for an array.
+/// Appends a format in short notation: the registry's name of a scalar format, or the container's name; `F?` for an
+/// option, `[F]` for a list, `{K: V}` for a map, `(F, G)` for a tuple and `[F; 32]` for an array.
 #[cycle(formats)]
 pub fn put_format(format: &Format, out: &mut Vec<u8>) -> Result<(), AllocError> {
     match format.kind() {
@@ -39,7 +39,7 @@ fn put_between(
     out.extend_from_slice(behind)
 }
 
-/// Appends formats between parentheses.
+/// Appends formats in parentheses.
 #[cycle(formats)]
 pub(crate) fn put_row(formats: &[Format], out: &mut Vec<u8>) -> Result<(), AllocError> {
     out.push(b'(')?;

@@ -1,4 +1,4 @@
-//! The sizes of containers, by those of the containers that they name.
+//! Computes the sizes of a container from those of the containers that it mentions.
 
 use crate::sizes::Sizes;
 use bcs_num::put_uleb;
@@ -6,31 +6,30 @@ use bcs_registry_model::{Container, Format, Kind, Named, Scalar, VariantFormat};
 use std::alloc::{AllocError, Global};
 use std::collections::BTreeMap;
 
-/// A step of a formula. Each step pushes sizes onto a stack, and pops those that it is made from.
+/// A step of a formula, which runs on a stack of sizes: it pops its operands and pushes its result.
 #[derive(Clone, Copy)]
 pub(crate) enum Step {
-    /// Pushes these sizes.
     Known(Sizes),
-    /// Pushes the sizes of the container of this number.
+    /// Pushes the sizes of the container with this number.
     Container(usize),
     /// Pops the content of an option.
     Optional,
-    /// Pops an element of an array of so many.
+    /// Pops an element of an array with this many elements.
     Times(u64),
-    /// Pops a value, and the value in front of it.
+    /// Pops a value, then the value before it.
     FollowedBy,
-    /// Pops two values, of which one is there.
+    /// Pops two alternatives.
     Or,
 }
 
-/// The sizes of a container, as steps, so that they are counted again without a search for names.
+/// The sizes of a container as a list of steps, so that repeated evaluation needs no lookup by name.
 #[derive(Drop)]
 pub(crate) struct Formula {
     pub(crate) steps: Vec<Step>,
 }
 
 impl Formula {
-    /// The formula of a container, where the containers have these numbers.
+    /// The formula of a container. `numbers` maps the names of containers to their numbers.
     pub(crate) fn of(
         alloc: Global,
         container: &Container,
@@ -49,7 +48,7 @@ impl Formula {
         Ok(formula)
     }
 
-    /// The sizes, where the containers have the known ones by their numbers. What is on the stack before is dropped.
+    /// Evaluates the formula. `known` has the sizes of the containers by number. `stack` is cleared first.
     pub(crate) fn sizes(
         &self,
         known: &[Sizes],
@@ -81,7 +80,7 @@ impl Formula {
     }
 }
 
-/// The sizes of the container of this number.
+/// The sizes of the container with this number.
 pub(crate) fn sizes_at(known: &[Sizes], number: usize) -> Sizes {
     match known.get(number) {
         Some(sizes) => *sizes,
@@ -89,7 +88,7 @@ pub(crate) fn sizes_at(known: &[Sizes], number: usize) -> Sizes {
     }
 }
 
-/// The sizes on top. A formula never pops more than it pushed; no clause says so.
+/// Pops the top of the stack. A formula never pops from an empty stack; no clause says so.
 fn pop(stack: &mut Vec<Sizes>) -> Sizes {
     stack.pop().unwrap_or(Sizes::NoValue)
 }
@@ -109,7 +108,7 @@ fn push_variants(
     Ok(())
 }
 
-/// How many bytes the number of a variant has.
+/// The number of bytes that encode a variant number.
 fn number_bytes(number: u32) -> u64 {
     put_uleb(number, &mut [0; 5]) as u64
 }

@@ -1,4 +1,4 @@
-//! The line of a container as a whole.
+//! The header line of a container.
 
 use crate::names::put_name;
 use crate::sizes::Sizes;
@@ -6,8 +6,7 @@ use bcs_display_text::columns::put_decimal;
 use bcs_registry_model::Container;
 use std::alloc::AllocError;
 
-/// Appends the line of a container as a whole: its name, its kind, its sizes where they are told, and that no other
-/// container uses it, where it is so.
+/// Appends the name, the kind, the sizes if they are given, and a note if no other container uses this one.
 pub(crate) fn put_header(
     name: &str,
     container: &Container,
@@ -28,7 +27,7 @@ pub(crate) fn put_header(
     Ok(out.push(b'\n')?)
 }
 
-/// The registry's word for what kind of container it is.
+/// The registry's name for this kind of container.
 fn kind_word(container: &Container) -> &'static str {
     match container {
         Container::UnitStruct => "UNITSTRUCT",

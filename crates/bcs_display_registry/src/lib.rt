@@ -1,4 +1,4 @@
-//! Registries for reading: what `bcs show` prints of one, and in what two of them differ.
+//! Registries in readable form: what `bcs show` prints, and the differences between two registries.
 #![tactic(auto)]
 
 mod as_json;

@@ -1,4 +1,4 @@
-//! A registry in lines.
+//! Prints a registry as lines.
 
 use crate::block::put_container;
 use crate::header::put_header;
@@ -8,17 +8,17 @@ use bcs_registry_model::Container;
 use std::alloc::{AllocError, Global};
 use std::collections::{BTreeMap, BTreeSet};
 
-/// Which containers of a registry are shown.
+/// The containers to show.
 #[derive(Drop)]
 pub enum Selection<'a> {
-    /// Each.
+    /// All containers.
     All,
-    /// Those of these names, as `standing` finds them.
+    /// The containers with these names, as returned by `standing`.
     Names(BTreeSet<&'a str>),
 }
 
 impl<'a> Selection<'a> {
-    /// Whether the container of this name is shown.
+    /// Whether the container with this name is shown.
     pub fn has(&self, name: &str) -> bool {
         match self {
             Selection::All => true,
@@ -27,8 +27,8 @@ impl<'a> Selection<'a> {
     }
 }
 
-/// The lines of the containers that are selected, by rising name, with the sizes that stand under their names. Which
-/// containers no other uses is told by all containers, selected or not. Fails only for want of memory.
+/// Returns the lines of the selected containers, in the order of their names, with those of their sizes that `sizes`
+/// has. "Used by no other" takes all containers into account, even those not selected. Fails only if memory runs out.
 pub fn registry_lines(
     alloc: Global,
     containers: &BTreeMap<String, Container>,

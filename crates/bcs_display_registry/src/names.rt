@@ -1,11 +1,11 @@
-//! Names as they stand in lines.
+//! Prints names.
 
 use bcs_display_text::escaping::put_escaped;
 use bcs_registry_model::words::word_format;
 use std::alloc::AllocError;
 
-/// Appends a name as it is if it is plain, and else as a JSON string, in ASCII. A plain name begins with an ASCII letter
-/// or `_`, has only these and digits, and is no word of a format.
+/// Appends a plain name as it is, and any other name as a JSON string in ASCII. A plain name starts with an ASCII
+/// letter or `_`, contains only these and digits, and isn't the name of a format.
 pub(crate) fn put_name(name: &str, out: &mut Vec<u8>) -> Result<(), AllocError> {
     if is_plain(name) {
         return out.extend_from_slice(name.as_bytes());

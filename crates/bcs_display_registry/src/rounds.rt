@@ -1,4 +1,4 @@
-//! The sizes of containers, counted in rounds.
+//! Computes the sizes of containers in rounds.
 
 use crate::formulas::{Formula, Step, sizes_at};
 use crate::sizes::Sizes;
@@ -6,11 +6,11 @@ use bcs_registry_model::Container;
 use std::alloc::{AllocError, Global};
 use std::collections::BTreeMap;
 
-/// How many bytes the values of each container have in which at most `depth` containers are open at once, the container
-/// itself included. Each name of the map has its sizes. Fails only for want of memory.
+/// Returns for each container how many bytes its values have, counting only values with at most `depth` containers open
+/// at once, itself included. The map has an entry for each name. Fails only if memory runs out.
 ///
-/// Before the first round no container may be open. In each round one more may, and only those are counted again whose
-/// sizes rest on sizes that changed. So a round takes time by the size of the registry at most.
+/// Each round allows one more open container than the round before; the first allows one. A round recomputes only
+/// containers whose sizes depend on sizes that changed, so it takes at most time linear in the size of the registry.
 pub fn container_sizes<'a>(
     alloc: Global,
     containers: &'a BTreeMap<String, Container>,
@@ -29,7 +29,7 @@ pub fn container_sizes<'a>(
     named(alloc, containers, &rounds.known)
 }
 
-/// The formula of each container. A container's number is its place among the names.
+/// The formula of each container. A container's number is its position in the order of names.
 fn formulas_of(
     alloc: Global,
     containers: &BTreeMap<String, Container>,
@@ -45,7 +45,7 @@ fn formulas_of(
     Ok(formulas)
 }
 
-/// The containers in whose formulas each container is, by their numbers.
+/// For each container, the numbers of the containers whose formulas mention it.
 fn users_by_number(alloc: Global, formulas: &[Formula]) -> Result<Vec<Vec<usize>>, AllocError> {
     let mut users = Vec::with_capacity(alloc, formulas.len())?;
     for _ in formulas {
@@ -68,21 +68,21 @@ fn push_user(user: usize, formula: &Formula, users: &mut [Vec<usize>]) -> Result
     Ok(())
 }
 
-/// What is known after some rounds, by the numbers of the containers.
+/// The state after some rounds. Containers are identified by number.
 #[derive(Drop)]
 struct Rounds {
     known: Vec<Sizes>,
-    /// The containers that are counted in the next round.
+    /// The containers to recompute in the next round, each at most once.
     waiting: Vec<usize>,
-    /// Whether a container is among those that wait. Each waits once at most.
+    /// For each container, whether it is in `waiting`.
     waits: Vec<bool>,
-    /// What the last round changed.
+    /// The sizes that the last round changed.
     changed: Vec<(usize, Sizes)>,
     stack: Vec<Sizes>,
 }
 
 impl Rounds {
-    /// No container has a value before the first round, and each waits to be counted.
+    /// The state before the first round: no container has a value, and all must be computed.
     fn new(alloc: Global, count: usize) -> Result<Rounds, AllocError> {
         let mut waiting = Vec::with_capacity(alloc, count)?;
         for number in 0..count {
@@ -97,7 +97,7 @@ impl Rounds {
         })
     }
 
-    /// Counts those that wait. All of them see what was known before the round.
+    /// Recomputes the waiting containers. Each sees the sizes from before this round.
     fn count(&mut self, formulas: &[Formula]) -> Result<(), AllocError> {
         self.changed.clear();
         for number in &self.waiting {
@@ -116,7 +116,7 @@ impl Rounds {
         Ok(())
     }
 
-    /// Lets those wait whose sizes rest on sizes that changed.
+    /// Queues the containers whose sizes depend on sizes that changed.
     fn wait_for(&mut self, users: &[Vec<usize>]) -> Result<(), AllocError> {
         for number in &self.waiting {
             set(*number, false, &mut self.waits);
@@ -131,7 +131,7 @@ impl Rounds {
     }
 }
 
-/// Appends those that don't wait yet.
+/// Queues the containers that aren't queued yet.
 fn push_new(
     others: &[usize],
     waiting: &mut Vec<usize>,
@@ -152,7 +152,7 @@ fn set(number: usize, is_waiting: bool, waits: &mut [bool]) {
     }
 }
 
-/// The sizes under the names of the containers.
+/// The sizes by container name.
 fn named<'a>(
     alloc: Global,
     containers: &'a BTreeMap<String, Container>,

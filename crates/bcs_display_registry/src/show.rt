@@ -1,4 +1,4 @@
-//! A registry, or a part of it, as text.
+//! Prints a registry, or part of it.
 ghost use Rattle.std.specs.Prelude.{◌≡◌, IfOk, IfSome};
 ghost use Rattle.bcs_display_registry.specs.Shows.{WritesSome};
 ghost use Rattle.bcs_display_registry.specs.declared.show.RegistryForm.TheVariants.{Json};
@@ -11,17 +11,17 @@ use bcs_registry::Registry;
 use bcs_value::Limits;
 use std::alloc::{AllocError, Global};
 
-/// In which form a registry is shown.
+/// The output form of a registry.
 #[derive(Clone, Copy, Debug, PartialEq, Eq)]
 pub enum RegistryForm {
-    /// In lines for reading: each container with its sizes, its formats, fields or variants.
+    /// Readable lines: each container with its sizes and its formats, fields or variants.
     Lines,
-    /// In JSON, as serde-reflection has it, in one line.
+    /// The JSON of serde-reflection, on one line.
     Json,
 }
 
-/// The text of the registry, or with a name that of the containers on which the container of the name stands, itself
-/// among them. `None`: no container has the name. Fails only for want of memory.
+/// Prints the whole registry or, given a name, that container and all containers it depends on. Returns `None` if no
+/// container has the name. Fails only if memory runs out.
 pub fn show_registry(
     alloc: Global,
     registry: &Registry,
@@ -38,7 +38,7 @@ pub fn show_registry(
     Ok(Some(selected_text(alloc, registry, &selection, form)?))
 }
 
-/// The text of the containers that are selected. In lines stand the sizes that values have within the standard limits.
+/// Prints the selected containers. As lines, the sizes are those of values within the standard depth limit.
 fn selected_text(
     alloc: Global,
     registry: &Registry,

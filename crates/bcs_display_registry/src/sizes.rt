@@ -1,26 +1,26 @@
-//! How many bytes values have.
+//! The sizes of values, in bytes.
 
-/// How many bytes the values of a container have.
+/// The sizes in bytes of the values of a container.
 #[derive(Clone, Copy, Debug, PartialEq, Eq)]
 pub enum Sizes {
-    /// There is no value.
+    /// The container has no value.
     NoValue,
-    /// At least `fewest` bytes, and at most `most`, if there is a most.
+    /// At least `fewest` bytes, and at most `most` bytes if that is known.
     ///
-    /// Where `fewest` is 18446744073709551615, the values may all have more. There is no `most` if a list, a map, a text
-    /// or a byte string can stand in a value, since the registry doesn't bound its length, nor if some value has more
-    /// than 18446744073709551615 bytes.
+    /// `fewest` saturates at 18446744073709551615; the values may then all be larger. `most` is `None` if a value can
+    /// contain a list, a map, a string or a byte string, whose length a registry doesn't bound, or if a value can have
+    /// more than 18446744073709551615 bytes.
     Bytes { fewest: u64, most: Option<u64> },
 }
 
 impl Sizes {
-    /// A length and what it is the length of.
+    /// A length and what it counts.
     pub(crate) const WITH_LENGTH: Sizes = Sizes::Bytes {
         fewest: 1,
         most: None,
     };
 
-    /// Exactly so many bytes.
+    /// Exactly `bytes` bytes.
     pub(crate) fn exactly(bytes: u64) -> Sizes {
         Sizes::Bytes {
             fewest: bytes,
@@ -28,7 +28,7 @@ impl Sizes {
         }
     }
 
-    /// A value and another behind it.
+    /// A value followed by another value.
     pub(crate) fn followed_by(self, next: Sizes) -> Sizes {
         match (self, next) {
             (
@@ -45,7 +45,7 @@ impl Sizes {
         }
     }
 
-    /// One value or another.
+    /// Either of two values.
     pub(crate) fn or(self, other: Sizes) -> Sizes {
         match (self, other) {
             (Sizes::NoValue, sizes) | (sizes, Sizes::NoValue) => sizes,
@@ -62,12 +62,12 @@ impl Sizes {
         }
     }
 
-    /// An option of the value: a byte alone, or a byte and the value.
+    /// An option: one byte, followed by the value if it is present.
     pub(crate) fn optional(self) -> Sizes {
         Sizes::exactly(1).or(Sizes::exactly(1).followed_by(self))
     }
 
-    /// So many values in a row.
+    /// `count` values in a row.
     pub(crate) fn times(self, count: u64) -> Sizes {
         match self {
             _ if count == 0 => Sizes::exactly(0),

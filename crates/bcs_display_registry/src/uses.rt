@@ -5,7 +5,7 @@ use bcs_registry_model::mentions::{Mentions, names_in};
 use std::alloc::{AllocError, Global};
 use std::collections::{BTreeMap, BTreeSet};
 
-/// The names that containers of other names have in their formats. Fails only for want of memory.
+/// Returns the names mentioned in the formats of containers with other names. Fails only if memory runs out.
 pub(crate) fn used_by_others(
     alloc: Global,
     containers: &BTreeMap<String, Container>,
@@ -31,8 +31,8 @@ fn put_used<'a>(
     Ok(())
 }
 
-/// The names of the containers on which the container of this name stands, itself among them: those that its formats
-/// name, those that these name, and so on. None, if no container has the name. Fails only for want of memory.
+/// Returns the names of the containers that the container `name` depends on, directly or through others, itself
+/// included. The set is empty if no container has this name. Fails only if memory runs out.
 pub fn standing<'a>(
     alloc: Global,
     containers: &'a BTreeMap<String, Container>,
@@ -44,7 +44,7 @@ pub fn standing<'a>(
         let _ = reached.insert(name.as_str())?;
         open.push(name.as_str())?;
     }
-    // Each container is opened once at most.
+    // Each container is opened at most once, so this many rounds suffice.
     for _opened in 0..containers.len() {
         let Some(name) = open.pop() else {
             break;
@@ -54,7 +54,7 @@ pub fn standing<'a>(
     Ok(reached)
 }
 
-/// Reaches what the container of this name uses. What wasn't reached before is to be opened too.
+/// Adds the containers that this container uses, and queues the new ones.
 fn open_container<'a>(
     alloc: Global,
     containers: &'a BTreeMap<String, Container>,

@@ -8,7 +8,7 @@ use serde_json::{Map, Value, json};
 use std::alloc::{AllocError, Global};
 use std::collections::BTreeMap;
 
-/// The schema of the texts of a container.
+/// The schema of a container: it accepts the JSON of the container's values.
 pub(crate) fn container_schema(
     alloc: Global,
     registry: &Registry,
@@ -27,8 +27,8 @@ pub(crate) fn container_schema(
     }
 }
 
-/// Whether nothing but newtype structs stand in one another there, as many as may be open at once or more. Then each text
-/// is `TooDeep`, and a validator might follow their references without end.
+/// Whether `format` is a chain of newtype structs that reaches the depth limit. All JSON is then `TooDeep`, and a
+/// validator could follow the `$ref`s forever.
 pub(crate) fn is_newtypes_alone(registry: &Registry, format: &Format) -> bool {
     let mut format = format;
     for _ in 0..Limits::standard().depth() {
@@ -43,7 +43,7 @@ pub(crate) fn is_newtypes_alone(registry: &Registry, format: &Format) -> bool {
     true
 }
 
-/// The schema of an object of exactly these fields, of which `required` has the order.
+/// The schema of an object with exactly these fields. `required` lists them in their order.
 fn fields_schema(
     alloc: Global,
     registry: &Registry,
@@ -64,7 +64,7 @@ fn fields_schema(
     })
 }
 
-/// The schema of an enum: the names of unit variants, and each variant as an object.
+/// The schema of an enum: the name of a unit variant as a string, or an object with one member for any variant.
 fn variants_schema(
     alloc: Global,
     registry: &Registry,

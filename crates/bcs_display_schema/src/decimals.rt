@@ -1,16 +1,16 @@
-//! Regular expressions of whole numbers.
+//! Regular expressions that match ranges of integers.
 
 use crate::whole_numbers::WholeNumbers;
 use itoa::Buffer;
 use std::alloc::{AllocError, Global};
 
-/// A regular expression of exactly the plain decimal texts of the numbers.
+/// A regular expression that matches exactly the plain decimal forms of the integers in `numbers`.
 pub(crate) fn decimal_pattern(alloc: Global, numbers: WholeNumbers) -> Result<String, AllocError> {
     let mut digits = Buffer::new();
     let mut pattern = String::new(alloc);
     pattern.push_str("^(?:0|")?;
     if numbers.least < 0 {
-        // Below 0 there is one number more than above it.
+        // There is one more negative number than positive ones, so the least number is an alternative of its own.
         pattern.push_str(digits.format(numbers.least))?;
         pattern.push_str("|-?")?;
     }
@@ -19,8 +19,8 @@ pub(crate) fn decimal_pattern(alloc: Global, numbers: WholeNumbers) -> Result<St
     Ok(pattern)
 }
 
-/// Appends the texts of the numbers from 1 to the one of these digits: those with fewer digits; and at each place the digits
-/// that are lower, behind which any may stand, or this one.
+/// Appends a pattern for the numbers from 1 to the number with these digits. It matches numbers with fewer digits; and
+/// at each position either a lower digit followed by any digits, or the same digit and the rest of the pattern.
 fn put_positive(digits: &[u8], pattern: &mut String) -> Result<(), AllocError> {
     pattern.push_str("(?:[1-9]")?;
     put_any_digits("0,", digits.len().saturating_sub(2), pattern)?;
@@ -48,7 +48,7 @@ fn put_positive(digits: &[u8], pattern: &mut String) -> Result<(), AllocError> {
     Ok(())
 }
 
-/// Appends so many digits, or with `0,` at most so many.
+/// Appends a pattern for exactly `count` digits or, if `fewest` is `0,`, for at most `count`.
 fn put_any_digits(fewest: &str, count: usize, pattern: &mut String) -> Result<(), AllocError> {
     pattern.push_str("[0-9]{")?;
     pattern.push_str(fewest)?;
@@ -56,7 +56,7 @@ fn put_any_digits(fewest: &str, count: usize, pattern: &mut String) -> Result<()
     pattern.push('}')
 }
 
-/// Appends a digit of these.
+/// Appends a pattern for one digit in this range.
 fn put_range(least: u8, greatest: u8, pattern: &mut String) -> Result<(), AllocError> {
     if least < greatest {
         pattern.push('[')?;

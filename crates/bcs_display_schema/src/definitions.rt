@@ -1,5 +1,5 @@
-//! What a format comes to: the containers that it names, that these name, and so on, and the whole numbers among their
-//! formats. Each is defined once.
+//! Collects the definitions that a schema needs: the containers that a format mentions, directly or through other
+//! containers, and the integer formats among them. Each is defined once.
 
 use crate::containers::{container_schema, is_newtypes_alone};
 use crate::pieces::put_word;
@@ -10,17 +10,17 @@ use serde_json::Value;
 use std::alloc::{AllocError, Global};
 use std::collections::BTreeMap;
 
-/// What is defined under a name.
+/// What a name defines.
 #[derive(Clone, Copy)]
 pub(crate) enum Definition<'r> {
     Container(&'r Container),
     WholeNumbers(WholeNumbers),
 }
 
-/// The definitions by their names.
+/// The definitions by name.
 pub(crate) type Definitions<'r> = BTreeMap<&'r str, Definition<'r>>;
 
-/// The definitions that the schema of the format refers to, and their schemas in turn.
+/// Returns the definitions that the schema of `format` refers to, directly or through other definitions.
 pub(crate) fn definitions_of<'r>(
     alloc: Global,
     registry: &'r Registry,
@@ -32,7 +32,7 @@ pub(crate) fn definitions_of<'r>(
         open: Vec::new(alloc),
     };
     search_format(format, &mut search)?;
-    // Each container is opened once at most.
+    // Each container is opened at most once, so this many rounds suffice.
     for _opened in 0..registry.len() {
         let Some(container) = search.open.pop() else {
             break;
@@ -43,7 +43,7 @@ pub(crate) fn definitions_of<'r>(
     Ok(found)
 }
 
-/// The schema of what is defined, with its name as a title.
+/// The schema of a definition, with its name as `title`.
 pub(crate) fn definition_schema(
     alloc: Global,
     registry: &Registry,
@@ -60,7 +60,7 @@ pub(crate) fn definition_schema(
     }
 }
 
-/// What was found so far, and the containers whose formats are still to be searched.
+/// The definitions found so far, and the containers whose formats must still be searched.
 #[derive(Drop)]
 struct Search<'r> {
     registry: &'r Registry,
@@ -69,7 +69,7 @@ struct Search<'r> {
 }
 
 impl<'r> Search<'r> {
-    /// Finds the container of this name, and opens it if it wasn't found before.
+    /// Adds a container, and queues it for the search if it is new.
     fn find_container(&mut self, name: &'r str) -> Result<(), AllocError> {
         match self.registry.container(name) {
             Some(container) if !self.found.contains_key(name) => {
@@ -80,7 +80,7 @@ impl<'r> Search<'r> {
         }
     }
 
-    /// Finds the whole numbers. They aren't defined if a container has their word for a name.
+    /// Adds an integer format, unless a container has the same name.
     fn find_whole_numbers(&mut self, numbers: WholeNumbers) -> Result<(), AllocError> {
         if self.registry.container(numbers.word).is_none() {
             self.found

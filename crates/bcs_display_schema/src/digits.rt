@@ -1,4 +1,4 @@
-//! Schemas of hexadecimal digits.
+//! Schemas of hexadecimal strings.
 
 use crate::pieces::{put_member, put_word, type_schema};
 use serde_json::{Value, json};
@@ -7,22 +7,20 @@ use std::alloc::{AllocError, Global};
 /// Two hexadecimal digits for each byte.
 const DIGITS: &str = "^(?:[0-9a-fA-F]{2})*$";
 
-/// What is said of such a string.
 const WORDS: &str = "hexadecimal digits, two for each byte";
 
-/// What no string of a pattern has: a character that isn't printable ASCII. For some validators `$` also stands before a last
-/// line end, which is so refused.
+/// Matches a character that isn't printable ASCII, which `not` then rejects: some validators let `$` match before a
+/// final line end.
 pub(crate) const UNPRINTABLE: &str = "[^ -~]";
 
-/// The schema of a string of hexadecimal digits.
 pub(crate) fn digits_schema(alloc: Global) -> Result<Value, AllocError> {
     let mut schema = type_schema(alloc, "string")?;
     put_digits(alloc, &mut schema)?;
     Ok(schema)
 }
 
-/// Lets a string of hexadecimal digits be taken beside an array: of so many bytes, or of any number. No string has more
-/// characters than the greatest number that a schema holds.
+/// Also accepts a hexadecimal string instead of an array: of exactly `size` bytes, or of any number. `minLength` and
+/// `maxLength` saturate; no string is that long.
 pub(crate) fn allow_hex(
     alloc: Global,
     size: Option<u64>,
@@ -37,7 +35,7 @@ pub(crate) fn allow_hex(
     put_digits(alloc, schema)
 }
 
-/// What is said of a string of hexadecimal digits.
+/// Adds the pattern and the description of a hexadecimal string.
 fn put_digits(alloc: Global, schema: &mut Value) -> Result<(), AllocError> {
     let unprintable = json!(in alloc; {"type": "string", "pattern": UNPRINTABLE})?;
     put_member(alloc, "not", unprintable, schema)?;

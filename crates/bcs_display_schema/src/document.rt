@@ -1,4 +1,4 @@
-//! A schema with its definitions.
+//! A schema together with its definitions.
 
 use crate::definitions::{Definitions, definition_schema};
 use bcs_registry::Registry;
@@ -6,11 +6,11 @@ use serde::{Described, Serialize, Serializer};
 use serde_json::{Map, Value};
 use std::alloc::Global;
 
-/// The member that has the definitions.
+/// The member that contains the definitions.
 pub(crate) const DEFINITIONS: &str = "$defs";
 
-/// A schema whose member `$defs`, if there is one, is printed as the definitions, whatever stands there. They are made one
-/// after the other while the text is written, so that only one of them is in memory.
+/// A schema that prints the definitions as its `$defs` member, whatever value that member has. Each definition is built
+/// only while it is written, so at most one is in memory.
 #[derive(Drop)]
 pub(crate) struct Document<'r> {
     pub(crate) alloc: Global,

@@ -10,7 +10,7 @@ use bcs_registry_model::{Kind, Scalar};
 use serde_json::Value;
 use std::alloc::{AllocError, Global};
 
-/// The schema of the format. It refers to the definitions of the containers and whole numbers that the format names.
+/// The schema of a format. It refers to the definitions of the containers and integer formats that the format mentions.
 #[cycle(formats)]
 pub(crate) fn format_schema(
     alloc: Global,
@@ -37,7 +37,6 @@ pub(crate) fn format_schema(
     }
 }
 
-/// The schema of a format without parts.
 fn scalar_schema(alloc: Global, registry: &Registry, format: &Format) -> Result<Value, AllocError> {
     let Kind::Scalar(scalar) = format.kind() else {
         return reject_all(alloc, "the format has parts");
@@ -60,7 +59,7 @@ fn scalar_schema(alloc: Global, registry: &Registry, format: &Format) -> Result<
     }
 }
 
-/// The schema of an array of values of these formats.
+/// The schema of an array with one value of each format.
 #[cycle(formats)]
 pub(crate) fn formats_schema(
     alloc: Global,

@@ -1,4 +1,4 @@
-//! A JSON Schema of the texts that are read at a format: what `bcs schema` prints.
+//! A JSON Schema for the JSON representation of a format: what `bcs schema` prints.
 #![tactic(auto)]
 
 mod containers;

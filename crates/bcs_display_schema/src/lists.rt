@@ -6,7 +6,7 @@ use bcs_registry::Format;
 use serde_json::{Value, json};
 use std::alloc::{AllocError, Global};
 
-/// The schema of an array of elements of one format, whose schema is given: of so many, or of any number.
+/// The schema of an array of `size` elements, or of any number of them. `items` is the schema of an element.
 pub(crate) fn elements_schema(
     alloc: Global,
     element: &Format,
@@ -25,7 +25,7 @@ pub(crate) fn elements_schema(
     Ok(schema)
 }
 
-/// The schema of an array of arrays of a key and its value.
+/// The schema of a map: an array of `[key, value]` arrays.
 pub(crate) fn entries_schema(alloc: Global, key: Value, value: Value) -> Result<Value, AllocError> {
     json!(in alloc; {
         "type": "array",
@@ -38,7 +38,7 @@ pub(crate) fn entries_schema(alloc: Global, key: Value, value: Value) -> Result<
     })
 }
 
-/// The schema of an array of exactly these items. Without items there may be no `prefixItems`.
+/// The schema of an array of exactly these items. `prefixItems` must not be empty.
 pub(crate) fn row_schema(alloc: Global, items: Vec<Value>) -> Result<Value, AllocError> {
     let count = items.len();
     if count == 0 {

@@ -1,9 +1,8 @@
-//! Small schemas, of which others are made.
+//! Small schemas, and functions to build larger ones.
 
 use serde_json::{Value, json};
 use std::alloc::{AllocError, Global};
 
-/// Puts a member into a schema.
 pub(crate) fn put_member(
     alloc: Global,
     name: &str,
@@ -16,7 +15,7 @@ pub(crate) fn put_member(
     }
 }
 
-/// Puts a member with a text into a schema.
+/// Adds a member with a string value to a schema.
 pub(crate) fn put_word(
     alloc: Global,
     name: &str,
@@ -26,17 +25,17 @@ pub(crate) fn put_word(
     put_member(alloc, name, Value::try_from_str(alloc, word)?, schema)
 }
 
-/// The schema that takes nothing, with the reason.
+/// A schema that rejects everything, with the reason as its description.
 pub(crate) fn reject_all(alloc: Global, reason: &str) -> Result<Value, AllocError> {
     json!(in alloc; {"not": {}, "description": reason})
 }
 
-/// The schema of all JSON of this type.
+/// A schema that accepts all JSON of a type.
 pub(crate) fn type_schema(alloc: Global, name: &str) -> Result<Value, AllocError> {
     json!(in alloc; {"type": name})
 }
 
-/// The schema of an option: `null`, or its content as the one member `some`.
+/// The schema of an option: `null`, or an object whose only member, `some`, is the content.
 pub(crate) fn option_schema(alloc: Global, content: Value) -> Result<Value, AllocError> {
     json!(in alloc; {
         "type": ["null", "object"],
@@ -61,8 +60,8 @@ pub(crate) fn single_schema(
     })
 }
 
-/// The schema of what one of these schemas takes, no two of which take the same. A validator tells more of a schema that stands
-/// by itself.
+/// A schema that accepts whatever exactly one of `choices` accepts. A single choice is returned as it is, because
+/// validators give better error messages for it than for `oneOf`.
 pub(crate) fn choice_schema(alloc: Global, choices: Vec<Value>) -> Result<Value, AllocError> {
     let mut choices = choices;
     let Some(last) = choices.pop() else {

@@ -7,7 +7,7 @@ use percent_encoding::{AsciiSet, NON_ALPHANUMERIC, ascii_set, utf8_percent_encod
 use serde_json::{Value, json};
 use std::alloc::{AllocError, Global};
 
-/// What RFC 3986 doesn't call unreserved.
+/// All characters except the unreserved ones of RFC 3986.
 const RESERVED: AsciiSet = ascii_set!(
     NON_ALPHANUMERIC
         .remove(b'-')
@@ -16,7 +16,7 @@ const RESERVED: AsciiSet = ascii_set!(
         .remove(b'~')
 );
 
-/// The schema that stands for the container of this name.
+/// A reference to the definition of a container. It rejects everything if no container has this name.
 pub(crate) fn container_reference(
     alloc: Global,
     registry: &Registry,
@@ -28,7 +28,7 @@ pub(crate) fn container_reference(
     }
 }
 
-/// The schema that stands for the whole numbers: their own, if a container has their word for a name.
+/// A reference to the definition of an integer format, or its schema in place if a container has the same name.
 pub(crate) fn whole_number_reference(
     alloc: Global,
     registry: &Registry,
@@ -40,7 +40,7 @@ pub(crate) fn whole_number_reference(
     }
 }
 
-/// The schema that refers to the definition of this name, by a JSON Pointer (RFC 6901) as the fragment of a URI.
+/// A `$ref` to a definition: a JSON Pointer (RFC 6901) as the fragment of a URI.
 fn reference(alloc: Global, name: &str) -> Result<Value, AllocError> {
     let step = pointer_step(alloc, name)?;
     let mut target = String::new(alloc);

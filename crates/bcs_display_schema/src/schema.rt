@@ -1,4 +1,4 @@
-//! The schema of a format's texts, as a text.
+//! Prints the schema of a format.
 
 use crate::definitions::definitions_of;
 use crate::document::{DEFINITIONS, Document};
@@ -8,16 +8,16 @@ use bcs_registry::{Format, Registry};
 use serde_json::Value;
 use std::alloc::{AllocError, Global};
 
-/// The name of the language of schemas, by which validators choose how to read them.
+/// The `$schema` URI, which tells validators the version of JSON Schema.
 const DIALECT: &str = "https://json-schema.org/draft/2020-12/schema";
 
-/// What the schema can't say.
+/// The rules that a schema can't express.
 const UNSAID: &str =
     "The JSON texts that bcs encode reads, but for what a schema can't say: no two keys of a MAP are equal; a whole number has no point and no exponent, and isn't -0; arrays and objects nest at most 100 deep; the value keeps to the limits of open containers and of nodes; of two members with one name the last is meant.";
 
-/// The JSON Schema, of draft 2020-12, of the JSON texts that are read as values of the format: on several lines, with no
-/// line end behind the last. Where the format names a container that the registry hasn't, no text is taken. Fails only for
-/// want of memory.
+/// Returns a JSON Schema (draft 2020-12) for the JSON that `to_bcs` accepts at `format`, indented, without a line end
+/// at the end. Its `$comment` lists the rules that a schema can't express. If the format mentions a container that the
+/// registry lacks, the schema rejects that part. Fails only if memory runs out.
 pub fn schema_text(
     alloc: Global,
     registry: &Registry,
@@ -36,6 +36,6 @@ pub fn schema_text(
         schema,
         definitions,
     };
-    // Only an allocation fails here. No clause of `serde_json` says so.
+    // Only an allocation can fail here. No clause of `serde_json` says so.
     serde_json::to_string_pretty(alloc, &document).map_err(|_| AllocError)
 }

@@ -1,4 +1,4 @@
-//! Schemas of whole numbers.
+//! Schemas of integers.
 
 use crate::decimals::decimal_pattern;
 use crate::digits::UNPRINTABLE;
@@ -6,17 +6,17 @@ use bcs_registry_model::{IntegerKind, Scalar};
 use serde_json::{Value, json};
 use std::alloc::{AllocError, Global};
 
-/// The whole numbers of a format.
+/// The range of an integer format.
 #[derive(Clone, Copy)]
 pub(crate) struct WholeNumbers {
-    /// The registry's word for the format.
+    /// The name of the format in a registry, for instance `U64`.
     pub(crate) word: &'static str,
     pub(crate) least: i128,
     pub(crate) greatest: u128,
 }
 
 impl WholeNumbers {
-    /// Those of the format. Below 0 there is one more than above it.
+    /// The range of `number`. There is one more negative number than positive ones.
     pub(crate) fn of(number: IntegerKind) -> Self {
         let (least, greatest) = match number {
             IntegerKind::Unsigned(width) => (0, width.greatest_unsigned()),
@@ -33,7 +33,8 @@ impl WholeNumbers {
     }
 }
 
-/// The schema of the numbers, as numbers, of which `serde_json` holds those of 64 bits, and as plain decimal texts.
+/// The schema of an integer, as a JSON number or as its plain decimal digits in a string. `minimum` and `maximum` are
+/// clamped to 64 bits, which is all `serde_json` can hold.
 pub(crate) fn whole_number_schema(
     alloc: Global,
     numbers: WholeNumbers,

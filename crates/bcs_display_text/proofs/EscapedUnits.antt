@@ -26,7 +26,7 @@ pub escaped_high : (unit : ℕ) → 126 < unit → escaped_unit unit ≡ numbere
 unfolding escaped_unit
 escaped_high unit high = grind arith
 
--- the two bytes of a unit are its four digits
+-- the hexadecimal digits of the two big-endian bytes of a unit are its four digits
 pub numbered_digits : (unit : ℕ) → 92 ∷ 117 ∷ encode_lower (to_be_bytes w16 unit) ≡ numbered unit
 unfolding numbered encode_with
 numbered_digits unit =
@@ -36,12 +36,12 @@ numbered_digits unit =
     let fourth : unit % 256 % 16 ≡ unit % 16 = omega arith in
     rw (first, second, third, fourth) refl
 
--- ---- the units that are left
+-- ---- the remaining units
 
 abbrev pub units_left : EncodeUtf16 → List ℕ
 units_left s = encode_utf16_pending s ++ utf16_units (encode_utf16_rest s)
 
--- the next unit comes off the front, and what is left is UTF-8
+-- an iterator step removes the first remaining unit, and the rest is still UTF-8
 pub unit_taken : (s t : EncodeUtf16) (unit : ℕ) → IsUtf8 (encode_utf16_rest s) → encode_utf16_steps s (Some unit) t
     → IsUtf8 (encode_utf16_rest t) × (units_left s ≡ unit ∷ units_left t)
 unit_taken s t unit text (inl (was, now, same)) = (
@@ -64,18 +64,18 @@ no_chars (b ∷ bs) empty = absurd (omega arith)
 pub units_ended : (s t : EncodeUtf16) → encode_utf16_steps s None t → units_left s ≡ []
 units_ended s t (was, empty, same) = ap (λ (u : List ℕ). u ++ utf16_units (encode_utf16_rest s)) was ∙ no_chars _ empty
 
--- before the first unit all of the text's are left
+-- before the first step, the remaining units are those of the whole text
 pub units_begin : (s : EncodeUtf16) (text : List ℕ) → encode_utf16_rest s ≡ text → encode_utf16_pending s ≡ [] → flat_map escaped_unit (units_left s) ≡ escaped text
 unfolding escaped
 units_begin s text rest pending =
     ap (λ (u : List ℕ). flat_map escaped_unit (u ++ utf16_units (encode_utf16_rest s))) pending
     ∙ ap (λ (u : List ℕ). flat_map escaped_unit (utf16_units u)) rest
 
--- after a unit was put, what was put and what is left are the same together
+-- appending a unit doesn't change the concatenation of the output and the remaining units
 pub units_more : (s t : EncodeUtf16) (unit : ℕ) (put : List ℕ) → units_left s ≡ unit ∷ units_left t
     → (put ++ escaped_unit unit) ++ flat_map escaped_unit (units_left t) ≡ put ++ flat_map escaped_unit (units_left s)
 units_more s t unit put taken = append_assoc put _ _ ∙ ap (λ (u : List ℕ). put ++ flat_map escaped_unit u) (sym taken)
 
--- at the end nothing is left
+-- after the last step no unit remains
 pub units_done : (s t : EncodeUtf16) (put : List ℕ) → encode_utf16_steps s None t → put ++ flat_map escaped_unit (units_left s) ≡ put
 units_done s t put ends = ap (λ (u : List ℕ). put ++ flat_map escaped_unit u) (units_ended s t ends) ∙ append-nil put

@@ -12,7 +12,7 @@ use Rattle.bcs_display_text.proofs.EscapedUnits.{escaped_high, escaped_low, esca
 abbrev IsPrintable : ℕ → Type 0
 IsPrintable byte = (32 ≤ byte) × (byte ≤ 126)
 
--- the same as a test, which computes
+-- `IsPrintable` as a computable test
 abbrev is_printable : ℕ → Bool
 is_printable byte = nat_le 32 byte && nat_le byte 126
 

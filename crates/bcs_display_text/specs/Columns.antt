@@ -1,14 +1,14 @@
--- Texts in columns of a line.
+-- Text in columns.
 use Rattle.std.specs.Prelude.{ℕ, ◌-◌, List, ◌++◌, length, replicate}
 
--- so many blanks
+-- N spaces
 abbrev pub blanks : ℕ → List ℕ
 blanks n = replicate n 32
 
--- the text at the left of a column of this width, or as it is where it is wider
+-- `text` padded on the right to `width`; unchanged if it is longer
 abbrev pub left_in : ℕ → List ℕ → List ℕ
 left_in width text = text ++ blanks (width - length text)
 
--- the text at the right of a column of this width, or as it is where it is wider
+-- `text` padded on the left to `width`; unchanged if it is longer
 abbrev pub right_in : ℕ → List ℕ → List ℕ
 right_in width text = blanks (width - length text) ++ text

@@ -1,4 +1,4 @@
-//! Text in a colour, where a terminal is told of colours.
+//! Colored text, if the style asks for color.
 ghost use Rattle.std.specs.Prelude.{◌≡◌, ◌-◌, ◌++◌, ℕ, List, OnOk, length};
 ghost use Rattle.bcs_display_text.specs.Columns.{blanks};
 ghost use Rattle.bcs_display_text.specs.Painted.{color_off, color_on};
@@ -7,7 +7,7 @@ use crate::columns::put_blanks;
 use crate::style::Paint;
 use std::alloc::AllocError;
 
-/// Appends what turns a colour on.
+/// Appends the escape sequence that switches to `color`, a list of SGR parameters such as `1;31` (ECMA-48).
 pub fn start_color(paint: Paint, color: &str, out: &mut Vec<u8>) -> Result<(), AllocError>
     ensures { OnOk result (out.new.items ≡ out.old.items ++ color_on paint color.now) }
 {
@@ -21,7 +21,7 @@ pub fn start_color(paint: Paint, color: &str, out: &mut Vec<u8>) -> Result<(), A
     }
 }
 
-/// Appends what turns it off again.
+/// Appends the escape sequence that resets the color.
 pub fn end_color(paint: Paint, out: &mut Vec<u8>) -> Result<(), AllocError>
     ensures { OnOk result (out.new.items ≡ out.old.items ++ color_off paint) }
 {
@@ -31,8 +31,7 @@ pub fn end_color(paint: Paint, out: &mut Vec<u8>) -> Result<(), AllocError>
     }
 }
 
-/// Turns the colour off, fills what was put since the buffer had `start` bytes up to a column's width, and puts two
-/// blanks behind it.
+/// Resets the color, pads the text since byte `start` of the buffer to `width` bytes, and appends two spaces.
 pub fn end_painted(
     paint: Paint,
     start: usize,

@@ -1,4 +1,4 @@
-//! Numbers and hexadecimal digits, and the blanks that make columns of them.
+//! Numbers and hexadecimal digits, and the spaces that align them in columns.
 ghost use Rattle.std.specs.Prelude.{◌≡◌, ◌++◌, ◌∷◌, [], List, ℕ, OnOk, decimal, length};
 ghost use Rattle.std.specs.Fmt.{signed_decimal};
 ghost use Rattle.std.specs.Int.{cast_signed};
@@ -10,7 +10,7 @@ use bcs_num::Width;
 use itoa::Buffer;
 use std::alloc::AllocError;
 
-/// Appends so many blanks.
+/// Appends `count` spaces.
 pub fn put_blanks(count: usize, out: &mut Vec<u8>) -> Result<(), AllocError>
     ensures { OnOk result (out.new.items ≡ out.old.items ++ blanks count) }
 {
@@ -20,7 +20,7 @@ pub fn put_blanks(count: usize, out: &mut Vec<u8>) -> Result<(), AllocError>
     Ok(())
 }
 
-/// Appends a number by its decimal digits.
+/// Appends a number in decimal.
 pub fn put_decimal(number: u128, out: &mut Vec<u8>) -> Result<(), AllocError>
     ensures { OnOk result (out.new.items ≡ out.old.items ++ decimal number) }
 {
@@ -28,8 +28,7 @@ pub fn put_decimal(number: u128, out: &mut Vec<u8>) -> Result<(), AllocError>
     out.extend_from_slice(digits.format(number).as_bytes())
 }
 
-/// Appends the number that these bits are in two's complement of the width, by its decimal digits, behind a `-` where
-/// it is negative.
+/// Appends in decimal the signed number whose two's complement in `width` is `bits`.
 pub fn put_signed(width: Width, bits: u128, out: &mut Vec<u8>) -> Result<(), AllocError>
     ensures { OnOk result (out.new.items ≡ out.old.items ++ signed_decimal (cast_signed (width_of width) bits)) }
 {
@@ -41,7 +40,7 @@ pub fn put_signed(width: Width, bits: u128, out: &mut Vec<u8>) -> Result<(), All
     put_decimal(all_ones.saturating_sub(bits) + 1, out)
 }
 
-/// Appends a place by its decimal digits, at the right end of a column.
+/// Appends a byte offset in decimal, right-aligned in a column of `width` bytes.
 pub fn put_place(place: u64, width: usize, out: &mut Vec<u8>) -> Result<(), AllocError>
     ensures { OnOk result (out.new.items ≡ out.old.items ++ right_in width (decimal place)) }
 {
@@ -51,7 +50,7 @@ pub fn put_place(place: u64, width: usize, out: &mut Vec<u8>) -> Result<(), Allo
     out.extend_from_slice(digits)
 }
 
-/// Appends bytes by two lower-case hexadecimal digits each.
+/// Appends two lower-case hexadecimal digits for each byte.
 pub fn put_hex(bytes: &[u8], out: &mut Vec<u8>) -> Result<(), AllocError>
     ensures { OnOk result (out.new.items ≡ out.old.items ++ encode_lower bytes.now) }
 {
@@ -61,17 +60,17 @@ pub fn put_hex(bytes: &[u8], out: &mut Vec<u8>) -> Result<(), AllocError>
     Ok(())
 }
 
-/// Appends a byte by its two digits.
+/// Appends the two hexadecimal digits of a byte.
 fn put_byte(byte: u8, out: &mut Vec<u8>) -> Result<(), AllocError>
     ensures { OnOk result (out.new.items ≡ out.old.items ++ encode_lower (byte ∷ [])) }
 {
     let mut digits = [0; 2];
-    // Two digits for one byte always fit.
+    // This can't fail: the buffer has room for two digits.
     let _ = hex::encode_to_slice([byte], &mut digits);
     out.extend_from_slice(&digits)
 }
 
-/// Fills what was put since the buffer had `start` bytes up to a column's width, and puts two blanks behind it.
+/// Pads the text since byte `start` of the buffer to `width` bytes, and appends two spaces.
 pub fn end_column(start: usize, width: usize, out: &mut Vec<u8>) -> Result<(), AllocError>
     ensures { (before text : List ℕ) → out.old.items ≡ before ++ text → length before ≡ start
         → OnOk result (out.new.items ≡ before ++ left_in width text ++ blanks 2) }

@@ -1,7 +1,7 @@
-//! What holds of escaped text. Each law is the contract of a call that does nothing.
+//! Laws about escaped text. Each law is the contract of a function with an empty body.
 ghost use Rattle.bcs_display_text.specs.Laws.{EscapedIsPrintable};
 
-/// No text writes a control character to a terminal, once it is escaped.
+/// Escaped text contains only printable ASCII, so it can't send control characters to a terminal.
 pub fn escaped_is_printable()
     ensures { EscapedIsPrintable }
 {}

@@ -1,4 +1,4 @@
-//! Parts of a printed line: escaped text, numbers, hexadecimal digits, and the blanks between columns.
+//! Parts of a printed line: escaped text, numbers, hexadecimal digits, colors and columns.
 #![tactic(auto)]
 
 pub mod colors;

@@ -1,19 +1,19 @@
-//! The form in which pieces are printed, and whether in colour.
+//! The output form of pieces, and whether it is colored.
 
-/// What a line says of the way to a piece, and how.
+/// What a line contains about the field path of a piece.
 #[derive(Clone, Copy, Debug, PartialEq, Eq)]
 pub enum Form {
-    /// The steps from the whole value down, by their names.
+    /// The field path: the names of all steps from the whole value down.
     Ways,
-    /// The same, and behind it the path that leads to the piece in a value's bytes.
+    /// The field path, followed by the PATH argument for `bcs part`.
     Paths,
-    /// The last step alone, set in by how many come before it.
+    /// Only the last step, indented by the number of steps before it.
     Tree,
-    /// A JSON object a line.
+    /// One JSON object per line.
     Json,
 }
 
-/// Whether a terminal is told of colours. JSON has none.
+/// Whether the output contains color codes for a terminal. JSON never does.
 #[derive(Clone, Copy, Debug, PartialEq, Eq)]
 pub enum Paint {
     Plain,

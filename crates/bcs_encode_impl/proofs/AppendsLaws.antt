@@ -1,7 +1,7 @@
--- What was appended, told in other words, and one step after another.
+-- Rewriting what was appended, and combining it step by step.
 use Rattle.bcs_encode_impl.proofs.Prelude.{◌≡◌, ℕ, ◌<◌, List, length, true, ◌⊎◌, inl, inr, Ok, Err, IfOk, Option, Some, None, refl, sym, ap, subst, ◌∙◌, IfSome, Entries, Verdict, chain, RepeatedKey, Appends, Continues, Keeps, TakesWhatFits, is_told, is_complete, told, verdict_at, Output, Extent, Rising, Sorting, Repeated, Incomplete}
 
--- ---- verdicts in turn
+-- ---- verdicts, one after another
 
 pub chain_chain : (x : Verdict) (f g : List ℕ → Verdict) → chain (chain x f) g ≡ chain x (λ b. chain (f b) g)
 chain_chain (Ok b) f g = refl
@@ -73,12 +73,12 @@ pub some_appends : (o : Option ℕ) (old new : Output) (v : List ℕ → Verdict
 some_appends None old new v h = tt
 some_appends (Some m) old new v h = h
 
--- what a number appends is the same by each registry
+-- what an integer appends doesn't depend on the registry
 pub at_one_registry : (o : Option ℕ) (registry : Entries) (P : Entries → Type 0) → IfSome o (λ x. (r : Entries) → P r) → IfSome o (λ x. P registry)
 at_one_registry None registry P h = tt
 at_one_registry (Some m) registry P h = h registry
 
--- ---- rows: their beginning, the next element, and their end
+-- ---- lists: the beginning, the next element, and the end
 
 pub begins : (first : Output) (all rest : List ℕ → Verdict) → ((b : List ℕ) → all b ≡ rest b) → Continues first first all rest
 begins first all rest same = λ is. (chain_same (told first) all rest same, (is, λ _. (refl, refl)))
@@ -98,7 +98,7 @@ ends first now all rest same f = λ is. let p = f is in (p.0 ∙ chain_end (told
 pub repeated_told : (o : Output) → o.extent ≡ Repeated → told o ≡ Err RepeatedKey
 repeated_told o is = ap (λ (x : Extent). verdict_at x o.bytes.items) is
 
--- ---- what stands there at the end
+-- ---- the contents at the end
 
 pub whole_written : (old new : Output) (v : List ℕ → Verdict) → Appends old new v → is_complete new.extent ≡ true → v old.bytes.items ≡ Ok new.bytes.items
 whole_written old new v h whole =
@@ -111,7 +111,7 @@ repeated_written old new v old_whole h repeated =
     let p = h (ap is_told repeated) in
     ap (λ (u : Verdict). chain u v) (sym (whole_told old old_whole)) ∙ p.0 ∙ repeated_told new repeated
 
--- a step takes what fits also as one that appends the same
+-- replaces what is appended by something equal
 pub fits_as_well : (old new : Output) (v w : List ℕ → Verdict) → ((b : List ℕ) → w b ≡ v b) → TakesWhatFits old new v → TakesWhatFits old new w
 fits_as_well old new v w same h =
     (h.0, h.1, λ whole off. subst (λ (u : Verdict). IfOk u (λ b. old.bytes.capacity < length b)) (sym (same old.bytes.items)) (h.2 whole off))

@@ -1,4 +1,4 @@
--- Entries that were sorted by their keys' bytes are those that were put in order one by one.
+-- Sorting entries by their encoded keys gives the same as inserting them in order, one by one.
 use Rattle.bcs_encode_impl.proofs.Prelude.{◌≡◌, ℕ, true, false, List, [], ◌∷◌, ◌++◌, refl, arith, inl, inr, ◌⊎◌, Ok, Err, flat_map, IsPermutation, cases_Bool, and_parts, IsPermutation-refl, IsPermutation-sym, IsPermutation-trans, IsPermutation-cons, IsPermutation-swap, rising_no_equal_neighbours, equal_neighbours_found, Below, Keyed, Entry, entry_bytes, EntriesRiseFrom, EntriesRise, HasEqualNeighbours, is_below, keys_rise, insert_in_order, in_order, sorted_entries_written, RepeatedKey, order, not_below, Below-is_lt, rising_once, equal_neighbours_twice, once_moved, moved, rising_alike}
 
 abbrev AtMost : List ℕ → List ℕ → Type 0
@@ -26,7 +26,7 @@ module _ {V : Type 0} where
       IsPermutation-trans (e ∷ es) (e ∷ in_order es) (insert_in_order e (in_order es))
       (IsPermutation-cons e es (in_order es) (in_order_moves es)) (insert_moves e (in_order es))
 
-  -- ---- they rise, or two neighbours have one key
+  -- ---- the keys ascend, or two neighbours have equal keys
 
   abbrev AscendsFrom : List ℕ → List (Keyed V) → Type 0
   AscendsFrom b [] = Unit {0}
@@ -75,7 +75,7 @@ module _ {V : Type 0} where
   pub in_order_rises_or_equal_neighbours : (es : List (Keyed V)) → EntriesRise (in_order es) ⊎ HasEqualNeighbours (in_order es)
   in_order_rises_or_equal_neighbours es = rises_or_equal_neighbours (in_order es) (in_order_ascends es)
 
-  -- ---- any other way to sort them by their keys' bytes gives the same
+  -- ---- any way of sorting by encoded keys gives the same
 
   pub sorted_in_order : (es rs : List (Keyed V)) → IsPermutation es rs → EntriesRise rs → in_order es ≡ rs
   sorted_in_order es rs p up = elim (in_order_rises_or_equal_neighbours es) [
@@ -86,7 +86,7 @@ module _ {V : Type 0} where
         (once_moved (in_order es) es (IsPermutation-sym es (in_order es) (in_order_moves es)) (once_moved es rs p (rising_once rs up))))
   ]
 
--- ---- what is put of them
+-- ---- what is written for them
 
 pub sorted_written : (es rs : List Entry) (b : List ℕ) → IsPermutation es rs → EntriesRise rs → sorted_entries_written es b ≡ Ok (b ++ flat_map entry_bytes rs)
 unfolding sorted_entries_written
@@ -100,7 +100,7 @@ equal_neighbours_written es rs b p equal_neighbours = elim (in_order_rises_or_eq
       (once_moved rs es (IsPermutation-sym es rs p) (once_moved es (in_order es) (in_order_moves es) (rising_once (in_order es) rises))))
 ]
 
--- ---- entries that rise as they stand
+-- ---- entries that already ascend
 
 rise_from : (e : Entry) (es : List Entry) → keys_rise (e ∷ es) ≡ true → EntriesRiseFrom e.0 es
 rise_from e [] h = tt

@@ -1,4 +1,4 @@
--- What is written behind other bytes is what is written alone; and the entries that spans stand for.
+-- Writing after other bytes gives those bytes, followed by what is written alone; and the entries that spans refer to.
 use Rattle.bcs_encode_impl.proofs.Prelude.{◌≡◌, ℕ, ◌+◌, ◌-◌, Bool, true, false, ◌==◌, List, [], ◌∷◌, ◌++◌, length, map, refl, sym, ap, ap₂, ◌∙◌, append_assoc, append-nil, length-append, arith, inl, inr, if◌then◌else◌, Result, Ok, Err, flat_map, IsPermutation, cases_Bool, length-flat_map, IsPermutation-map, sum_by-IsPermutation, drop-append_seam, take-append_seam, bits, uleb, Shape, Shapes, no_shapes, shape, Entries, Content, of, one_of, content_at, choice_at, Tree, Trees, no_trees, tree, Pairs, no_pairs, pair, count, pair_count, holds_signed, length_limit, Entry, entry_bytes, EntriesRiseFrom, EntriesRise, HasEqualNeighbours, has_equal_neighbours, Verdict, chain, length_written, in_order, sorted_entries_written, shape_count, written, items_written, each_written, entries_written, Ordered, lone_key_at, part, span_entry, span, Span, EncodeFault, NotOfFormat, RepeatedKey}
 use Rattle.std.specs.Prelude.{nat_le, nat_lt, ◌^◌}
 use Rattle.std.proofs.lemmas.Bool.{le-leb}
@@ -6,7 +6,7 @@ use Rattle.bcs_registry_model.specs.Shape as shape
 use Rattle.bcs_value_model.specs.Tree as tree
 use Rattle.bcs_encode_impl.proofs.EntryArranging.{sorted_written, equal_neighbours_written}
 
--- ---- what was there before stays in front
+-- ---- the earlier bytes stay in front
 
 abbrev pub after : List ℕ → Verdict → Verdict
 after b v = chain v (λ c. Ok (b ++ c))
@@ -15,7 +15,7 @@ chain_after : (b : List ℕ) (v : Verdict) (f g : List ℕ → Verdict) → ((c 
 chain_after b (Ok c) f g h = h c
 chain_after b (Err e) f g h = refl
 
--- a choice that the bytes don't tell
+-- a choice that doesn't depend on the bytes
 chosen_after : (b : List ℕ) (test : Bool) (v w : Verdict) (e : EncodeFault) → v ≡ after b w → (if test then v else Err e) ≡ after b (if test then w else Err e)
 chosen_after b true v w e h = h
 chosen_after b false v w e h = refl
@@ -36,7 +36,7 @@ entries_after es b x = elim (cases_Bool (has_equal_neighbours (in_order es))) [
   | inr isnt ↦ rw isnt (appended b x (flat_map entry_bytes (in_order es)))
 ]
 
--- what comes of the spans, behind other bytes
+-- what the spans give, after other bytes
 pub arranged : (b bytes c : List ℕ) (xs ys : List Span) (v : Verdict) → c ≡ bytes → ys ≡ xs → sorted_entries_written (map (span_entry c) ys) [] ≡ v
     → sorted_entries_written (map (span_entry bytes) xs) b ≡ chain v (λ d. Ok (b ++ d))
 arranged b bytes c xs ys v same is h =
@@ -88,13 +88,13 @@ module _ (registry : Entries) where
   pub written_behind : (t : Tree) (f : Content) (b : List ℕ) → written registry t f b ≡ after b (written registry t f [])
   written_behind t f b = ap (written registry t f) (sym (append-nil b)) ∙ written_after t f b []
 
--- ---- the spans of entries that stand one after another
+-- ---- the spans of consecutive entries
 
 abbrev pub spans_from : ℕ → List Entry → List Span
 spans_from at [] = []
 spans_from at (e ∷ es) = span at (at + length e.0) ((at + length e.0) + length e.1) ∷ spans_from ((at + length e.0) + length e.1) es
 
--- ---- the entries that the spans stand for
+-- ---- the entries that spans refer to
 
 pub part_between : (x y z : List ℕ) → part (x ++ (y ++ z)) (length x) (length x + length y) ≡ y
 part_between x y z =
@@ -104,7 +104,7 @@ part_between x y z =
     let size : (length x + length y) - length x ≡ length y = omega arith in
     rw (low, high, size, drop-append_seam x (y ++ z), take-append_seam y z) refl
 
--- other bytes may stand behind
+-- more bytes may follow
 pub spans_within : (es : List Entry) (b more : List ℕ) → map (span_entry (b ++ (flat_map entry_bytes es ++ more))) (spans_from (length b) es) ≡ es
 spans_within [] b more = refl
 spans_within (e ∷ es) b more =
@@ -128,7 +128,7 @@ pub spans_entries : (es : List Entry) (b : List ℕ) → map (span_entry (b ++ f
 spans_entries es b =
     ap (λ (x : List ℕ). map (span_entry (b ++ x)) (spans_from (length b) es)) (sym (append-nil (flat_map entry_bytes es))) ∙ spans_within es b []
 
--- ---- the order of keys, with the values beside them
+-- ---- the order of keys, including their values
 
 module _ (bytes : List ℕ) (value : Span → List ℕ) where
   abbrev valued : Span → Entry
@@ -148,7 +148,7 @@ module _ (bytes : List ℕ) (value : Span → List ℕ) where
   equal_neighbours_with (z ∷ y ∷ zs) (inl is) = inl is
   equal_neighbours_with (z ∷ y ∷ zs) (inr more) = inr (equal_neighbours_with (y ∷ zs) more)
 
--- what is written of spans that were brought into order
+-- what is written for sorted spans
 module _ (bytes b : List ℕ) (xs ys : List Span) (moved : IsPermutation xs ys) where
   entries_move : IsPermutation (map (span_entry bytes) xs) (map (span_entry bytes) ys)
   entries_move = IsPermutation-map (span_entry bytes) xs ys moved

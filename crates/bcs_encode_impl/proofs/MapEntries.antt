@@ -1,4 +1,4 @@
--- A map whose entries are appended one by one: each span is noted, or each key is above the one before.
+-- A map whose entries are appended one by one: each span is recorded, or each key is above the one before.
 use Rattle.bcs_encode_impl.proofs.Prelude.{◌≡◌, ℕ, ◌+◌, ◌≤◌, List, [], ◌∷◌, ◌++◌, length, take, drop, map, Bool, true, inl, inr, Ok, Err, Option, Some, None, refl, sym, ap, ap₂, subst, ◌∙◌, append_assoc, append-nil, length-append, arith, Result, flat_map, and_parts, and_from, drop-append_seam, take-append_seam, IsPermutation-refl, Entries, Content, of, Shape, Tree, Pairs, no_pairs, pair, Entry, entry_bytes, part, span, span_entry, is_below, keys_rise, Verdict, chain, entries_written, sorted_entries_written, written, Span, EncodeFault, RepeatedKey, HeldBytes, Appends, Keeps, is_told, is_complete, rises_after, told, Output, Extent, Rising, Sorting, Repeated, Incomplete}
 use Rattle.bcs_encode_impl.proofs.EntryArranging.{keys_rise_up, sorted_written}
 use Rattle.bcs_encode_impl.proofs.LayingLaws.{after, part_between, spans_entries, spans_from, spans_within, written_behind}
@@ -32,7 +32,7 @@ flat_pushed : (es : List Entry) (a w : List ℕ) → flat_map entry_bytes (es ++
 flat_pushed [] a w = append-nil (a ++ w)
 flat_pushed (e ∷ es) a w = ap (λ (x : List ℕ). (e.0 ++ e.1) ++ x) (flat_pushed es a w) ∙ sym (append_assoc (e.0 ++ e.1) (flat_map entry_bytes es) (a ++ w))
 
--- ---- keys that rise
+-- ---- ascending keys
 
 abbrev above : List Entry → Entry → Bool
 above [] x = true
@@ -97,7 +97,7 @@ no_entry registry k v l w ps es b e h = first (written registry l (of k) []) ref
 
 -- ---- the entries so far
 
--- what is written of a map behind its length
+-- what is written for a map after its length
 abbrev pub pairs_written : Entries → Pairs → Shape → Shape → List ℕ → Verdict
 pairs_written registry ps k v c = chain (entries_written registry ps k v []) (λ es. sorted_entries_written es c)
 
@@ -109,8 +109,8 @@ pub record Entered (registry : Entries) (k v : Shape) (all rest : Pairs) (first 
   pub noted : now.extent ≡ Sorting → now.spans.items ≡ first.spans.items ++ spans_from (length first.bytes.items) es
   pub rising : now.extent ≡ Rising → (now.spans.items ≡ first.spans.items) × (keys_rise es ≡ true)
 
--- where the output is told: those of the pairs before the rest stand behind the first output; or a key was repeated, and
--- so it is in the map
+-- if the output is complete or has found a repeated key: the entries before `rest` follow the bytes of `first`, or the
+-- map does repeat a key
 abbrev pub Enters : Entries → Shape → Shape → Pairs → Pairs → Output → Output → Option Span → Type 0
 Enters registry k v all rest first now before = is_told now.extent ≡ true
     → (is_told first.extent ≡ true)
@@ -136,18 +136,18 @@ at_first registry k v all first = λ is. (
   ),
 )
 
--- what `end_entry` says
+-- the contract of `end_entry`
 abbrev pub Ended : Output → Output → Option Span → Span → Type 0
 Ended old new before z = is_told new.extent ≡ true → (new.extent ≡ old.extent) × (new.bytes ≡ old.bytes)
     × (old.extent ≡ Sorting → new.spans.items ≡ old.spans.items ++ (z ∷ []))
     × (old.extent ≡ Rising → (new.spans.items ≡ old.spans.items) × (rises_after old.bytes.items before z ≡ true))
 
 module _ (registry : Entries) (k v : Shape) (all : Pairs) (l w : Tree) (ps : Pairs) (first o p q r : Output) (before : Option Span) where
-  -- the places of the entry
+  -- the span of the entry
   abbrev entry : Span
   entry = span (length o.bytes.items) (length p.bytes.items) (length q.bytes.items)
 
-  -- all stands there
+  -- the whole entry has been appended
   grows : (x : Entered registry k v all (pair l w ps) first o before) → o.extent ≡ first.extent → written registry l (of k) o.bytes.items ≡ Ok p.bytes.items → written registry w (of v) p.bytes.items ≡ Ok q.bytes.items
       → q.extent ≡ o.extent → q.spans.items ≡ o.spans.items → r.extent ≡ q.extent → r.bytes ≡ q.bytes
       → (q.extent ≡ Sorting → r.spans.items ≡ q.spans.items ++ (entry ∷ []))

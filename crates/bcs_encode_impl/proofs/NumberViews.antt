@@ -1,12 +1,12 @@
--- What the writing of plain numbers needs of the views.
+-- Facts about views that the encoding of integers needs.
 use Rattle.bcs_encode_impl.proofs.Prelude.{◌≡◌, ℕ, ◌<◌, List, [], ◌∷◌, refl, ap, ◌∙◌, Ok, Err, w8, le-w8, le, Entries, of, Shape, whole_shape, IntegerKind, Unsigned, Signed, Tree, Trees, no_trees, tree, Verdict, chain, written, items_written}
 use Rattle.bcs_value_model.specs.Tree as tree
 
--- a number of one byte is its byte
+-- the encoding of a one-byte number
 pub one_byte : (n : ℕ) → n < 256 → le w8 n ≡ n ∷ []
 one_byte n small = le-w8 n small
 
--- a number looks up no container
+-- an integer looks up no container
 number_anywhere : (r q : Entries) (n : IntegerKind) (t : Tree) (b : List ℕ) → written r t (of (whole_shape n)) b ≡ written q t (of (whole_shape n)) b
 number_anywhere r q (Unsigned w) tree.unit b = refl
 number_anywhere r q (Unsigned w) _ b = refl

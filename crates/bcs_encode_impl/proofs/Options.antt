@@ -1,7 +1,7 @@
--- Steps that answer or stop, and what is left after each.
+-- Steps that may fail, and what each of them leaves of a limit.
 use Rattle.bcs_encode_impl.proofs.Prelude.{◌≡◌, ℕ, ◌+◌, ◌-◌, Bool, true, false, nat_le, if◌then◌else◌, Option, Some, None, refl, sym, ap, ◌∙◌, arith, le-leb, leb-true, cond_some, none-some, option_and_then, less, leaf}
 
--- a step and the one after it
+-- one step after another
 pub then_some : (f : ℕ → Option ℕ) (o : Option ℕ) (m : ℕ) → option_and_then f o ≡ Some m → (x : ℕ) × (o ≡ Some x) × (f x ≡ Some m)
 then_some f (Some x) m h = (x, refl, h)
 then_some f None m h = absurd (none-some m h)
@@ -13,7 +13,7 @@ pub then_none : (f : ℕ → Option ℕ) (o : Option ℕ) → ((x : ℕ) → f x
 then_none f (Some x) h = h x
 then_none f None h = refl
 
--- a step after a test
+-- a step after a condition
 pub if_some : (b : Bool) (o : Option ℕ) (m : ℕ) → (if b then o else None) ≡ Some m → (b ≡ true) × (o ≡ Some m)
 if_some true o m h = (refl, h)
 if_some false o m h = absurd (none-some m h)
@@ -25,7 +25,7 @@ pub if_none : (b : Bool) (o : Option ℕ) → o ≡ None → (if b then o else N
 if_none true o h = h
 if_none false o h = refl
 
--- what is taken and what is left
+-- what was subtracted, and what is left
 pub less_some : (k n m : ℕ) → less k n ≡ Some m → k + m ≡ n
 less_some k n m h = let p = cond_some (nat_le k n) (n - k) m h in omega (arith, leb-true k n p.0, p.1)
 
@@ -40,7 +40,7 @@ leaf_some b n m h = let p = if_some b (less 1 n) m h in (p.0, less_some 1 n m p.
 pub leaf_is : (b : Bool) (n m : ℕ) → b ≡ true → 1 + m ≡ n → leaf b n ≡ Some m
 leaf_is b n m h e = if_is b (less 1 n) m h (less_is 1 n m e)
 
--- two answers are equal if each is what the other is
+-- two options are equal if each has the value of the other
 pub alike : (o p : Option ℕ) → ((m : ℕ) → o ≡ Some m → p ≡ Some m) → ((m : ℕ) → p ≡ Some m → o ≡ Some m) → o ≡ p
 alike None None there back = refl
 alike None (Some y) there back = back y refl

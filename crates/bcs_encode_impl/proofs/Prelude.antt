@@ -1,4 +1,4 @@
--- What the proofs use of other crates, and of this crate's definitions.
+-- Names from other crates and from this crate's definitions that the proofs share.
 pub use Rattle.std.proofs.Common.{[], ap, append-nil, append_assoc, ap₂, arith, Bool, Bor, Box, BTreeMap, drop, Err, false, get_or, Global, IfOk, if◌then◌else◌, inl, inr, is_some, IsTrue, le-leb, leb-true, length, length-append, length-drop, List, lt-ltb, map, nat_le, nat_lt, None, not, Ok, Option, option_map, refl, Result, rules, Some, subst, suc, sym, take, true, Vec, vec_capacity, vec_len, ℕ, ℤ, ◌&&◌, ◌*◌, ◌++◌, ◌+◌, ◌-◌, ◌<◌, ◌==◌, ◌^◌, ◌↔◌, ◌∙◌, ◌∷◌, ◌≡◌, ◌≤◌, ◌⊎◌}
 pub use Rattle.std.proofs.Math.ListN.{drop_of_length-le}
 pub use Rattle.std.proofs.Math.Seq.{drop-append_seam, take-append_seam}

@@ -1,4 +1,4 @@
--- A row from its next element on: what is validated of it, and what is written.
+-- Validating and writing a list, from its next element on.
 use Rattle.bcs_encode_impl.proofs.Prelude.{◌≡◌, ℕ, ◌+◌, ◌<◌, List, ◌∷◌, length, drop, get_or, Bor, Option, Some, option_map, sym, ap, ◌∙◌, drop_more, option_and_then, option_map_or, Entries, Content, of, nothing, content, content_at, container_at, Shape, container_of, Container, Tree, Pairs, pair, tree_of, items_trees, entries_pairs, Value, chain, written, items_written, less, validated, all_validated, pairs_validated}
 use Rattle.bcs_registry_model.specs.Container as spec
 use Rattle.bcs_registry_model.specs.Shape as shape
@@ -31,7 +31,7 @@ module _ (r : Entries) (ps : List (Value × Value)) (i : ℕ) (p : Value × Valu
       ∙ ap (option_and_then (λ (x : ℕ). option_and_then (pairs_validated r rest k v d) (validated r (tree_of p.1) (of v) d x))) first
       ∙ ap (option_and_then (pairs_validated r rest k v d)) second
 
--- a container that was found, and what is validated of its value
+-- a container that was found, and the validation of its value
 pub content_found : (r : Entries) (name : List ℕ) (o : Option (Bor Container)) (x : Bor Container) → option_map (λ (c : Bor Container). container_of c.now) o ≡ container_at name r → o ≡ Some x
     → content_at name r ≡ content (container_of x.now)
 content_found r name o x found some =

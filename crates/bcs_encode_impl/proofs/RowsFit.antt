@@ -1,4 +1,4 @@
--- A list's numbers that have bytes are in their range.
+-- If a list of integers can be written, all of them are in range.
 use Rattle.bcs_encode_impl.proofs.Prelude.{◌≡◌, ℕ, Bool, true, false, List, [], if◌then◌else◌, Ok, Err, refl, sym, ap, ◌∙◌, and_from, false≢true, holds_unsigned, holds_signed, width_of, of, whole_shape, IntegerKind, Unsigned, Signed, Tree, Trees, no_trees, tree, fits, all_fit, EncodeFault, NotOfFormat, Verdict, chain, written, items_written}
 use Rattle.std.specs.Result.{is_ok}
 use Rattle.bcs_value_model.specs.Tree as tree
@@ -16,7 +16,7 @@ number_fits (Unsigned w) _ b c e = absurd (fault_is_none NotOfFormat c _ refl e)
 number_fits (Signed w) (tree.signed z) b c e = ok_if (holds_signed (width_of w) z) _ c e
 number_fits (Signed w) _ b c e = absurd (fault_is_none NotOfFormat c _ refl e)
 
--- a chain that comes to an answer, by its first step
+-- a chain that succeeds, split at its first step
 chained : (v : Verdict) (f : List ℕ → Verdict) (c : List ℕ) → chain v f ≡ Ok c → (d : List ℕ) × (v ≡ Ok d) × (f d ≡ Ok c)
 chained (Ok d) f c e = (d, refl, e)
 chained (Err k) f c e = absurd (fault_is_none k c _ refl e)

@@ -1,10 +1,10 @@
--- What is validated to be sound is exactly what fits, within the depth and the nodes, with lengths that hold.
+-- Validation succeeds exactly if the value fits, depth and nodes are within the limits, and no length is too large.
 use Rattle.bcs_encode_impl.proofs.Prelude.{◌≡◌, ℕ, ◌+◌, ◌-◌, ◌≤◌, ◌^◌, Bool, true, false, ◌&&◌, ◌==◌, nat_le, nat_lt, length, Option, Some, None, is_some, IsTrue, ◌↔◌, refl, sym, ap, ◌∙◌, arith, and_parts, and_from, false≢true, none-some, same_Some, option_and_then, is_utf8, Entries, Content, of, one_of, content_at, choice_at, Shape, Shapes, no_shapes, shape, Tree, Trees, no_trees, tree, Pairs, no_pairs, pair, count, pair_count, depth, trees_depth, pairs_depth, nodes, trees_nodes, pairs_nodes, fits, all_fit, each_fits, pairs_fit, are_bytes, Bounds, fits-unsupported, length_limit, lengths_hold, all_hold, each_holds, pairs_hold, IsSoundBesidesKeys, less, validated, all_validated, each_validated, pairs_validated}
 use Rattle.bcs_registry_model.specs.Shape as shape
 use Rattle.bcs_value_model.specs.Tree as tree
 use Rattle.bcs_encode_impl.proofs.Options.{then_some, then_is, if_some, if_is, less_some, less_is, leaf_some, leaf_is}
 
--- a tree's, a row's or a map's fitting and lengths, and its depth and nodes, of which so many are left
+-- it fits, its lengths are valid, `depth` is within `d`, and its nodes leave `m` of `n`
 abbrev Kept : Bool → Bool → ℕ → ℕ → ℕ → ℕ → ℕ → Type 0
 Kept fitting lengths depth nodes d n m = (fitting ≡ true) × (lengths ≡ true) × (depth ≤ d) × (nodes + m ≡ n)
 
@@ -180,7 +180,7 @@ sound_is_validated : (registry : Entries) (limits : Bounds) (s : Shape) (t : Tre
 sound_is_validated registry limits s t h =
     kept_is_validated registry t (of s) limits.depth limits.nodes (limits.nodes - nodes t) h.fit h.lengths h.depth_holds (omega (arith, h.nodes_hold))
 
--- there is an answer exactly where the tree is sound besides its keys
+-- validation succeeds exactly if the tree is sound besides its keys
 pub validated_exactly : (registry : Entries) (limits : Bounds) (s : Shape) (t : Tree) (o : Option ℕ) → o ≡ validated registry t (of s) limits.depth limits.nodes
     → IsTrue (is_some o) ↔ IsSoundBesidesKeys registry limits s t
 validated_exactly registry limits s t (Some m) e = (λ _. validated_is_sound registry limits s t m (sym e), λ _. refl)

@@ -1,11 +1,11 @@
--- What is written of a fitting tree is the bytes of its canonical form, unless two keys of one map are the same.
+-- What is written for a fitting tree is the bytes of its canonical form, unless a map repeats a key.
 use Rattle.bcs_encode_impl.proofs.Prelude.{◌≡◌, ℕ, suc, Bool, true, false, not, ◌&&◌, ◌==◌, List, [], ◌∷◌, ◌++◌, refl, sym, ap, subst, ◌∙◌, append_assoc, append-nil, length, inl, inr, Result, Ok, Err, flat_map, and_left, and_parts, and_from, false≢true, false_from_ne_true, eq-eqb, uleb, Shape, Shapes, no_shapes, shape, Entries, Content, of, one_of, content_at, choice_at, Tree, Trees, no_trees, tree, Pairs, no_pairs, pair, count, pair_count, fits, all_fit, each_fits, pairs_fit, payload_fits, same, all_pairs, distinct, all_distinct, pairs_distinct, length_limit, lengths_hold, all_hold, each_holds, pairs_hold, plain, plain_items, plain_each, Entry, EntriesOf, entry_bytes, map_bytes, Verdict, chain, length_written, in_order, sorted_entries_written, shape_count, written, items_written, each_written, entries_written, EncodeFault, RepeatedKey, form_of, items_form, each_form, count-items_form, form_entries, form_has_bytes, has_bytes_of_form, sorted_entries, equal_neighbours_repeat}
 use Rattle.std.specs.Prelude.{nat_le}
 use Rattle.bcs_registry_model.specs.Shape as shape
 use Rattle.bcs_value_model.specs.Tree as tree
 use Rattle.bcs_encode_impl.proofs.EntryArranging.{in_order_moves, in_order_rises_or_equal_neighbours, sorted_written, equal_neighbours_written}
 
--- the verdict is this good result, and no key stands twice; or some key does
+-- the verdict is `good` and no key is repeated, or it is `RepeatedKey` and some key is
 abbrev pub Told : {A : Type 0} → Bool → A → Result A EncodeFault → Type 0
 Told d good (Ok a) = (d ≡ true) × (a ≡ good)
 Told d good (Err RepeatedKey) = d ≡ false
@@ -26,7 +26,7 @@ chain_told d e x y (Err _) rest h g = h
 pub told_good : {A : Type 0} (d : Bool) (x y : A) (v : Result A EncodeFault) → x ≡ y → Told d x v → Told d y v
 told_good d x y v e h = subst (λ z. Told d z v) e h
 
--- a length that holds
+-- a length within the maximum
 length_told : (n : ℕ) (b : List ℕ) → nat_le n length_limit ≡ true → length_written n b ≡ Ok (b ++ uleb n)
 length_told n b h = rw h refl
 
@@ -53,7 +53,7 @@ module _ (registry : Entries) where
       let q2 = and_parts (distinct k) (distinct v) q.0 in
       (form_has_bytes registry (of f) k p2.0 q2.0, form_has_bytes registry (of g) v p2.1 q2.1, forms_are_entries ps f g p.1 q.1)
 
-  -- the entries of a map, put after its length
+  -- the entries of a map, after its length
   forms_told : (ps : Pairs) (f g : Shape) (b : List ℕ) → pairs_fit false registry ps f g ≡ true → parts_distinct ps ≡ true
       → Told (pairs_distinct ps) (b ++ plain registry (form_of registry (tree.pairs ps) (of (shape.map f g))) (of (shape.map f g))) (sorted_entries_written (form_entries registry ps f g) (b ++ uleb (pair_count ps)))
   forms_told ps f g b h d =

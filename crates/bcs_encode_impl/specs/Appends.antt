@@ -1,4 +1,4 @@
--- What a walk that validates a value has appended.
+-- What has been appended while a value is validated.
 use Rattle.std.specs.Prelude.{◌≡◌, ℕ, ◌<◌, ◌≤◌, Bool, true, false, List, length, Option, Some, None, Ok, Err, IfOk}
 use Rattle.bcs_key_order.specs.Spans.{part}
 use Rattle.bcs_key_order.specs.Order.{is_below}
@@ -9,14 +9,14 @@ use Rattle.bcs_encode_impl.specs.declared.output.Extent.{Extent}
 use Rattle.bcs_encode_impl.specs.declared.output.Extent.TheVariants.{Rising, Sorting, Repeated, Incomplete}
 use Rattle.bcs_encode_spec.specs.declared.fault.EncodeFault.TheVariants.{OutOfMemory, RepeatedKey}
 
--- all that was to be appended stands there
+-- everything has been appended
 abbrev pub is_complete : Extent → Bool
 is_complete Rising = true
 is_complete Sorting = true
 is_complete Repeated = false
 is_complete Incomplete = false
 
--- it does, or a repeated key was found
+-- everything has been appended, or a repeated key was found
 abbrev pub is_told : Extent → Bool
 is_told Rising = true
 is_told Sorting = true
@@ -33,25 +33,25 @@ verdict_at Incomplete b = Err OutOfMemory
 abbrev pub told : Output → Verdict
 told o = verdict_at o.extent o.bytes.items
 
--- an output that is told now was told at first, and where it is whole now, the maps that are open are the same
+-- if `now` is told, so was `first`; if `now` is complete, the same maps are open
 abbrev pub Keeps : Output → Output → Type 0
 Keeps first now = (is_told first.extent ≡ true)
     × (is_complete now.extent ≡ true → (now.extent ≡ first.extent) × (now.spans.items ≡ first.spans.items))
 
--- where the output is told now, what comes of all of it from there is what comes of the rest from here
+-- if `now` is told, appending `rest` to it gives the same as appending `all` to `first`
 abbrev pub Continues : Output → Output → (List ℕ → Verdict) → (List ℕ → Verdict) → Type 0
 Continues first now all rest = is_told now.extent ≡ true → (chain (told first) all ≡ chain (told now) rest) × Keeps first now
 
--- all of it was appended, where the output is told
+-- if `new` is told, it is `old` with everything appended
 abbrev pub Appends : Output → Output → (List ℕ → Verdict) → Type 0
 Appends old new written = is_told new.extent ≡ true → (chain (told old) written ≡ told new) × Keeps old new
 
--- the room doesn't shrink, and an output that was whole leaves off only where the bytes with what is to be appended exceed it
+-- capacity doesn't shrink, and a complete output gives up only if the bytes exceed it
 abbrev pub TakesWhatFits : Output → Output → (List ℕ → Verdict) → Type 0
 TakesWhatFits old new written = (new.bytes.grows ≡ old.bytes.grows) × (old.bytes.capacity ≤ new.bytes.capacity)
     × (is_complete old.extent ≡ true → is_complete new.extent ≡ false → IfOk (written old.bytes.items) (λ b. old.bytes.capacity < length b))
 
--- an entry's key is above that of the entry before, if there is one
+-- the entry's key is above the key of the entry before it, if there is one
 abbrev pub rises_after : List ℕ → Option Span → Span → Bool
 rises_after bytes None z = true
 rises_after bytes (Some y) z = is_below (part bytes y.start y.end) (part bytes z.start z.end)

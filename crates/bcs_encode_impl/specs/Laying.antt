@@ -1,4 +1,4 @@
--- The entries of a map: as bytes of their own, and where they stand in a buffer.
+-- The entries of a map: as separate bytes, and as spans of a buffer.
 use Rattle.std.specs.Prelude.{ℕ, List}
 use Rattle.bcs_encode_spec.specs.Entries.{Entry}
 use Rattle.bcs_key_order.specs.Spans.{part}

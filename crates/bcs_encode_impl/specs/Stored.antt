@@ -1,4 +1,4 @@
--- What a buffer holds, wherever it is kept.
+-- The contents of a buffer, on the stack or on the heap.
 use Rattle.std.specs.Prelude.{true, false, vec_capacity}
 use Rattle.bcs_encode_impl.specs.Held.{HeldBytes}
 use Rattle.bcs_encode_impl.specs.declared.buffer.TheConstants.{ROOM}

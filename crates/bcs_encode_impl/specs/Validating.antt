@@ -1,6 +1,6 @@
--- How many more nodes may come after a tree, where before it so many more containers could be opened (depth) and so many
--- more nodes come (nodes). None where the tree isn't sound within that. These functions carry the proof of the walk; its
--- public contract names `IsSoundBesidesKeys` alone.
+-- How many nodes are left after a tree, if `depth` more containers may open and `nodes` more nodes may begin; `None` if
+-- the tree isn't sound besides its keys within these limits. These functions carry the proof of the recursion. Its
+-- public contract names only `IsSoundBesidesKeys`.
 use Rattle.std.specs.Prelude.{ℕ, ◌-◌, ◌^◌, Bool, ◌&&◌, ◌==◌, nat_le, nat_lt, if◌then◌else◌, length, Option, Some, None}
 use Rattle.std.specs.Option.{option_and_then}
 use Rattle.std.specs.Str.{is_utf8}
@@ -13,11 +13,11 @@ use Rattle.bcs_value_model.specs.Tree.{Tree, Trees, no_trees, tree, Pairs, no_pa
 use Rattle.bcs_value_model.specs.Fits.{are_bytes}
 use Rattle.bcs_encode_spec.specs.Lengths.{length_limit}
 
--- what is left of n once k are taken
+-- `n - k`, or `None` if that is negative
 abbrev pub less : ℕ → ℕ → Option ℕ
 less k n = if nat_le k n then Some (n - k) else None
 
--- a tree without parts, which is good or not, is one node
+-- a tree without parts is one node, if it is good
 abbrev pub leaf : Bool → ℕ → Option ℕ
 leaf good nodes = if good then less 1 nodes else None
 
@@ -45,12 +45,12 @@ module _ (registry : Entries) where
         if nat_lt n (2 ^ 32) then option_and_then (validated t (choice_at n cs) depth) (less 1 nodes) else None
     validated _ _ depth nodes = None
 
-    -- each by the one format
+    -- every tree has the same format
     pub all_validated : Trees → Shape → ℕ → ℕ → Option ℕ
     all_validated no_trees s depth nodes = Some nodes
     all_validated (tree t ts) s depth nodes = option_and_then (all_validated ts s depth) (validated t (of s) depth nodes)
 
-    -- each by its own format
+    -- each tree has its own format
     pub each_validated : Trees → Shapes → ℕ → ℕ → Option ℕ
     each_validated no_trees no_shapes depth nodes = Some nodes
     each_validated (tree t ts) (shape s ss) depth nodes = option_and_then (each_validated ts ss depth) (validated t (of s) depth nodes)

@@ -1,5 +1,5 @@
--- What the writing of a value makes of the bytes before it: those bytes with the value's after them, or a fault. These
--- functions carry the proofs of the encoder; the public contracts name `Encodes` and `RefusesValue` alone.
+-- Appending a value to bytes: the bytes with the value's encoding after them, or a fault. These functions carry the
+-- proofs of the encoder. The public contracts name only `Encodes` and `RefusesValue`.
 use Rattle.std.specs.Prelude.{◌≡◌, ℕ, ℤ, suc, ◌==◌, nat_le, if◌then◌else◌, List, [], ◌∷◌, ◌++◌, length, Result, Ok, Err}
 use Rattle.std.specs.List.{flat_map}
 use Rattle.std.specs.Int.{Width}
@@ -25,12 +25,12 @@ abbrev pub chain : {A B : Type 0} → Result A EncodeFault → (A → Result B E
 chain (Ok a) rest = rest a
 chain (Err e) rest = Err e
 
--- what a call answered is the verdict, unless memory ran out
+-- the result of a call is the verdict, unless memory ran out
 abbrev pub ReportsVerdict : {A B : Type 0} → Result A EncodeFault → Result B EncodeFault → B → Type 0
 ReportsVerdict (Ok a) verdict new = verdict ≡ Ok new
 ReportsVerdict (Err e) verdict new = (e ≡ OutOfMemory → ⊥) → verdict ≡ Err e
 
--- ---- values with no parts
+-- ---- values without parts
 
 abbrev pub length_written : ℕ → List ℕ → Verdict
 length_written n b = if nat_le n length_limit then Ok (b ++ uleb n) else Err TooLong
@@ -46,7 +46,7 @@ signed_written w z b = if holds_signed w z then Ok (b ++ le_signed w z) else Err
 
 -- ---- the entries of a map in order
 
--- before the first entry whose key isn't below
+-- inserts before the first entry whose key isn't below
 abbrev pub insert_in_order : {V : Type 0} → Keyed V → List (Keyed V) → List (Keyed V)
 insert_in_order e [] = e ∷ []
 insert_in_order e (d ∷ ds) = if is_below d.0 e.0 then d ∷ insert_in_order e ds else e ∷ (d ∷ ds)
@@ -83,19 +83,19 @@ module _ (registry : Entries) where
     written (tree.variant n t) (one_of cs) b = written t (choice_at n cs) (b ++ uleb n)
     written _ _ b = Err NotOfFormat
 
-    -- each by the one format
+    -- every tree has the same format
     pub items_written : Trees → Shape → List ℕ → Verdict
     items_written no_trees s b = Ok b
     items_written (tree t ts) s b = chain (written t (of s) b) (items_written ts s)
 
-    -- each by its own format
+    -- each tree has its own format
     pub each_written : Trees → Shapes → List ℕ → Verdict
     each_written no_trees no_shapes b = Ok b
     each_written (tree t ts) (shape s ss) b = chain (written t (of s) b) (each_written ts ss)
     each_written no_trees (shape s ss) b = Err NotOfFormat
     each_written (tree t ts) no_shapes b = Err NotOfFormat
 
-    -- the entries so far, and then those of the pairs
+    -- the entries so far, followed by those of the pairs
     pub entries_written : Pairs → Shape → Shape → List Entry → Result (List Entry) EncodeFault
     entries_written no_pairs k v es = Ok es
     entries_written (pair l w ps) k v es =

@@ -1,4 +1,4 @@
-//! Bytes one after another, in a place of a fixed size or in memory that grows.
+//! A byte buffer, with a fixed size on the stack or growing on the heap.
 ghost use Rattle.std.specs.Prelude.{◌≡◌, ◌+◌, ◌*◌, ◌<◌, ◌≤◌, [], ◌∷◌, ◌++◌, Ok, IfOk, length, take, true, false};
 ghost use Rattle.bcs_registry_model.specs.Whole.{whole_len, whole_shape};
 ghost use Rattle.bcs_value_model.specs.View.{items_trees};
@@ -11,14 +11,14 @@ use bcs_value_model::Value;
 use std::alloc::{AllocError, Global};
 use std::marker::Model;
 
-/// How many bytes a place of a fixed size takes.
+/// The capacity of a fixed buffer, in bytes.
 pub const ROOM: usize = 1024;
 
-/// Bytes that were appended. What answers `false` appended none of what it was to append, or not all of it.
+/// The bytes appended so far. If a method returns `false`, it has appended none of its bytes, or only some of them.
 #[derive(Drop)]
 pub struct Buffer {
     store: Store,
-    /// How many bytes weren't taken.
+    /// How many bytes didn't fit.
     missed: usize,
 }
 
@@ -41,7 +41,7 @@ impl Model for Buffer {
 }
 
 impl Buffer {
-    /// Room for so many bytes, and no more, that asks for no memory.
+    /// A buffer of `ROOM` bytes, which never allocates.
     #[inline(always)]
     pub fn fixed() -> Buffer
         ensures items { result.items ≡ [] }
@@ -53,7 +53,7 @@ impl Buffer {
         }
     }
 
-    /// Memory for so many bytes, which grows where more come.
+    /// A heap buffer with a capacity of `room` bytes, which grows if necessary.
     #[inline(always)]
     pub fn growing(alloc: Global, room: usize) -> Result<Buffer, AllocError>
         ensures items { IfOk result (λ b. b.items ≡ []) }
@@ -66,7 +66,7 @@ impl Buffer {
         })
     }
 
-    /// How many bytes there are.
+    /// The number of bytes.
     #[inline(always)]
     pub fn len(&self) -> usize
         ensures { result ≡ length self.now.items }
@@ -77,12 +77,12 @@ impl Buffer {
         }
     }
 
-    /// How many bytes there are, with those that weren't taken.
+    /// The number of bytes, including those that didn't fit.
     pub fn needed(&self) -> usize {
         self.len().saturating_add(self.missed)
     }
 
-    /// Counts bytes that aren't taken. It is for the room that is asked for later, so no clause speaks of it.
+    /// Counts bytes that aren't appended. The count only sizes the next buffer, so no contract mentions it.
     #[inline(always)]
     pub fn count_missed(&mut self, count: usize)
         ensures { self.new ≡ self.old }
@@ -90,7 +90,6 @@ impl Buffer {
         self.missed = self.missed.saturating_add(count);
     }
 
-    /// The bytes.
     pub fn as_slice(&self) -> &[u8]
         ensures { result.now ≡ self.now.items }
     {
@@ -100,7 +99,7 @@ impl Buffer {
         }
     }
 
-    /// Appends one byte, if there is room.
+    /// Appends a byte if it fits.
     #[inline(always)]
     pub fn push(&mut self, byte: u8) -> bool
         ensures appended { result ≡ true → self.new.items ≡ self.old.items ++ byte ∷ [] }
@@ -118,7 +117,7 @@ impl Buffer {
         }
     }
 
-    /// Appends bytes, if there is room.
+    /// Appends bytes if they fit.
     #[inline(always)]
     pub fn extend(&mut self, piece: &[u8]) -> bool
         ensures appended { result ≡ true → self.new.items ≡ self.old.items ++ piece.now }
@@ -136,7 +135,7 @@ impl Buffer {
         }
     }
 
-    /// Appends the bytes of a list's numbers, if they are in range. A place of a fixed size takes none.
+    /// Appends a list of integers, if they are in range. A fixed buffer accepts none.
     pub fn push_numbers(&mut self, format: IntegerKind, items: &[Value]) -> bool
         ensures appended { result ≡ true → items_written [] (items_trees items.now) (whole_shape format) self.old.items ≡ Ok self.new.items }
         ensures full { result ≡ false → self.old.grows ≡ true
@@ -149,7 +148,7 @@ impl Buffer {
         }
     }
 
-    /// Puts bytes in the place of those from `start` on, as many as they are.
+    /// Overwrites everything from `start` to the end with `piece`, which must have the same length.
     pub fn overwrite(&mut self, start: usize, piece: &[u8])
         requires { start + length piece.now ≡ length self.old.items }
         ensures { self.new.items ≡ take start self.old.items ++ piece.now }
@@ -160,14 +159,14 @@ impl Buffer {
         }
     }
 
-    /// The bytes in memory, which is asked for once.
+    /// Copies the bytes into a vector, with one allocation.
     pub fn to_vec(&self, alloc: Global) -> Result<Vec<u8>, AllocError>
         ensures { IfOk result (λ v. v.items ≡ self.now.items) }
     {
         self.as_slice().to_vec(alloc)
     }
 
-    /// The bytes in memory: that in which they stand, or as `to_vec`.
+    /// Returns the bytes as a vector: the one that contains them, or a copy.
     pub fn into_vec(self, alloc: Global) -> Result<Vec<u8>, AllocError>
         ensures { IfOk result (λ v. v.items ≡ self.items) }
     {
@@ -178,7 +177,8 @@ impl Buffer {
     }
 }
 
-/// How many bytes weren't taken, once so many more were, or weren't.
+/// The updated count of missed bytes: unchanged if the write of `count` bytes was `done`, and otherwise larger by
+/// `count`.
 #[inline(always)]
 fn missed_after(missed: usize, done: bool, count: usize) -> usize {
     if done {

@@ -1,4 +1,4 @@
-//! The plain encoder: each entry of a map has bytes of its own, and they are sorted by their keys' bytes.
+//! The reference encoder: each map entry is encoded into a vector of its own, and the vectors are sorted by key.
 ghost use Rattle.std.specs.Prelude.{map, ◌≡◌, ◌++◌, Ok};
 ghost use Rattle.bcs_registry_model.specs.Container.{of, content, field_shapes, payload_shape};
 ghost use Rattle.bcs_registry_model.specs.Shape.{tuple};
@@ -22,7 +22,7 @@ use bcs_registry::{Container, Format, Named, Registry, VariantFormat};
 use bcs_value::Value;
 use std::alloc::Global;
 
-/// Appends the bytes of a value.
+/// Appends the encoding of a value.
 #[cycle(by_entries)]
 pub fn push_value(
     value: &Value,
@@ -81,7 +81,7 @@ pub fn push_value(
     }
 }
 
-/// Appends the bytes of what stands in a container.
+/// Appends the contents of a container.
 #[cycle(by_entries)]
 fn push_content(
     value: &Value,
@@ -112,7 +112,7 @@ fn push_content(
     }
 }
 
-/// Appends the bytes of what a variant carries.
+/// Appends the contents of a variant.
 #[cycle(by_entries)]
 fn push_payload(
     value: &Value,
@@ -136,7 +136,7 @@ fn push_payload(
     }
 }
 
-/// Appends the bytes of elements of one format.
+/// Appends elements of one format.
 #[cycle(by_entries)]
 fn push_all(
     items: &[Value],
@@ -153,7 +153,7 @@ fn push_all(
     Ok(())
 }
 
-/// Appends the bytes of the elements of a tuple.
+/// Appends the elements of a tuple.
 #[cycle(by_entries)]
 #[tactic(auto, using(bcs_value_model::proofs::WalkViews::count_items, crate::proofs::WritingViews::count_formats))]
 fn push_each(
@@ -174,7 +174,7 @@ fn push_each(
     Ok(())
 }
 
-/// Appends the bytes of the fields of a struct.
+/// Appends the fields of a struct.
 #[cycle(by_entries)]
 #[tactic(auto, using(bcs_value_model::proofs::WalkViews::count_items, crate::proofs::WritingViews::count_fields))]
 fn push_fields(
@@ -195,7 +195,7 @@ fn push_fields(
     Ok(())
 }
 
-/// Appends a map's entries to those before, in the order of the pairs.
+/// Appends the entries of a map to `entries`, in the order given.
 #[cycle(by_entries)]
 fn collect_entries(
     pairs: &[(Value, Value)],
@@ -222,14 +222,14 @@ fn collect_entries(
     Ok(())
 }
 
-/// The bytes of an entry's key, and those of its value.
+/// The encoded key and value of a map entry.
 #[derive(Drop)]
 pub struct EntryBytes {
     pub key: Vec<u8>,
     pub value: Vec<u8>,
 }
 
-/// Appends the entries by rising keys, or refuses two with one key.
+/// Sorts the entries by key and appends them, or returns `RepeatedKey`.
 fn push_in_order(mut entries: Vec<EntryBytes>, out: &mut Vec<u8>) -> Result<(), EncodeFault>
     ensures { ReportsVerdict result (sorted_entries_written (map entry_of entries.items) out.old.items) out.new.items }
 {
@@ -247,7 +247,7 @@ fn sort_by_keys(entries: &mut Vec<EntryBytes>)
     entries.sort_unstable_by(|a, b| { a.key.as_slice().cmp(b.key.as_slice()) });
 }
 
-/// Whether two entries that stand next to each other have one key.
+/// Whether two neighbouring entries have the same key.
 fn have_equal_neighbours(entries: &[EntryBytes]) -> bool
     ensures { result ≡ has_equal_neighbours (map entry_of entries.now) }
 {

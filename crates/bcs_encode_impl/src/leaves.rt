@@ -1,4 +1,5 @@
-//! Values without parts and lists of numbers, with their bytes, and what is left of the limits.
+//! Validates and encodes values without parts and lists of integers. Each function returns how many nodes are left of
+//! the limit, or `None` if the value is invalid or the limit is exceeded.
 ghost use Rattle.std.specs.Prelude.{◌≡◌, ℕ, ◌&&◌, length, nat_le, IfSome, None, [], false, if◌then◌else◌};
 ghost use Rattle.std.specs.Str.{is_utf8};
 ghost use Rattle.bcs_num.specs.Le.{holds_signed, holds_unsigned, width_of};
@@ -19,7 +20,7 @@ use bcs_num::{LENGTH_LIMIT, Width};
 use bcs_registry_model::{Format, IntegerKind, Kind, Scalar};
 use bcs_value_model::Value;
 
-/// What is left once so many are taken. `None`: there are fewer.
+/// Subtracts `count` from a limit. Returns `None` if less than `count` is left.
 #[inline(always)]
 pub fn take(count: u64, from: u64) -> Option<u64>
     ensures { result ≡ less count from }
@@ -27,7 +28,7 @@ pub fn take(count: u64, from: u64) -> Option<u64>
     from.checked_sub(count)
 }
 
-/// How many nodes may come after a value without parts, where it is good.
+/// Charges one node for a value without parts that is valid if `good`.
 #[inline(always)]
 pub fn validate_leaf(nodes: u64, good: bool) -> Option<u64>
     ensures { result ≡ leaf good nodes }
@@ -35,7 +36,7 @@ pub fn validate_leaf(nodes: u64, good: bool) -> Option<u64>
     if good { take(1, nodes) } else { None }
 }
 
-/// The same of a text, which is good where it is short enough, with its bytes.
+/// Validates and appends a string. Its length must be at most `LENGTH_LIMIT`.
 #[inline(always)]
 pub fn validate_text(nodes: u64, text: &str, out: &mut Output) -> Option<u64>
     ensures validated { result ≡ leaf (is_utf8 text.now && nat_le (length text.now) length_limit) nodes }
@@ -45,7 +46,7 @@ pub fn validate_text(nodes: u64, text: &str, out: &mut Output) -> Option<u64>
     validate_leaf(nodes, text.len() <= LENGTH_LIMIT)
 }
 
-/// The same of a byte string.
+/// Validates and appends a byte string. Its length must be at most `LENGTH_LIMIT`.
 #[inline(always)]
 pub fn validate_bytes(nodes: u64, bytes: &[u8], out: &mut Output) -> Option<u64>
     ensures validated { result ≡ leaf (are_bytes bytes.now && nat_le (length bytes.now) length_limit) nodes }
@@ -55,7 +56,7 @@ pub fn validate_bytes(nodes: u64, bytes: &[u8], out: &mut Output) -> Option<u64>
     validate_leaf(nodes, bytes.len() <= LENGTH_LIMIT)
 }
 
-/// The same of an unsigned number at a width.
+/// Validates and appends an unsigned integer of a width.
 #[inline(always)]
 fn validate_unsigned_width(width: Width, nodes: u64, number: u128, out: &mut Output) -> Option<u64>
     ensures validated { result ≡ leaf (holds_unsigned (width_of width) number) nodes }
@@ -65,7 +66,7 @@ fn validate_unsigned_width(width: Width, nodes: u64, number: u128, out: &mut Out
     validate_leaf(nodes, width.holds_unsigned(number))
 }
 
-/// The same of a signed number at a width.
+/// Validates and appends a signed integer of a width.
 #[inline(always)]
 fn validate_signed_width(width: Width, nodes: u64, number: i128, out: &mut Output) -> Option<u64>
     ensures validated { result ≡ leaf (holds_signed (width_of width) number) nodes }
@@ -75,7 +76,7 @@ fn validate_signed_width(width: Width, nodes: u64, number: i128, out: &mut Outpu
     validate_leaf(nodes, width.holds_signed(number))
 }
 
-/// The same of an unsigned number at a format, whichever it is.
+/// Validates and appends an unsigned integer, whatever `format` is.
 #[inline(always)]
 pub fn validate_unsigned(
     format: &Format,
@@ -107,7 +108,7 @@ pub fn validate_unsigned(
     }
 }
 
-/// The same of a signed number.
+/// Validates and appends a signed integer, whatever `format` is.
 #[inline(always)]
 pub fn validate_signed(format: &Format, nodes: u64, number: &i128, out: &mut Output) -> Option<u64>
     ensures validated { (r : Entries) (depth : ℕ) → result ≡ validated r (signed number.now) (of (shape_of format.now)) depth nodes }
@@ -134,8 +135,7 @@ pub fn validate_signed(format: &Format, nodes: u64, number: &i128, out: &mut Out
     }
 }
 
-/// How many nodes may come after a list's numbers, where they are all in range, with their bytes. A number looks up no
-/// container, so the clauses name a registry without any.
+/// Validates and appends a list of integers. An integer looks up no container, so the contract uses an empty registry.
 pub fn validate_numbers(
     format: IntegerKind,
     nodes: u64,

@@ -1,4 +1,4 @@
-//! The walk of the encoder: whether a value is sound, and the bytes that it has; and the plain encoder.
+//! Validates and encodes values in a single pass; and a simple reference encoder.
 #![tactic(auto)]
 
 mod buffer;

@@ -1,4 +1,4 @@
-//! The ends of a map's entries, and of the map: its entries are brought into the order of their keys' bytes.
+//! Ends map entries and maps: sorts the entries by their encoded keys.
 ghost use Rattle.std.specs.Prelude.{◌≡◌, ◌+◌, ◌<◌, ◌≤◌, [], ◌∷◌, ◌++◌, Err, IfOk, Ok, OnErr, OnOk, false, true, if◌then◌else◌, drop, length, map, take, vec_capacity, vec_len};
 ghost use Rattle.std.specs.List.{flat_map};
 ghost use Rattle.bcs_encode_spec.specs.Entries.{entry_bytes};
@@ -13,8 +13,8 @@ use bcs_key_order::spans::{Span, rise, rises};
 use std::alloc::AllocError;
 
 impl Output {
-    /// Ends an entry of a map, which was appended last: its key is compared with that of the entry before, or its span is
-    /// noted. An output that sorts leaves off only where there is no room for one more span.
+    /// Ends the map entry that was just appended. An output that sorts records the span, and gives up only if there is
+    /// no memory for it. A fixed output gives up unless the key is above the key before.
     pub fn end_entry(&mut self, before: Option<Span>, entry: Span)
         ensures ended { is_told self.new.extent ≡ true → (self.new.extent ≡ self.old.extent) × (self.new.bytes ≡ self.old.bytes)
             × (self.old.extent ≡ Extent.Sorting → self.new.spans.items ≡ self.old.spans.items ++ entry ∷ [])
@@ -28,7 +28,7 @@ impl Output {
         }
     }
 
-    /// Leaves off where an entry's key isn't above that of the entry before.
+    /// Gives up unless the entry's key is above the key of the entry before.
     fn compare(&mut self, before: Option<Span>, entry: Span)
         ensures extent { self.new.extent ≡ (if rises_after self.old.bytes.items before entry then self.old.extent else Extent.Incomplete) }
         ensures bytes { self.new.bytes ≡ self.old.bytes }
@@ -38,7 +38,7 @@ impl Output {
         self.extent = self.extent.after(done);
     }
 
-    /// Notes the span of an entry, if there is memory.
+    /// Records the span of an entry, if there is memory.
     fn note(&mut self, entry: Span)
         ensures full { is_told self.old.extent ≡ true → is_told self.new.extent ≡ false → vec_capacity self.old.spans ≤ vec_len self.old.spans }
         ensures noted { is_told self.new.extent ≡ true → (self.new.extent ≡ self.old.extent) × (self.new.spans.items ≡ self.old.spans.items ++ entry ∷ []) }
@@ -48,8 +48,8 @@ impl Output {
         self.extent = self.extent.after(done);
     }
 
-    /// Ends a map, whose entries begin at `start`: brings those of the spans from `first` on into the order of their
-    /// keys' bytes, and drops the spans. It leaves off only where the scratch buffer has no room for the entries.
+    /// Ends a map whose entries begin at `start`: sorts the entries of the spans from `first` on by their encoded keys,
+    /// and drops the spans. Gives up only if the scratch buffer has no room for the entries.
     pub fn end_map(&mut self, first: usize, start: usize)
         requires first { self.old.extent ≡ Extent.Sorting → first ≤ length self.old.spans.items }
         requires laid { self.old.extent ≡ Extent.Sorting
@@ -74,7 +74,7 @@ impl Output {
         self.arrange(first, start);
     }
 
-    /// The same of entries that don't rise as they stand, through the scratch buffer.
+    /// `end_map` for entries that don't ascend yet, through the scratch buffer.
     fn arrange(&mut self, first: usize, start: usize)
         requires first { first ≤ length self.old.spans.items }
         requires filled { start + length (flat_map entry_bytes (map (span_entry self.old.bytes.items) (drop first self.old.spans.items))) ≡ length self.old.bytes.items }
@@ -89,8 +89,8 @@ impl Output {
         }
     }
 
-    /// Lays the entries of the spans from `first` on into the scratch buffer by rising keys, drops the spans, and answers
-    /// whether the keys differ.
+    /// Copies the entries of the spans from `first` on to the scratch buffer in key order, drops the spans, and returns
+    /// whether all keys differ.
     fn lay_in_order(&mut self, first: usize) -> Result<bool, AllocError>
         requires { first ≤ length self.old.spans.items }
         ensures sorted { IfOk result (λ differ. sorted_entries_written (map (span_entry self.old.bytes.items) (drop first self.old.spans.items)) []
@@ -110,8 +110,8 @@ impl Output {
         Ok(differ)
     }
 
-    /// Puts the entries in the scratch buffer in the place of those that stand from `start` on, which have as many bytes;
-    /// or two of them had one key.
+    /// Overwrites the entries from `start` on with those in the scratch buffer, which have the same length; if keys
+    /// don't differ, reports the repeated key.
     fn put_back(&mut self, differ: bool, start: usize)
         requires { differ ≡ true → start + length self.old.scratch.items ≡ length self.old.bytes.items }
         ensures is_told { is_told self.new.extent ≡ true }
@@ -127,7 +127,7 @@ impl Output {
     }
 }
 
-/// Whether an entry's key is above that of the entry before, if there is one.
+/// Whether the entry's key is above the key of the entry before, if there is one.
 fn rises_behind(before: Option<Span>, entry: Span, bytes: &[u8]) -> bool
     ensures { result ≡ rises_after bytes.now before entry }
 {

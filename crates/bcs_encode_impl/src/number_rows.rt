@@ -1,4 +1,4 @@
-//! Lists of numbers, by a loop for each format: whether they are in range, and their bytes, for which room is asked once.
+//! Validates and encodes lists of integers, with a loop for each format.
 ghost use Rattle.std.specs.Prelude.{◌≡◌, ◌+◌, ◌*◌, ◌<◌, ◌≤◌, [], false, length, vec_capacity, vec_len, IsErrOf, OnOk};
 ghost use Rattle.bcs_registry_model.specs.Container.{of};
 ghost use Rattle.bcs_registry_model.specs.Whole.{whole_len, whole_shape};
@@ -12,11 +12,11 @@ use bcs_num::Width;
 use bcs_registry_model::IntegerKind;
 use bcs_value_model::Value;
 
-/// Whether they are all numbers of the format.
+/// Whether all values are integers of the format.
 pub fn are_numbers(format: IntegerKind, items: &[Value]) -> bool
     ensures { result ≡ all_fit false [] (items_trees items.now) (whole_shape format) }
 {
-    // Each format is named once more, so that each has a loop of its own, compiled for its width.
+    // Every format is passed as a constant, so that each gets a loop compiled for its width.
     match format {
         IntegerKind::Unsigned(Width::W1) => is_row(IntegerKind::Unsigned(Width::W1), items),
         IntegerKind::Unsigned(Width::W2) => is_row(IntegerKind::Unsigned(Width::W2), items),
@@ -54,8 +54,8 @@ fn is_number(format: IntegerKind, value: &Value) -> bool
     }
 }
 
-/// Appends the bytes of a list's numbers. A number looks up no container, so the clause names a registry without any.
-/// No memory is asked for where the vector has room for the bytes.
+/// Appends a list of integers. Allocates nothing if the vector has room for the bytes. An integer looks up no
+/// container, so the contract uses an empty registry.
 #[inline(never)]
 pub fn push_numbers(
     format: IntegerKind,
@@ -67,7 +67,7 @@ pub fn push_numbers(
         → IsErrOf result EncodeFault.OutOfMemory → ⊥ }
 {
     out.reserve(items.len().saturating_mul(format.byte_len()))?;
-    // Each format is named once more, so that each has a loop of its own, compiled for its width.
+    // Every format is passed as a constant, so that each gets a loop compiled for its width.
     match format {
         IntegerKind::Unsigned(Width::W1) => push_row(IntegerKind::Unsigned(Width::W1), items, out),
         IntegerKind::Unsigned(Width::W2) => push_row(IntegerKind::Unsigned(Width::W2), items, out),

@@ -1,4 +1,4 @@
-//! The bytes that a walk appends while it validates.
+//! What the encoder appends while it validates.
 ghost use Rattle.std.specs.Prelude.{◌≡◌, ◌+◌, ◌*◌, ◌<◌, [], ◌∷◌, ◌++◌, false, true, length, IfOk, Ok, if◌then◌else◌};
 ghost use Rattle.bcs_num.specs.Le.{width_of};
 ghost use Rattle.bcs_num.specs.Uleb.{uleb};
@@ -15,21 +15,21 @@ use bcs_registry_model::IntegerKind;
 use bcs_value_model::Value;
 use std::alloc::{AllocError, Global};
 
-/// How much of what was to be appended stands there.
+/// How much of what should be appended has been appended.
 #[derive(Clone, Copy)]
 pub enum Extent {
-    /// All of it, and the keys of each map rise as its pairs stand. No memory is asked for.
+    /// All of it, and the keys of each map ascend as given. This output never allocates.
     Rising,
-    /// All of it, the entries of each map brought into order.
+    /// All of it, with the entries of each map sorted.
     Sorting,
-    /// Two keys of one map are the same, and nothing was appended since.
+    /// A map repeats a key. Nothing was appended after that.
     Repeated,
-    /// There was no room, or no memory, or the rest isn't wanted; or in a place of a fixed size keys don't rise.
+    /// Not all: no room or memory was left, the output discards everything, or a fixed output met a key out of order.
     Incomplete,
 }
 
 impl Extent {
-    /// After a step that appended all that it was to, or didn't.
+    /// The extent after a step: unchanged if it appended all it should, and otherwise `Incomplete`.
     #[inline(always)]
     pub(crate) fn after(self, done: bool) -> Extent
         ensures { result ≡ (if done then self else Extent.Incomplete) }
@@ -38,18 +38,18 @@ impl Extent {
     }
 }
 
-/// The bytes so far. Once something can't be appended, nothing is.
+/// The bytes so far. Once something couldn't be appended, nothing that follows is.
 #[derive(Drop)]
 pub struct Output {
     pub bytes: Buffer,
-    /// Where entries are brought into order, those of all maps that are open, of an inner map above those of the outer one.
+    /// If entries are sorted: their spans in all open maps, with inner maps after outer ones.
     pub spans: Vec<Span>,
     pub scratch: Vec<u8>,
     pub extent: Extent,
 }
 
 impl Output {
-    /// Takes what fits into a place of a fixed size, and asks for no memory.
+    /// An output of at most `ROOM` bytes, which never allocates.
     #[inline(always)]
     pub fn fixed(alloc: Global) -> Output
         ensures bytes { result.bytes.items ≡ [] }
@@ -64,7 +64,7 @@ impl Output {
         }
     }
 
-    /// Takes as many bytes as there is memory for, which it asks for so many at once.
+    /// An output in heap memory: reserves `room` bytes now, and grows if more are written.
     #[inline(always)]
     pub fn growing(alloc: Global, room: usize) -> Result<Output, AllocError>
         ensures bytes { IfOk result (λ o. o.bytes.items ≡ []) }
@@ -80,7 +80,7 @@ impl Output {
         })
     }
 
-    /// Takes no bytes, and asks for no memory.
+    /// An output that discards everything and never allocates.
     #[inline(always)]
     pub fn discarding(alloc: Global) -> Output {
         let mut out = Output::fixed(alloc);
@@ -88,7 +88,7 @@ impl Output {
         out
     }
 
-    /// Whether all that was to be appended stands there.
+    /// Whether everything has been appended.
     #[inline(always)]
     pub fn is_complete(&self) -> bool
         ensures { result ≡ is_complete self.now.extent }
@@ -96,7 +96,7 @@ impl Output {
         matches!(self.extent, Extent::Rising | Extent::Sorting)
     }
 
-    /// Appends nothing more.
+    /// Discards everything from now on.
     #[inline(always)]
     pub(crate) fn give_up(&mut self)
         ensures extent { self.new.extent ≡ Extent.Incomplete }
@@ -105,7 +105,6 @@ impl Output {
         self.extent = Extent::Incomplete;
     }
 
-    /// Appends one byte.
     #[inline(always)]
     pub fn push_byte(&mut self, byte: u8)
         ensures appended { Appends self.old self.new (λ b. Ok (b ++ byte ∷ [])) }
@@ -119,7 +118,6 @@ impl Output {
         self.extent = self.extent.after(done);
     }
 
-    /// Appends bytes.
     #[inline(always)]
     fn push_piece(&mut self, piece: &[u8])
         ensures appended { Appends self.old self.new (λ b. Ok (b ++ piece.now)) }
@@ -133,7 +131,7 @@ impl Output {
         self.extent = self.extent.after(done);
     }
 
-    /// Appends a number by ULEB128. Most lengths and variant numbers are one byte.
+    /// Appends a ULEB128 number. Most lengths and variant numbers have one byte.
     pub fn push_number(&mut self, number: u32)
         ensures appended { Appends self.old self.new (λ b. Ok (b ++ uleb number)) }
         ensures fits { TakesWhatFits self.old self.new (λ b. Ok (b ++ uleb number)) }
@@ -147,7 +145,7 @@ impl Output {
         self.push_piece(&bytes[..len]);
     }
 
-    /// Appends a length by ULEB128.
+    /// Appends a length as ULEB128.
     pub fn push_length(&mut self, length: usize)
         ensures appended { Appends self.old self.new (length_written length) }
         ensures fits { TakesWhatFits self.old self.new (length_written length) }
@@ -159,7 +157,7 @@ impl Output {
         self.push_number(length as u32);
     }
 
-    /// Appends bytes, their length first.
+    /// Appends a byte string: its length, then its bytes.
     pub fn push_bytes(&mut self, bytes: &[u8])
         ensures appended { Appends self.old self.new (bytes_written bytes.now) }
         ensures fits { TakesWhatFits self.old self.new (bytes_written bytes.now) }
@@ -168,7 +166,7 @@ impl Output {
         self.push_piece(bytes);
     }
 
-    /// Appends an unsigned number in its width.
+    /// Appends an unsigned integer of `width`, in little-endian order.
     #[inline(always)]
     pub fn push_unsigned(&mut self, width: Width, number: u128)
         ensures appended { Appends self.old self.new (unsigned_written (width_of width) number) }
@@ -187,7 +185,7 @@ impl Output {
         self.push_piece(&bytes[..len]);
     }
 
-    /// Appends a signed number in its width.
+    /// Appends a signed integer of `width`: two's complement, in little-endian order.
     #[inline(always)]
     pub fn push_signed(&mut self, width: Width, number: i128)
         ensures appended { Appends self.old self.new (signed_written (width_of width) number) }
@@ -202,7 +200,7 @@ impl Output {
         self.push_piece(&bytes[..len]);
     }
 
-    /// Appends the bytes of a list's numbers. A number looks up no container, so the clauses name a registry without any.
+    /// Appends a list of integers. An integer looks up no container, so the contract uses an empty registry.
     #[inline(never)]
     pub fn push_numbers(&mut self, format: IntegerKind, items: &[Value])
         ensures appended { Appends self.old self.new (items_written [] (items_trees items.now) (whole_shape format)) }
@@ -217,7 +215,7 @@ impl Output {
         }
     }
 
-    /// Counts the bytes of a list's numbers, which aren't taken.
+    /// Counts the bytes of a list of integers that isn't appended.
     fn miss_numbers(&mut self, format: IntegerKind, items: &[Value])
         ensures extent { self.new.extent ≡ self.old.extent }
         ensures bytes { self.new.bytes ≡ self.old.bytes }
@@ -238,7 +236,7 @@ impl Output {
         self.extent = self.extent.after(done);
     }
 
-    /// The same of few numbers, since many don't fit.
+    /// `push_numbers` for a short list. A long one wouldn't fit.
     fn push_few(&mut self, format: IntegerKind, items: &[Value])
         ensures { Appends self.old self.new (items_written [] (items_trees items.now) (whole_shape format)) }
     {
@@ -247,7 +245,7 @@ impl Output {
             self.give_up();
             return;
         }
-        // Bytes are the most numbers by far, so they have a loop of their own.
+        // Lists of bytes are by far the most frequent, so they have a loop of their own.
         if let IntegerKind::Unsigned(Width::W1) = format {
             self.push_each(IntegerKind::Unsigned(Width::W1), items);
             return;

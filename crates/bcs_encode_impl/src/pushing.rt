@@ -1,4 +1,4 @@
-//! The bytes of values that have no parts.
+//! Encodes values without parts.
 ghost use Rattle.std.specs.Prelude.{◌≡◌, ◌+◌, ◌<◌, ◌≤◌, ◌++◌, ◌∷◌, [], Ok, vec_capacity, vec_len, IsErrOf, OnOk};
 ghost use Rattle.std.specs.Int.{byte_len};
 ghost use Rattle.bcs_num.specs.Le.{width_of};
@@ -8,7 +8,6 @@ ghost use Rattle.bcs_encode_impl.specs.Writing.{ReportsVerdict, length_written, 
 use bcs_encode_spec::EncodeFault;
 use bcs_num::{GREATEST_LEN, LENGTH_LIMIT, Width, put_le, put_le_signed, put_uleb};
 
-/// Appends one byte.
 pub fn push_byte(byte: u8, out: &mut Vec<u8>) -> Result<(), EncodeFault>
     ensures { ReportsVerdict result (Ok (out.old.items ++ byte ∷ [])) out.new.items }
 {
@@ -16,7 +15,7 @@ pub fn push_byte(byte: u8, out: &mut Vec<u8>) -> Result<(), EncodeFault>
     Ok(())
 }
 
-/// Appends a number by ULEB128.
+/// Appends a ULEB128 number.
 pub fn push_number(number: u32, out: &mut Vec<u8>) -> Result<(), EncodeFault>
     ensures { ReportsVerdict result (Ok (out.old.items ++ uleb number)) out.new.items }
 {
@@ -26,7 +25,7 @@ pub fn push_number(number: u32, out: &mut Vec<u8>) -> Result<(), EncodeFault>
     Ok(())
 }
 
-/// Appends a length by ULEB128, or refuses one above the limit.
+/// Appends a length as ULEB128, or returns `TooLong`.
 pub fn push_length(length: usize, out: &mut Vec<u8>) -> Result<(), EncodeFault>
     ensures { ReportsVerdict result (length_written length out.old.items) out.new.items }
 {
@@ -36,7 +35,7 @@ pub fn push_length(length: usize, out: &mut Vec<u8>) -> Result<(), EncodeFault>
     push_number(length as u32, out)
 }
 
-/// Appends bytes, their length first.
+/// Appends a byte string: its length, then its bytes.
 pub fn push_bytes(bytes: &[u8], out: &mut Vec<u8>) -> Result<(), EncodeFault>
     ensures { ReportsVerdict result (bytes_written bytes.now out.old.items) out.new.items }
 {
@@ -45,8 +44,8 @@ pub fn push_bytes(bytes: &[u8], out: &mut Vec<u8>) -> Result<(), EncodeFault>
     Ok(())
 }
 
-/// Appends an unsigned number in its width, or refuses one that the width can't hold. No memory is asked for where the
-/// vector has room for as many bytes.
+/// Appends an unsigned integer in little-endian order, or rejects it if it is out of range. Allocates nothing if the
+/// vector has room for its bytes.
 #[tactic(auto, using(crate::proofs::NumberViews::one_byte))]
 pub fn push_unsigned(width: Width, number: u128, out: &mut Vec<u8>) -> Result<(), EncodeFault>
     ensures reports { ReportsVerdict result (unsigned_written (width_of width) number out.old.items) out.new.items }
@@ -68,8 +67,8 @@ pub fn push_unsigned(width: Width, number: u128, out: &mut Vec<u8>) -> Result<()
     Ok(())
 }
 
-/// Appends a signed number in its width, or refuses one that the width can't hold. No memory is asked for where the
-/// vector has room for as many bytes.
+/// Appends a signed integer in little-endian order, or rejects it if it is out of range. Allocates nothing if the
+/// vector has room for its bytes.
 pub fn push_signed(width: Width, number: i128, out: &mut Vec<u8>) -> Result<(), EncodeFault>
     ensures reports { ReportsVerdict result (signed_written (width_of width) number out.old.items) out.new.items }
     ensures len { OnOk result (vec_len out.new ≡ vec_len out.old + byte_len (width_of width)) }

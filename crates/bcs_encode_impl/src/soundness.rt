@@ -1,4 +1,4 @@
-//! Whether a value is sound besides the keys of its maps, and its bytes.
+//! Validates and encodes a value in one pass.
 ghost use Rattle.std.specs.Prelude.{◌≡◌, ◌↔◌, IsTrue, true};
 ghost use Rattle.bcs_registry_model.specs.Container.{of};
 ghost use Rattle.bcs_registry_model.specs.View.{shape_of};
@@ -12,9 +12,8 @@ use crate::validating::validate_value;
 use bcs_registry::{Format, Registry};
 use bcs_value::{Limits, Value};
 
-/// Whether the value has the format, and its depth, its nodes and its lengths are within the limits. It goes over the
-/// value once, and looks up a container once for each value in it, or once for a list of such values. What it validates is
-/// appended to the output, where that takes it.
+/// Whether the value fits `format` and its depth, nodes and lengths are within the limits. Visits the value once, and
+/// looks up a container once for each value, or for a whole list. Appends the encoding, as far as `out` accepts it.
 pub fn is_sound(
     registry: &Registry,
     format: &Format,

@@ -1,4 +1,4 @@
-//! The bytes of a map's entries, in the order of their keys' bytes.
+//! Encodes map entries in key order.
 ghost use Rattle.std.specs.Prelude.{◌≡◌, map, ◌+◌, ◌<◌, ◌++◌, Err, IfOk, Ok, OnErr, OnOk, if◌then◌else◌, length, true, vec_capacity, vec_len};
 ghost use Rattle.bcs_encode_impl.specs.Laying.{span_entry};
 ghost use Rattle.bcs_encode_impl.specs.Writing.{sorted_entries_written};
@@ -9,8 +9,8 @@ ghost use Rattle.bcs_encode_spec.specs.declared.fault.EncodeFault.TheVariants.{R
 use bcs_key_order::spans::{Span, part, sort};
 use std::alloc::AllocError;
 
-/// Appends the bytes of the entries by rising keys, and answers whether the keys differ. Where two are the same it appends
-/// nothing. No memory is asked for where the vector has room for the bytes.
+/// Appends the entries in ascending key order, and returns whether all keys differ. If they don't, appends nothing.
+/// Allocates nothing if the vector has room for the bytes.
 pub fn push_in_order(
     spans: &mut [Span],
     bytes: &[u8],
@@ -31,7 +31,7 @@ pub fn push_in_order(
     }
 }
 
-/// Appends the bytes of the entries, one after another.
+/// Appends the entries one after another.
 fn push_entries(spans: &[Span], bytes: &[u8], out: &mut Vec<u8>) -> Result<(), AllocError>
     ensures appended { OnOk result (out.new.items ≡ out.old.items ++ flat_map entry_bytes (map (span_entry bytes.now) spans.now)) }
     ensures full { OnErr result (vec_capacity out.old < vec_len out.old + length (flat_map entry_bytes (map (span_entry bytes.now) spans.now))) }

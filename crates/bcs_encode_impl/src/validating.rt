@@ -1,6 +1,6 @@
-//! The walk. Each of its functions is told how many more containers may be opened and how many more nodes may come, and
-//! answers how many nodes may come after that, or `None` at the first part that isn't sound. What is validated is appended
-//! to the output, as far as that takes it.
+//! The recursive part of the encoder. Each function receives how many more containers may open (`depth`) and how many
+//! more nodes may begin (`nodes`). It returns how many nodes are left, or `None` at the first part that isn't sound.
+//! What it validates is appended to the output, as far as that accepts it.
 ghost use Rattle.std.specs.Prelude.{◌≡◌, IfSome, map};
 ghost use Rattle.bcs_registry_model.specs.Container.{of, content, field_shapes, payload_shape};
 ghost use Rattle.bcs_registry_model.specs.Shape.{name as name_shape, seq, tuple};
@@ -72,7 +72,7 @@ pub fn validate_value(
     }
 }
 
-/// Validates the value of a container.
+/// Validates a value of the container `name`.
 #[cycle(validating)]
 fn validate_named(
     inner: &Value,
@@ -93,7 +93,7 @@ fn validate_named(
     }
 }
 
-/// Validates what stands in a container.
+/// Validates the contents of a container.
 #[cycle(validating)]
 fn validate_content(
     value: &Value,
@@ -137,7 +137,7 @@ fn validate_content(
     }
 }
 
-/// Validates what a variant carries.
+/// Validates the contents of a variant.
 #[cycle(validating)]
 fn validate_payload(
     value: &Value,
@@ -212,7 +212,7 @@ fn validate_all(
     Some(left)
 }
 
-/// Validates values of one container, which is looked up once.
+/// Validates values of one container, which is looked up once for all.
 #[cycle(validating)]
 fn validate_all_named(
     items: &[Value],
@@ -289,8 +289,8 @@ fn validate_fields(
     Some(left)
 }
 
-/// Validates the pairs of a map, but for whether its keys differ. Its entries are appended as they stand, and then brought
-/// into order, where the output does that.
+/// Validates the entries of a map, without comparing keys, and appends them as given. The output then sorts them if it
+/// can.
 #[cycle(validating)]
 #[tactic(auto, using(bcs_value_model::proofs::WalkViews::count_pairs))]
 fn validate_map(

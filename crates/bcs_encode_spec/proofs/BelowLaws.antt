@@ -1,4 +1,4 @@
--- `Below` is a strict order in which any two lists are ranked, and std's comparison of byte slices tells it.
+-- `Below` is a strict total order, and agrees with std's comparison of byte slices.
 use Rattle.bcs_encode_spec.proofs.Prelude.{◌≡◌, ℕ, ◌<◌, true, false, List, [], ◌∷◌, refl, sym, ap, ap₂, ◌∙◌, arith, inl, inr, ◌⊎◌, ◌↔◌, IsTrue, nat_cmp, is_lt, Ordering, Less, Equal, Greater, slice_cmp, false≢true, cases_order, lt-ltb, le-ltb, eq-eqb, nat_tests, Below}
 
 pub Below-irrefl : (a : List ℕ) → Below a a → ⊥
@@ -17,7 +17,7 @@ Below-trans (x ∷ a) (y ∷ b) (z ∷ c) (inl lt) (inr e) = inl (let p : y ≡ 
 Below-trans (x ∷ a) (y ∷ b) (z ∷ c) (inr d) (inl gt) = inl (let p : x ≡ y = d.0 in omega arith)
 Below-trans (x ∷ a) (y ∷ b) (z ∷ c) (inr d) (inr e) = inr (d.0 ∙ e.0, Below-trans a b c d.1 e.1)
 
--- two lists are equal, or one of them is below the other
+-- two lists are equal, or one is below the other
 pub order : (a b : List ℕ) → (a ≡ b) ⊎ (Below a b ⊎ Below b a)
 order [] [] = inl refl
 order [] (y ∷ b) = inr (inl tt)

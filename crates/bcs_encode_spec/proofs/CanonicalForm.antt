@@ -1,17 +1,16 @@
--- The canonical form of a tree as a function, by which proofs compute: `IsForm` says what it is, and
--- `one_canonical_form` that it alone is one.
+-- The canonical form as a function, for proofs: `IsForm` defines it, and `one_canonical_form` shows that it is unique.
 use Rattle.bcs_encode_spec.proofs.Prelude.{nat_cmp, slice_cmp, Ordering, Less, Equal, Greater, Shape, Shapes, no_shapes, shape, Entries, Content, of, one_of, content_at, choice_at, Tree, Trees, no_trees, tree, Pairs, no_pairs, pair, plain}
 use Rattle.bcs_registry_model.specs.Shape as shape
 use Rattle.bcs_value_model.specs.Tree as tree
 
--- the pair (k, v) before all others, or the pair (l, w) and then the rest, by how the two keys compare
+-- depending on the order of k and l: the pair (k, v) first, or the pair (l, w) followed by the rest
 abbrev pub place : Ordering → Tree → Tree → Tree → Tree → Pairs → Pairs → Pairs
 place Less k v l w ps rest = pair k v (pair l w ps)
 place Equal k v l w ps rest = pair k v (pair l w ps)
 place Greater k v l w ps rest = pair l w rest
 
 module _ (registry : Entries) where
-  -- the pair at its place among others that rise by the keys' bytes
+  -- inserts a pair into pairs whose encoded keys ascend
   abbrev pub insert : Shape → Tree → Tree → Pairs → Pairs
   insert f k v no_pairs = pair k v no_pairs
   insert f k v (pair l w ps) = place (slice_cmp nat_cmp (plain registry k (of f)) (plain registry l (of f))) k v l w ps (insert f k v ps)

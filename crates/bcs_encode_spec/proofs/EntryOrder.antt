@@ -1,13 +1,13 @@
--- Lists of entries in the order of their keys' bytes, whatever stands at the keys.
+-- Lists of entries in ascending order of their keys, whatever belongs to the keys.
 use Rattle.bcs_encode_spec.proofs.Prelude.{◌≡◌, ℕ, ◌+◌, ◌≤◌, true, cond, List, [], ◌∷◌, refl, sym, ap₂, subst, ◌∙◌, arith, inl, inr, ◌⊎◌, All, sum_by, IsPermutation, bytes_eq, cases_Bool, All-nil, All-cons, All-head, All-tail, All-weaker, All-permutation, sum_by-IsPermutation, sum_by-cons, bytes-same, bytes-refl, Below, Keyed, EntriesRiseFrom, EntriesRise, HasEqualNeighbours}
 use Rattle.bcs_encode_spec.proofs.BelowLaws.{Below-irrefl, Below-trans}
 
 module _ {V : Type 0} where
-  -- ---- how often a key stands
+  -- ---- how often a key occurs
   abbrev pub one : List ℕ → Keyed V → ℕ
   one b e = cond (bytes_eq b e.0) 1 0
 
-  -- no key stands twice
+  -- no key occurs twice
   unfoldable pub Once : List (Keyed V) → Type 0
   Once es = (b : List ℕ) → sum_by (one b) es ≤ 1
 
@@ -65,7 +65,7 @@ module _ {V : Type 0} where
   unfolding Once
   once_moved xs ys h g = λ b. let k : sum_by (one b) ys ≤ 1 = g b in let e : sum_by (one b) ys ≡ sum_by (one b) xs = sum_by-IsPermutation (one b) xs ys h in omega arith
 
-  -- ---- rising lists with the same entries are equal
+  -- ---- ascending lists with the same entries are equal
 
   abbrev pub In : Keyed V → List (Keyed V) → Type 0
   In e [] = ⊥

@@ -11,12 +11,12 @@ turn a b h = same-sym b a ∙ h
 
 -- ---- forms
 
--- forms of trees that are the same are equal
+-- canonical forms of trees that are the same are equal
 pub forms_same : (registry : Entries) (f : Content) (v w c d : Tree) → IsForm registry f v c → IsForm registry f w d → Same v w → c ≡ d
 forms_same registry f v w c d p q h =
     canonical_same registry c f d p.fit q.fit p.canonical q.canonical (same-trans c v d (turn v c p.is_same) (same-trans v w d h q.is_same))
 
--- where no key stands twice, the tree has a form
+-- if no map has a repeated key, the tree has a canonical form
 pub form_of_is_form : (registry : Entries) (f : Content) (t : Tree) → fits false registry t f ≡ true → distinct t ≡ true → IsForm registry f t (form_of registry t f)
 form_of_is_form registry f t h d = record {
   fit = fits-form_of registry t f ∙ h;
@@ -24,7 +24,7 @@ form_of_is_form registry f t h d = record {
   is_same = same-form_of registry t f;
 }
 
--- and each form of it is that one
+-- and this is its only one
 pub form_is_form_of : (registry : Entries) (f : Content) (t c : Tree) → fits false registry t f ≡ true → distinct t ≡ true → IsForm registry f t c
     → c ≡ form_of registry t f
 form_is_form_of registry f t c h d p = forms_same registry f t t c (form_of registry t f) p (form_of_is_form registry f t h d) (same-refl t)
@@ -57,7 +57,7 @@ has_one_form = λ registry f t h d. (
   },
 )
 
--- equal bytes are those of one form
+-- equal bytes are those of the same form
 form_from_bytes : (registry : Entries) (f : Content) (v w c d : Tree) → IsForm registry f v c → IsForm registry f w d → plain registry c f ≡ plain registry d f → Same v w
 form_from_bytes registry f v w c d p q e =
     let is : c ≡ d = (plain_free registry c f d [] [] p.fit q.fit (ap (λ (b : List ℕ). b ++ []) e)).0 in

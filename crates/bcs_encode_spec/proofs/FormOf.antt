@@ -1,4 +1,4 @@
--- The canonical form that is made by inserting pair after pair.
+-- The canonical form, built by inserting one pair after another.
 use Rattle.bcs_encode_spec.proofs.Prelude.{◌≡◌, ℕ, suc, ◌+◌, max, Bool, true, false, not, ◌&&◌, ◌||◌, ◌==◌, ◌^◌, nat_lt, List, [], ◌++◌, refl, sym, ap, ap₂, subst, ◌∙◌, arith, inl, inr, and_parts, and_from, or_left, or_right, cases_Bool, eq-eqb, Tree, Trees, no_trees, tree, Pairs, no_pairs, pair, count, pair_count, depth, trees_depth, pairs_depth, nodes, trees_nodes, pairs_nodes, Shape, Shapes, no_shapes, shape, Entries, Content, of, one_of, content_at, choice_at, fits, all_fit, each_fits, pairs_fit, payload_fits, plain, same, all_same, is_within, has_pair, any_pair, all_pairs, distinct, all_distinct, pairs_distinct, Below, Rises, RisesFrom, IsCanonical, AllCanonical, EachCanonical, PairsCanonical, IsEntry, nat_cmp, slice_cmp, Ordering, Less, Equal, Greater, same-refl, all_same-refl, same-sym, same-trans}
 use Rattle.bcs_value_model.specs.Tree as tree
 use Rattle.bcs_registry_model.specs.Shape as shape
@@ -32,7 +32,7 @@ within_up (pair k v ps) qs rs up h =
     and_from _ _ (up (λ l w. same k l && same v w) p.0) (within_up ps qs rs up p.1)
 
 module _ (registry : Entries) where
-  -- ---- what doesn't tell the order of pairs doesn't tell where one was inserted
+  -- ---- a function of pairs that doesn't depend on their order doesn't depend on where one was inserted
   place_fold : {X : Type 0} (m : Pairs → X) (step : Tree → Tree → X → X)
       → ((k v : Tree) (ps : Pairs) → m (pair k v ps) ≡ step k v (m ps))
       → ((k v l w : Tree) (x : X) → step k v (step l w x) ≡ step l w (step k v x))
@@ -68,7 +68,7 @@ module _ (registry : Entries) where
   pairs_nodes-insert : (f : Shape) (k v : Tree) (ps : Pairs) → pairs_nodes (insert registry f k v ps) ≡ pairs_nodes (pair k v ps)
   pairs_nodes-insert f k v ps = insert_fold pairs_nodes (λ l w x. (nodes l + nodes w) + x) (λ l w qs. refl) (λ l w m x y. omega arith) f k v ps
 
-  -- ---- fitting, depth, nodes and lengths are kept
+  -- ---- fitting, depth, nodes and lengths stay the same
   pub count-items_form : (ts : Trees) (f : Shape) → count (items_form registry ts f) ≡ count ts
   count-items_form no_trees f = refl
   count-items_form (tree t ts) f = ap suc (count-items_form ts f)
@@ -186,7 +186,7 @@ module _ (registry : Entries) where
         ∙ and_from _ _ (or_left _ _ (and_from _ _ (same-form_of k (of f)) (same-form_of v (of g))))
         (all_up (has_pair ps) (has_pair (pair k v ps)) (pairs_form registry ps f g) (λ l w h. or_right _ _ h) (all_had-pairs_form ps f g))
 
-  -- ---- where no key stands twice, the form is canonical
+  -- ---- if no key is repeated, the form is canonical
   Apart : Shape → Tree → Pairs → Type 0
   Apart f k ps = (l w : Tree) → IsEntry l w ps → plain registry k (of f) ≡ plain registry l (of f) → ⊥
 
@@ -223,7 +223,7 @@ module _ (registry : Entries) where
       placed Less next = (a, b, c)
       placed Greater next = (c.0, c.1, next)
 
-  -- a key that differs from each of these differs from their forms
+  -- a key that differs from another also differs from its canonical form
   not_same : (k l : Tree) (f : Shape) → not (same k l) ≡ true → not (same k (form_of registry l (of f))) ≡ true
   not_same k l f h =
       elim (cases_Bool (same k (form_of registry l (of f)))) [

@@ -1,4 +1,4 @@
--- Bytes, canonical order and lengths stay in a registry that the older one grows to.
+-- Bytes, canonical order and lengths stay the same when a registry grows.
 use Rattle.bcs_encode_spec.proofs.Prelude.{◌≡◌, ℕ, true, false, ◌&&◌, ◌==◌, List, ◌∷◌, ◌++◌, Option, Some, None, refl, sym, ap, ap₂, subst, ◌∙◌, option_map_or, false≢true, and_parts, uleb, Shape, Shapes, no_shapes, shape, Payload, Choice, Entries, Content, of, one_of, nothing, payload_shape, choice_numbered, content_at, choice_at, Grows, HasChoices, StaysIn, content_at-grows, Tree, Trees, no_trees, tree, Pairs, no_pairs, pair, count, pair_count, fits, all_fit, each_fits, pairs_fit, payload_fits, fits-grows, plain, plain_items, plain_each, plain_pairs, lengths_hold, all_hold, each_holds, pairs_hold, Bounds, length_limit, IsSoundAt, IsForm, GrowthKeepsSoundness, GrowthKeepsBytes, GrowthKeepsOrder, GrowthKeepsEncodings, Below, Rises, RisesFrom, IsCanonical, AllCanonical, EachCanonical, PairsCanonical}
 use Rattle.bcs_registry_model.specs.Shape as shape
 use Rattle.bcs_value_model.specs.Tree as tree
@@ -6,7 +6,7 @@ use Rattle.bcs_value_model.specs.Tree as tree
 nothing_fits : (registry : Entries) (t : Tree) → fits false registry t nothing ≡ true → ⊥
 nothing_fits registry t h = absurd (false≢true h)
 
--- a variant that a tree has goes on carrying what it carried
+-- a variant that fits keeps its content
 variant_stays : (registry : Entries) (t : Tree) (n : ℕ) (cs ds : List Choice) → HasChoices cs ds → fits false registry t (choice_at n cs) ≡ true
     → choice_at n ds ≡ choice_at n cs
 variant_stays registry t n cs ds has h = found (choice_numbered n cs) (choice_numbered n ds) (has n) h
@@ -17,7 +17,7 @@ variant_stays registry t n cs ds has h = found (choice_numbered n cs) (choice_nu
     found None p h is = absurd (nothing_fits registry t is)
     found (Some v) p h is = ap (λ (q : Option (List ℕ × Payload)). option_map_or (λ c. of (payload_shape c.1)) q nothing) (h v refl)
 
--- what holds of a fitting tree goes on holding in the content that stays, if it does so between enums at a variant that both have
+-- a property of a fitting tree carries over to grown content if it does so between enums that agree on the variant
 pub fitting_stays : (P : Tree → Content → Type 0)
     → ((n : ℕ) (u : Tree) (cs ds : List Choice) → choice_at n ds ≡ choice_at n cs → P (tree.variant n u) (one_of cs) → P (tree.variant n u) (one_of ds))
     → (registry : Entries) (t : Tree) (f g : Content) → StaysIn f g → fits false registry t f ≡ true → P t f → P t g
@@ -29,7 +29,7 @@ fitting_stays P between registry t (one_of cs) (of s) e h p = absurd e
 fitting_stays P between registry t (one_of cs) nothing e h p = absurd e
 fitting_stays P between registry _ _ _ e h p = absurd (search (false≢true))
 
--- content that is unchanged stays
+-- unchanged content counts as grown
 pub stays_alike : (f : Content) → StaysIn f f
 stays_alike (of s) = refl
 stays_alike (one_of cs) = λ n v is. is

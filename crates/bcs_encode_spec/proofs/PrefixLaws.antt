@@ -1,9 +1,9 @@
--- No value's bytes begin another's.
+-- No encoding is a prefix of another.
 use Rattle.bcs_encode_spec.proofs.Prelude.{◌≡◌, ℕ, ◌^◌, Bool, true, false, ◌&&◌, ◌==◌, List, [], ◌∷◌, ◌++◌, length, refl, sym, ap, ap₂, subst, ◌∙◌, append_assoc, false≢true, and_parts, eqb-true, ltb-true, bits, uleb, holds_signed-is, uleb_prefix_free, le_prefix_free, le_signed_prefix_free, Tree, Trees, no_trees, tree, Pairs, no_pairs, pair, count, pair_count, Shape, Shapes, no_shapes, shape, Entries, Content, of, one_of, content_at, choice_at, fits, all_fit, each_fits, pairs_fit, payload_fits, plain, plain_items, plain_each, plain_pairs, truth_byte}
 use Rattle.bcs_value_model.specs.Tree as tree
 use Rattle.bcs_registry_model.specs.Shape as shape
 
--- a number before the rest, on either side
+-- a ULEB128 number followed by more bytes, on either side
 number_free : (m n : ℕ) (b c r s : List ℕ) → (uleb m ++ b) ++ r ≡ (uleb n ++ c) ++ s → (m ≡ n) × (b ++ r ≡ c ++ s)
 number_free m n b c r s e = uleb_prefix_free m n (b ++ r) (c ++ s) (sym (append_assoc (uleb m) b r) ∙ e ∙ append_assoc (uleb n) c s)
 

@@ -1,4 +1,4 @@
--- What the proofs use of other crates, and of this crate's definitions.
+-- What the proofs use from other crates, and from this crate's definitions.
 pub use Rattle.std.proofs.Common.{[], ap, append_assoc, ap₂, arith, Bool, cond, false, get_or, if◌then◌else◌, inl, inr, leb, length, List, map, max, nat_lt, None, not, Option, refl, Some, subst, suc, sym, true, ℕ, ◌&&◌, ◌++◌, ◌+◌, ◌<◌, ◌==◌, ◌^◌, ◌||◌, ◌∙◌, ◌∷◌, ◌≡◌, ◌≤◌, ◌⊎◌}
 pub use Rattle.std.proofs.lemmas.Bool.{and_from, and_parts, cases_Bool, cases_lt, cases_order, eq-eqb, eqb-true, false_from_ne_true, false≢true, le-leb, le-ltb, lt-leb, lt-ltb, ltb-true, or_cases, or_left, or_right}
 pub use Rattle.std.proofs.lemmas.Bool.Decides.{nat_tests}

@@ -1,7 +1,7 @@
--- Each tree is sound or refused, and refused for one reason alone.
+-- Each tree is sound or refused, for at most one reason.
 use Rattle.bcs_encode_spec.proofs.Prelude.{◌≡◌, Bool, true, false, leb, if◌then◌else◌, Option, Some, None, refl, sym, ◌∙◌, inl, inr, ◌⊎◌, cases_Bool, cases_lt, false≢true, false_from_ne_true, le-leb, lt-leb, Shape, Entries, of, Tree, depth, nodes, fits, distinct, Bounds, strictly_then_loosely, length_limit, lengths_hold, IsSound, RefusesValue, OneRefusal, RefusedOrSound, EncodeFault, NotOfFormat, Unsupported, TooDeep, TooManyNodes, TooLong, RepeatedKey, OutOfMemory}
 
--- the first reason, by what the tests tell
+-- the first reason, from the results of the tests
 abbrev first_of_tests : Bool → Bool → Bool → Bool → Bool → Bool → Option EncodeFault
 first_of_tests loose strict shallow few short differ =
     if loose then (if strict then (if shallow then (if few then (if short then (if differ then None else Some RepeatedKey) else Some TooLong) else Some TooManyNodes) else Some TooDeep) else Some Unsupported) else Some NotOfFormat

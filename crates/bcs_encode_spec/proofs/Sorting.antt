@@ -1,4 +1,4 @@
--- What an encoder owes that sorts a map's entries by their keys' bytes.
+-- What an encoder must show if it sorts the entries of a map by the bytes of their keys.
 use Rattle.bcs_encode_spec.proofs.Prelude.{◌≡◌, ℕ, suc, ◌+◌, ◌≤◌, Bool, true, false, not, ◌&&◌, List, [], ◌∷◌, ◌++◌, map, refl, sym, ap, ap₂, subst, ◌∙◌, append_assoc, get_or, arith, inl, inr, ◌⊎◌, sum_by, flat_map, IsPermutation, IsSortedBy, IsSortedByKey, IsStrictWeakOrder, Called, ComparesAs, Bor, Mut, always_returns_same, nat_cmp, is_lt, Ordering, Less, Equal, Greater, slice_cmp, nat_list_cmp_total, and_parts, and_from, cases_Bool, false_from_ne_true, IsPermutation-sym, ranks_by, sum_by-cons, uleb, Shape, Entries, Content, of, Tree, pairs, Pairs, no_pairs, pair, fits, pairs_fit, same, all_pairs, distinct, pairs_distinct, same-sym, same-trans, plain, plain_pairs, Rises, RisesFrom, EncodesWithoutLimits, Entry, entry_bytes, EntriesOf, EntriesRiseFrom, EntriesRise, HasEqualNeighbours, SortedEntries, EqualNeighboursRepeat}
 use Rattle.bcs_registry_model.specs.Shape as shape
 use Rattle.bcs_encode_spec.proofs.BelowLaws.{order, not_below}
@@ -9,12 +9,12 @@ use Rattle.bcs_encode_spec.proofs.FormOf.{insert_fold, same-form_of, fits-form_o
 use Rattle.bcs_encode_spec.proofs.FormLaws.{form_of_is_form, form_is_form_of}
 
 module _ (registry : Entries) where
-  -- the form_entries as they stand
+  -- the encoded entries, in the given order
   abbrev written : Pairs → Shape → Shape → List Entry
   written no_pairs f g = []
   written (pair k v ps) f g = (plain registry k (of f), plain registry v (of g)) ∷ written ps f g
 
-  -- the form_entries of the canonical forms of keys and values, in the order of the pairs
+  -- the encoded entries of the canonical forms of keys and values, in the order of the pairs
   abbrev pub form_entries : Pairs → Shape → Shape → List Entry
   form_entries no_pairs f g = []
   form_entries (pair k v ps) f g = (plain registry (form_of registry k (of f)) (of f), plain registry (form_of registry v (of g)) (of g)) ∷ form_entries ps f g
@@ -33,7 +33,7 @@ module _ (registry : Entries) where
   written_rise no_pairs f g h = tt
   written_rise (pair k v ps) f g h = written_rise_from ps (plain registry k (of f)) f g h
 
-  -- how often a key stands, before and after
+  -- how often a key occurs, before and after sorting
   counted : (b : List ℕ) (ps : Pairs) (f g : Shape) → sum_by (one b) (written (pairs_form registry ps f g) f g) ≡ sum_by (one b) (form_entries ps f g)
   counted b no_pairs f g = refl
   counted b (pair k v ps) f g =
@@ -45,7 +45,7 @@ module _ (registry : Entries) where
       ∙ ap (λ (x : ℕ). one b (plain registry (form_of registry k (of f)) (of f), plain registry (form_of registry v (of g)) (of g)) + x) (counted b ps f g)
       ∙ sym (sum_by-cons (one b) (plain registry (form_of registry k (of f)) (of f), plain registry (form_of registry v (of g)) (of g)) (form_entries ps f g))
 
-  -- ---- the same form_entries, before and after
+  -- ---- the same entries, before and after sorting
   in_insert : (e : Entry) (f g : Shape) (k v : Tree) (ps : Pairs) → In e (written (insert registry f k v ps) f g) → In e (written (pair k v ps) f g)
   in_insert e f g k v no_pairs h = h
   in_insert e f g k v (pair l w ps) h = placed (slice_cmp nat_cmp (plain registry k (of f)) (plain registry l (of f))) (λ m. in_insert e f g k v ps m) h
@@ -79,7 +79,7 @@ module _ (registry : Entries) where
   into_pairs_form e (pair k v ps) f g (inl is) = into_insert e f g (form_of registry k (of f)) (form_of registry v (of g)) (pairs_form registry ps f g) (inl is)
   into_pairs_form e (pair k v ps) f g (inr m) = into_insert e f g (form_of registry k (of f)) (form_of registry v (of g)) (pairs_form registry ps f g) (inr (into_pairs_form e ps f g m))
 
-  -- ---- keys that differ, and keys' bytes that stand once
+  -- ---- distinct keys, and encoded keys that occur once
   distinct_once : (ps : Pairs) (f g : Shape) → pairs_fit false registry ps f g ≡ true → pairs_distinct ps ≡ true → Once (form_entries ps f g)
   unfolding Once
   distinct_once ps f g h d = λ b.
@@ -136,9 +136,9 @@ module _ (registry : Entries) where
       let t : sum_by (one x) (form_entries (pair k v ps) f g) ≡ one x (b, c) + sum_by (one x) (form_entries ps f g) = sum_by-cons (one x) (b, c) (form_entries ps f g) in
       omega arith)))
 
-  -- ---- what an encoder needs that sorts its form_entries
+  -- ---- what an encoder needs if it sorts the entries
 
-  -- form_entries in rising order are the bytes of the canonical map
+  -- sorted entries are the bytes of the canonical map
   sorted_bytes : (ps : Pairs) (f g : Shape) (es : List Entry) → pairs_fit false registry ps f g ≡ true → pairs_distinct ps ≡ true
       → IsPermutation (form_entries ps f g) es → EntriesRise es → flat_map entry_bytes es ≡ plain_pairs registry (pairs_form registry ps f g) f g
   sorted_bytes ps f g es h d p up =
@@ -147,19 +147,19 @@ module _ (registry : Entries) where
       (λ x m. moved es (form_entries ps f g) (IsPermutation-sym (form_entries ps f g) es p) x (in_pairs_form x ps f g m)) in
       ap (flat_map entry_bytes) e ∙ written_bytes (pairs_form registry ps f g) f g
 
-  -- where they rise, no key stands twice
+  -- if they ascend, no key is repeated
   sorted_distinct : (ps : Pairs) (f g : Shape) (es : List Entry) → pairs_fit false registry ps f g ≡ true → all_pairs (λ l w. distinct l && distinct w) ps ≡ true
       → IsPermutation (form_entries ps f g) es → EntriesRise es → pairs_distinct ps ≡ true
   sorted_distinct ps f g es h q p up = once_distinct ps f g h q (once_moved (form_entries ps f g) es p (rising_once es up))
 
-  -- where two neighbours have equal keys, a key stands twice
+  -- if two neighbours have equal keys, a key is repeated
   sorted_equal_neighbours : (ps : Pairs) (f g : Shape) (es : List Entry) → pairs_fit false registry ps f g ≡ true
       → IsPermutation (form_entries ps f g) es → HasEqualNeighbours es → pairs_distinct ps ≡ true → ⊥
   sorted_equal_neighbours ps f g es h p t d = equal_neighbours_twice es t (once_moved es (form_entries ps f g) (IsPermutation-sym (form_entries ps f g) es p) (distinct_once ps f g h d))
 
 -- ---- the bytes of a canonical form
 
--- they are those of the form that is made by inserting
+-- they are those of the form built by inserting
 pub has_bytes_of_form : (registry : Entries) (f : Content) (t : Tree) (b : List ℕ) → EncodesWithoutLimits registry f t b → b ≡ plain registry (form_of registry t f) f
 has_bytes_of_form registry f t b h = sym h.bytes ∙ ap (λ (c : Tree). plain registry c f) (form_is_form_of registry f t h.form h.fit h.distinct h.is_form)
 
@@ -167,7 +167,7 @@ pub form_has_bytes : (registry : Entries) (f : Content) (t : Tree) → fits fals
     → EncodesWithoutLimits registry f t (plain registry (form_of registry t f) f)
 form_has_bytes registry f t h d = record { fit = h; distinct = d; form = form_of registry t f; is_form = form_of_is_form registry f t h d; bytes = refl }
 
--- ---- a map's entries
+-- ---- the entries of a map
 
 entries_of_forms : (registry : Entries) (f g : Shape) (ps : Pairs) (es : List Entry) → EntriesOf registry f g ps es → es ≡ form_entries registry ps f g
 entries_of_forms registry f g no_pairs [] h = refl
@@ -189,7 +189,7 @@ entries_distinct registry f g no_pairs es h = refl
 entries_distinct registry f g (pair k v ps) [] h = absurd h
 entries_distinct registry f g (pair k v ps) (e ∷ es) h = and_from _ _ (and_from _ _ h.0.distinct h.1.distinct) (entries_distinct registry f g ps es h.2)
 
--- entries that are moved so that they rise
+-- the law for sorted entries
 pub sorted_entries : SortedEntries
 sorted_entries = λ registry f g ps es rs h p up.
     let fit = entries_fit registry f g ps es h in
@@ -203,16 +203,16 @@ sorted_entries = λ registry f g ps es rs h p up.
       bytes = ap₂ (λ (n : ℕ) (b : List ℕ). uleb n ++ b) (pair_count-pairs_form registry ps f g) (sym (sorted_bytes registry ps f g rs fit d q up));
     }
 
--- entries of which two neighbours then have one key
+-- the law for neighbours with the same key
 pub equal_neighbours_repeat : EqualNeighboursRepeat
 equal_neighbours_repeat = λ registry f g ps es rs h p t.
     let fit = entries_fit registry f g ps es h in
     let q : IsPermutation (form_entries registry ps f g) rs = subst (λ (x : List Entry). IsPermutation x rs) (entries_of_forms registry f g ps es h) p in
     false_from_ne_true (distinct (pairs ps)) (sorted_equal_neighbours registry ps f g rs fit q t)
 
--- ---- what a sort by the keys' bytes gives
+-- ---- the result of sorting by the bytes of the keys
 
--- the clause of `sort_by`, at a closure that compares the keys' bytes of two elements
+-- the contract of `sort_by`, for a closure that compares the bytes of two keys
 pub sorted_by_bytes : {X : Type 0} (key : X → List ℕ) {F : Type 0} {g : Mut F (Bor X × (Bor X × Unit {0})) Ordering} {f : F} (xs : List X)
     → ((lt : X → X → Bool) → IsStrictWeakOrder lt → ComparesAs g lt f → IsSortedBy lt xs)
     → ((a : Bor X × (Bor X × Unit {0})) (r : Ordering) (f' : F) → Called g f a r f' → (r ≡ slice_cmp nat_cmp (key a.0.now) (key a.1.0.now)) × (f' ≡ f))
@@ -226,7 +226,7 @@ module _ {X : Type 0} (entry : X → Entry) where
       let q : suc k + 1 ≡ suc (k + 1) = omega arith in
       subst (λ (n : ℕ). is_lt (slice_cmp nat_cmp (entry (get_or (x ∷ xs) n d)).0 (entry (get_or xs k d)).0) ≡ false) q (h (suc k) d (omega arith) (omega arith))
 
-  -- the entries of what was sorted rise, or two neighbours have one key
+  -- the sorted entries ascend, or two neighbours have the same key
   pub rise_or_equal_neighbours : (xs : List X) → IsSortedByKey (λ x. (entry x).0) (slice_cmp nat_cmp) xs → EntriesRise (map entry xs) ⊎ HasEqualNeighbours (map entry xs)
   rise_or_equal_neighbours [] h = inl tt
   rise_or_equal_neighbours (x ∷ []) h = inl tt

@@ -1,4 +1,4 @@
--- Canonical trees have distinct keys, and forms keep the lengths.
+-- Canonical trees have distinct keys, and canonical forms keep the lengths.
 use Rattle.bcs_encode_spec.proofs.Prelude.{◌≡◌, ℕ, true, false, not, ◌&&◌, ◌==◌, List, refl, sym, subst, ◌∙◌, inl, inr, ◌⊎◌, and_parts, and_from, cases_Bool, Tree, Trees, no_trees, tree, Pairs, no_pairs, pair, count, pair_count, Shape, Shapes, no_shapes, shape, Entries, Content, of, one_of, content_at, choice_at, fits, all_fit, each_fits, pairs_fit, payload_fits, plain, lengths_hold, all_hold, each_holds, pairs_hold, same, all_pairs, distinct, all_distinct, pairs_distinct, Below, RisesFrom, Rises, IsCanonical, AllCanonical, EachCanonical, PairsCanonical}
 use Rattle.bcs_value_model.specs.Tree as tree
 use Rattle.bcs_registry_model.specs.Shape as shape
@@ -39,7 +39,7 @@ module _ (limit : ℕ) (registry : Entries) where
         ∙ rw (lengths_hold-form_of k (of f), lengths_hold-form_of v (of g), pairs_hold-pairs_form ps f g) refl
 
 module _ (registry : Entries) where
-  -- a canonical key below all of these is none of them
+  -- a canonical key below all of these differs from each
   apart_rising : (k : Tree) (ps : Pairs) (f g : Shape) (b : List ℕ) → fits false registry k (of f) ≡ true → IsCanonical registry k (of f)
       → pairs_fit false registry ps f g ≡ true → PairsCanonical registry ps f g
       → RisesFrom registry b ps f → (plain registry k (of f) ≡ b) ⊎ Below (plain registry k (of f)) b → all_pairs (λ l w. not (same k l)) ps ≡ true

@@ -36,7 +36,7 @@ module _ (registry : Entries) where
   rises_tail no_pairs b f h = tt
   rises_tail (pair k v ps) b f h = h.1
 
-  -- nothing stands both first and later
+  -- the first key doesn't occur again
   once : (ps : Pairs) (k : Tree) (f : Shape) → RisesFrom registry (plain registry k (of f)) ps f → (l v : Tree) → l ≡ k → IsEntry l v ps → ⊥
   once ps k f h l v e m =
       Below-irrefl (plain registry k (of f))

@@ -1,4 +1,4 @@
--- Trees whose maps stand in the order of their keys' bytes.
+-- Canonical trees: the entries of each map are in ascending order of their encoded keys (BCS specification).
 use Rattle.std.specs.Prelude.{◌≡◌, ℕ, ◌<◌, List, [], ◌∷◌, ◌⊎◌}
 use Rattle.bcs_value_model.specs.Tree as tree
 use Rattle.bcs_value_model.specs.Tree.{Tree, Trees, no_trees, tree, Pairs, no_pairs, pair}
@@ -7,7 +7,7 @@ use Rattle.bcs_registry_model.specs.Shape.{Shape, Shapes, no_shapes, shape}
 use Rattle.bcs_registry_model.specs.Container.{Entries, Content, of, one_of, content_at, choice_at}
 use Rattle.bcs_encode_spec.specs.Plain.{plain}
 
--- a is a prefix of the longer b, or at the first place where they differ a has the lower byte
+-- a is a proper prefix of b, or has the lower byte at the first index where they differ
 abbrev pub Below : List ℕ → List ℕ → Type 0
 Below [] [] = ⊥
 Below [] (y ∷ ys) = Unit {0}
@@ -15,12 +15,12 @@ Below (x ∷ xs) [] = ⊥
 Below (x ∷ xs) (y ∷ ys) = (x < y) ⊎ ((x ≡ y) × Below xs ys)
 
 module _ (registry : Entries) where
-  -- from b to the first key, and from each key to the next, the bytes rise
+  -- the encoded keys ascend, and the first one is above b
   abbrev pub RisesFrom : List ℕ → Pairs → Shape → Type 0
   RisesFrom b no_pairs f = Unit {0}
   RisesFrom b (pair k v ps) f = Below b (plain registry k (of f)) × RisesFrom (plain registry k (of f)) ps f
 
-  -- from each key to the next the bytes rise
+  -- the encoded keys ascend
   abbrev pub Rises : Pairs → Shape → Type 0
   Rises no_pairs f = Unit {0}
   Rises (pair k v ps) f = RisesFrom (plain registry k (of f)) ps f

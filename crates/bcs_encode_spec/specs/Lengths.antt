@@ -1,4 +1,4 @@
--- Trees whose lengths are all within a limit.
+-- Trees whose lengths are all at most `limit`.
 use Rattle.std.specs.Prelude.{ℕ, length, Bool, true, ◌&&◌, nat_le}
 use Rattle.bcs_value_model.specs.Tree as tree
 use Rattle.bcs_value_model.specs.Tree.{Tree, Trees, no_trees, tree, Pairs, no_pairs, pair, count, pair_count}
@@ -32,6 +32,6 @@ module _ (limit : ℕ) (registry : Entries) where
     pairs_hold no_pairs k v = true
     pairs_hold (pair l w ps) k v = (lengths_hold l (of k) && lengths_hold w (of v)) && pairs_hold ps k v
 
--- the greatest length (BCS specification): of elements, of entries, and of the bytes of a text or byte string
+-- the greatest length (BCS specification): number of elements or entries, or of the bytes of a string or byte string
 abbrev pub length_limit : ℕ
 length_limit = 2147483647

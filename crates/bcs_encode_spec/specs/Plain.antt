@@ -1,4 +1,4 @@
--- The bytes of a fitting tree (BCS specification), its pairs as they stand.
+-- The bytes of a fitting tree (BCS specification), with the entries of its maps in the given order.
 use Rattle.std.specs.Prelude.{ℕ, List, [], ◌∷◌, ◌++◌, length, Bool, true, false}
 use Rattle.bcs_num.specs.Uleb.{uleb}
 use Rattle.bcs_num.specs.Le.{le, le_signed}

@@ -1,4 +1,4 @@
--- Which trees have an encoding.
+-- Trees that have an encoding.
 use Rattle.std.specs.Prelude.{◌≤◌, IsTrue, false}
 use Rattle.bcs_registry_model.specs.Container.{Entries, Content, of}
 use Rattle.bcs_registry_model.specs.Shape.{Shape}
@@ -8,8 +8,7 @@ use Rattle.bcs_value_model.specs.Same.{HasDistinctKeys}
 use Rattle.bcs_value_model.specs.Limits.{Bounds}
 use Rattle.bcs_encode_spec.specs.Lengths.{length_limit, lengths_hold}
 
--- the tree fits what stands here, the keys of each of its maps differ, and its depth, its nodes and its lengths are
--- within the limits
+-- the tree fits the content, the keys of each map are distinct, and depth, nodes and lengths are within the limits
 pub record IsSoundAt (registry : Entries) (limits : Bounds) (f : Content) (t : Tree) : Type 0 where
   pub fit : IsTrue (fits false registry t f)
   pub distinct : HasDistinctKeys t
@@ -17,6 +16,6 @@ pub record IsSoundAt (registry : Entries) (limits : Bounds) (f : Content) (t : T
   pub nodes_hold : nodes t ≤ limits.nodes
   pub lengths : IsTrue (lengths_hold length_limit registry t f)
 
--- the same at a format
+-- the same for a format
 abbrev pub IsSound : Entries → Bounds → Shape → Tree → Type 0
 IsSound registry limits s t = IsSoundAt registry limits (of s) t

@@ -1,32 +1,32 @@
-//! What keeps a value from being encoded.
+//! Why a value can't be encoded.
 ghost use Rattle.std.specs.Prelude.{◌≡◌};
 
 use std::alloc::{AllocError, AllocFailed};
 use thiserror::Error;
 
-/// Why a value has no bytes. Each is answered where no earlier one holds, but for `OutOfMemory`. The message of each is
-/// its name.
+/// Why a value has no encoding. If several faults apply, the first in this order is reported, except that `OutOfMemory`
+/// depends on when an allocation fails. The message of each variant is its name.
 #[derive(Clone, Copy, Debug, PartialEq, Eq, Error)]
 pub enum EncodeFault {
-    /// The value isn't one of the format, even if every value were let stand at `F32`, `F64` and `CHAR`.
+    /// The value doesn't fit the format, even if `F32`, `F64` and `CHAR` accept every value.
     #[error("NotOfFormat")]
     NotOfFormat = 1,
-    /// The value is one of the format only if every value may stand at `F32`, `F64` and `CHAR`.
+    /// Somewhere in the value, the format is `F32`, `F64` or `CHAR`, which have no values. Otherwise the value fits.
     #[error("Unsupported")]
     Unsupported = 5,
-    /// More containers stand in one another than the limits allow.
+    /// Containers nest more deeply than the limits allow.
     #[error("TooDeep")]
     TooDeep = 2,
     /// The value has more nodes than the limits allow.
     #[error("TooManyNodes")]
     TooManyNodes = 8,
-    /// A list, a map, a text or a byte string is longer than 2147483647.
+    /// A list, a map, a string or a byte string is longer than 2147483647 (BCS specification).
     #[error("TooLong")]
     TooLong = 3,
-    /// Two keys of one map are the same value.
+    /// Two keys of a map are the same value.
     #[error("RepeatedKey")]
     RepeatedKey = 4,
-    /// Memory ran out.
+    /// An allocation failed.
     #[error("OutOfMemory")]
     OutOfMemory = 6,
 }
@@ -51,13 +51,13 @@ impl<T: Drop> From<AllocFailed<T>> for EncodeFault {
     }
 }
 
-/// Why a value's bytes weren't put. The message of each is its name.
+/// Why the encoding of a value wasn't written. The message of each variant is its name.
 #[derive(Clone, Copy, Debug, PartialEq, Eq, Error)]
 pub enum WriteFault {
-    /// The value has no bytes, and nothing was put.
+    /// The value has no encoding, and nothing was written.
     #[error("Encode")]
     Encode(EncodeFault),
-    /// The sink failed, once it had taken so many bytes of the encoding.
+    /// The sink failed after it had accepted the first `written` bytes of the encoding.
     #[error("Write")]
     Write { written: u64 },
 }

@@ -1,4 +1,4 @@
-//! Which bytes a value has: definitions and laws.
+//! The bytes of values: definitions and laws.
 #![tactic(auto)]
 
 mod fault;

@@ -1,4 +1,4 @@
--- What a parser leaves are the bytes behind those that it skipped.
+-- A parser leaves exactly the bytes after those that it skipped.
 use Rattle.bcs_explain.proofs.Prelude.{◌≡◌, ℕ, zero, suc, ◌+◌, ◌-◌, ◌≤◌, nat_lt, ◌==◌, List, [], ◌∷◌, drop, length, Bool, true, false, if◌then◌else◌, take, Result, Ok, Err, sym, ap, ◌∙◌, arith, drop-drop, is_utf8, utf8_valid_len, NumFault, Reason, EndOfInput, LengthTooLarge, BadUtf8, Parser, chain, give, fail, fail_here, node, uleb_from, number_read, number_here, length_here, bytes_here, text_here, flag_here, items_here, skipping, done, halted, parts, follow_ok, node_here, flag_past, counted_here, whole_here, variant_past, enter_here, unsupported_here, node_and_bytes}
 use Rattle.bcs_num.specs.declared.fault.NumFault.TheVariants as num
 
@@ -107,7 +107,7 @@ advances_items f each (suc n) = advances_chain f _ each (λ _. advances_chain (i
 pub advances_octets : (n : ℕ) → Advances (items_here skipping (whole_here 1) n)
 advances_octets n = advances_items (whole_here 1) (advances_whole 1) n
 
--- ---- steps that leave all bytes
+-- ---- steps that read no bytes
 pub node_stays : (p m : ℕ) (b : List ℕ) (x : Unit {0}) (q l : ℕ) (c : List ℕ) → node_here p m b ≡ Ok (x, q, l, c) → (q ≡ p) × (c ≡ b)
 unfolding node give
 node_stays p zero b x q l c h = absurd cc

@@ -2,12 +2,12 @@
 use Rattle.std.specs.Prelude.{◌≡◌, ℕ, ◌≤◌, Bool, true, false, List, length, take, drop, Result, Ok, Err}
 use Rattle.bcs_decode_slice.specs.declared.cursor.Cursor.{Cursor}
 
--- The type of a listener's ghost member: it has received pieces that are these bytes, one after another, and a stop or none
--- after them.
+-- The type of a listener's ghost member `heard`: it has received pieces that are exactly these bytes, and whether it
+-- has then received a stop.
 abbrev pub Heard : Type 0 → Type 1
 Heard K = K → List ℕ → Bool → Type 0
 
--- The input has rest left from place on, and the listener has received all of the bytes before place.
+-- All bytes before `place` have been received, and `rest` is what follows in the input.
 abbrev pub Covered : {K : Type 0} → Heard K → ℕ → List ℕ → K → List ℕ → Type 0
 Covered heard place rest out input = (place ≤ length input) × (rest ≡ drop place input) × heard out (take place input) false
 
@@ -15,8 +15,8 @@ Covered heard place rest out input = (place ≤ length input) × (rest ≡ drop 
 abbrev pub CoversPrefix : {K : Type 0} → Heard K → K → List ℕ → Type 0
 CoversPrefix heard out input = (n : ℕ) × heard out (take n input) true
 
--- What a step adds, whatever the input is: if all bytes before the cursor were received before the step, all bytes before the
--- new cursor have been received after it.
+-- For every input: if all bytes before the cursor were received before the step, then all bytes before the new cursor
+-- have been received after it.
 abbrev pub StaysCovered : {K : Type 0} → Heard K → Cursor → K → Cursor → K → Type 0
 StaysCovered heard at old on new = (input : List ℕ) → Covered heard at.place at.rest.now old input → Covered heard on.place on.rest.now new input
 

@@ -1,4 +1,4 @@
--- Auxiliary: how a parser skips a value without parts.
+-- How the parsers of `bcs_decode_spec` skip a value without parts.
 use Rattle.std.specs.Prelude.{ℕ, List}
 use Rattle.std.specs.Int.{byte_len}
 use Rattle.bcs_registry_model.specs.Shape as shape
@@ -7,15 +7,15 @@ use Rattle.bcs_decode_spec.specs.declared.reason.Reason.TheVariants.{BadBool}
 use Rattle.bcs_decode_spec.specs.Reading.{Parser, chain, give, bytes_here}
 use Rattle.bcs_decode_slice.specs.Passing.{node_here, flag_past, text_past, bytes_past, unsupported_here}
 
--- a node starts, and this number of bytes follows
+-- a node, and then `n` bytes
 unfoldable pub node_and_bytes : ℕ → Parser (List ℕ)
 node_and_bytes n = chain node_here (λ _. bytes_here n)
 
--- the parser's result is discarded
+-- drops the result of a parser
 unfoldable pub discarding : {A : Type 0} → Parser A → Parser (Unit {0})
 discarding f = chain f (λ _. give tt)
 
--- a value of this shape is skipped
+-- skips a value of this shape
 abbrev pub scalar_past : Shape → Parser (Unit {0})
 scalar_past shape.unit = node_here
 scalar_past shape.truth = discarding (flag_past BadBool)

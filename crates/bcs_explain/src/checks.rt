@@ -1,4 +1,4 @@
-//! Steps that report no piece, but a stop if they find one. These functions are outside the recursive cycle.
+//! Steps that read no piece of their own, but may report a stop. They are outside the recursion.
 ghost use Rattle.std.specs.Prelude.{◌≡◌, ◌+◌, ◌<◌, ◌≤◌, ◌^◌, IfOk, length};
 ghost use Rattle.std.specs.Ordering.{nat_cmp};
 ghost use Rattle.std.specs.Map.{lookup};
@@ -19,7 +19,7 @@ use bcs_key_order::following;
 use bcs_registry_model::{Named, VariantFormat};
 use std::collections::BTreeMap;
 
-/// Starts a node, if one is left.
+/// Counts a node, if one is left.
 #[tactic(auto, using(crate::proofs::Covering::node_covers))]
 #[inline(never)]
 pub fn node<T: Listener>(
@@ -37,7 +37,7 @@ pub fn node<T: Listener>(
     result
 }
 
-/// Opens the container of this name, if `depth` allows one more.
+/// Opens the container `name`, if `depth` allows one more.
 #[tactic(auto, using(crate::proofs::Covering::enter_covers))]
 #[inline(never)]
 pub fn enter<T: Listener>(
@@ -58,7 +58,7 @@ pub fn enter<T: Listener>(
     result
 }
 
-/// Reads a variant's number, and returns it with its place. The caller reports the piece, once it knows the variant's name.
+/// Reads a variant's number, and returns its place and the number. The caller reports the piece, with the name.
 #[inline(never)]
 pub fn variant_number<T: Listener>(
     cursor: &mut Cursor,
@@ -102,7 +102,7 @@ pub fn variant_numbered<'r>(
     variants.get(&number)
 }
 
-/// Reports that the number at `start` is no variant of the enum.
+/// Reports that the enum has no variant with the number at `start`.
 #[inline(never)]
 pub fn unknown_variant<T: Listener>(start: u64, trail: &Trail<'_, '_, '_>, out: &mut T) -> Stop
     ensures reason { result.reason ≡ Reason.UnknownVariant }
@@ -116,7 +116,7 @@ pub fn unknown_variant<T: Listener>(start: u64, trail: &Trail<'_, '_, '_>, out: 
     }
 }
 
-/// Reports that the registry has no container of the name. Contracts that require an admitted format rule this out.
+/// Reports that the registry has no such container, which can't happen if it admits the format.
 #[inline(never)]
 pub fn unknown_name<T: Listener>(cursor: &Cursor, trail: &Trail<'_, '_, '_>, out: &mut T) -> Stop
     ensures reason { result.reason ≡ Reason.Unsupported }

@@ -1,4 +1,4 @@
-//! Values of containers, and of the variants of enums.
+//! Reports values of containers and variants.
 ghost use Rattle.std.specs.Prelude.{◌≡◌, ℕ, ◌+◌, ◌<◌, ◌^◌, List, length, map};
 ghost use Rattle.bcs_registry_model.specs.Container as spec;
 ghost use Rattle.bcs_registry_model.specs.Container.{content_at, field_shapes, payload_shape};
@@ -19,7 +19,7 @@ use bcs_decode_slice::cursor::Cursor;
 use bcs_decode_spec::Stop;
 use bcs_registry::{Container, Format, Named, Registry, VariantFormat};
 
-/// A value of the container of this name. `depth` is the number of containers that may be open from here on.
+/// Reports a value of the container `name`. At most `depth` more containers may be opened, including this one.
 #[inline(never)]
 #[cycle(walking)]
 pub(crate) fn named<'r, 'a, T: Listener>(
@@ -43,7 +43,7 @@ pub(crate) fn named<'r, 'a, T: Listener>(
     content(registry, container, depth - 1, cursor, &at, out)
 }
 
-/// What a container of the registry holds.
+/// Reports the contents of a container of the registry.
 #[inline(always)]
 #[cycle(walking)]
 fn content<'r, 'a, T: Listener>(
@@ -95,7 +95,7 @@ fn content<'r, 'a, T: Listener>(
     }
 }
 
-/// What a variant holds.
+/// Reports the contents of a variant.
 #[inline(never)]
 #[cycle(walking)]
 fn payload<'r, 'a, T: Listener>(
@@ -119,7 +119,7 @@ fn payload<'r, 'a, T: Listener>(
     }
 }
 
-/// A value for each field in turn.
+/// Reports one value for each field.
 #[inline(never)]
 #[cycle(walking)]
 fn structure<'r, 'a, T: Listener>(

@@ -9,8 +9,8 @@ use bcs_decode_slice::fixed_size_list::{MAX_FORMATS, MIN_COUNT, sized_row};
 use bcs_decode_slice::measuring::value_size;
 use bcs_registry::{Format, Registry};
 
-/// Skips elements of a long list or array if values of the format have no bytes, at most as many as there are nodes left
-/// for. Returns how many it skipped, so that the elements after them keep their numbers.
+/// Skips the leading elements of a long list or array if values of `element` have no bytes, as far as the remaining
+/// nodes allow. Returns how many it skipped; the elements after them keep their indices.
 #[inline(never)]
 pub fn skip_empty_elements(
     registry: &Registry,

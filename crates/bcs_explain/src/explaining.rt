@@ -1,4 +1,4 @@
-//! The call that reports the pieces of the value at the start of a slice.
+//! Reports the pieces of the value at the start of a slice.
 ghost use Rattle.std.specs.Prelude.{◌≡◌, ℕ, [], false, Ok, Err, IfOk, IfErr, take};
 ghost use Rattle.bcs_registry_model.specs.View.{shape_of};
 ghost use Rattle.bcs_registry_model.specs.WellFormed.{Admits};
@@ -16,11 +16,12 @@ use bcs_decode_spec::Stop;
 use bcs_registry::{Format, Registry};
 use bcs_value::Limits;
 
-/// Reports each piece of the value of the format at the start of the input, in order, and returns the value's length in
+/// Reports each piece of the value of `format` at the start of the input to `out`, and returns the value's length in
 /// bytes.
 ///
-/// The pieces are all of the value's bytes, in order, without gap or overlap. If the bytes stop, the pieces are a prefix of
-/// the bytes, the listener receives the stop once and last, and the `Stop` is that of `scan`.
+/// The pieces are all of the value's bytes, in order, without gap or overlap. If the bytes are invalid, the pieces are
+/// a prefix of them, `out` receives the stop once and last, and the result is the same `Stop` as that of
+/// `bcs_decode::scan`.
 pub fn explain<T: Listener>(
     registry: &Registry,
     format: &Format,

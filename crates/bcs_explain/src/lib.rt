@@ -1,4 +1,4 @@
-//! Reports the pieces of a value's bytes one by one, and the place where the bytes stop.
+//! Reports the pieces of a value's encoding one by one, and the stop if the bytes are invalid.
 #![tactic(auto)]
 
 mod checks;

@@ -1,4 +1,4 @@
-//! The listener that receives the pieces and the stop, and what it receives of each.
+//! The listener, which receives the pieces and the stop.
 ghost use Rattle.std.specs.Prelude.{◌≡◌, ℕ, ◌++◌, ◌+◌, ◌<◌, ◌^◌, Bool, false, List, length};
 ghost use Rattle.bcs_explain.specs.Covering.{ReportsStop};
 
@@ -14,21 +14,21 @@ pub enum Counted {
     Map,
 }
 
-/// What a piece is.
+/// What a piece encodes.
 #[derive(Clone, Copy)]
 pub enum Meaning<'a> {
     Truth(bool),
     Unsigned(u128),
-    /// A signed integer: its width, and its two's complement.
+    /// A signed integer: its width, and its bits in two's complement.
     Signed(Width, u128),
     Length(Counted, u32),
     Text(&'a str),
     Bytes(&'a [u8]),
-    /// The elements of a list or an array of `U8`.
+    /// All elements of a list or array of `U8`.
     Octets,
-    /// Whether an option's value is present.
+    /// The tag byte of an option: whether a value follows.
     Option(bool),
-    /// The number of the variant of this name.
+    /// A variant's number, with its name.
     Variant(u32, &'a str),
 }
 
@@ -39,33 +39,33 @@ pub enum Expected<'a> {
     Unsigned(Width),
     Signed(Width),
     Length(Counted),
-    /// This number of bytes that are UTF-8.
+    /// This number of UTF-8 bytes.
     Text(usize),
     /// This number of bytes.
     Bytes(usize),
-    /// This number of `U8` in a list or an array.
+    /// This number of elements of a list or array of `U8`.
     Octets(u64),
-    /// The tag of an option.
+    /// The tag byte of an option, `00` or `01`.
     Option,
-    /// The number of a variant.
+    /// The number of an existing variant.
     Number,
     /// A key above the one before it.
     LaterKey,
-    /// One more open container, to open the one of this name.
+    /// Room to open this container, within the limit of depth.
     Container(&'a str),
-    /// One more node.
+    /// Room for one more node.
     Node,
-    /// Nothing, since the format has no values.
+    /// Nothing: the format has no values.
     Nothing,
 }
 
-/// Receives the pieces one by one, and the stop if there is one. Neither call can fail: a listener that runs out of memory
-/// has to remember that, and ignore what follows.
+/// Receives the pieces one by one and, if the bytes are invalid, the stop. The calls can't fail: a listener that runs
+/// out of memory has to remember that, and ignore what follows.
 pub trait Listener {
-    /// Whether the listener has received pieces that are these bytes, one after another, and whether a stop after them.
+    /// The listener has received pieces that are exactly these bytes, and whether it has then received a stop.
     ghost heard: { Self → List ℕ → Bool → Type 0 };
 
-    /// Receives a piece, which begins at the place where the pieces before it end.
+    /// Receives a piece, at the byte offset where the previous piece ended. A piece has at least one byte.
     fn hear(&mut self, place: u64, bytes: &[u8], trail: &Trail<'_, '_, '_>, meaning: Meaning<'_>)
         requires filled { 0 < length bytes.now }
         requires room { place + length bytes.now < 2 ^ 64 }

@@ -1,4 +1,4 @@
-//! Maps, whose keys are in ascending order of their bytes.
+//! Reports maps, whose keys must ascend.
 ghost use Rattle.std.specs.Prelude.{◌≡◌, ℕ, ◌+◌, ◌-◌, ◌<◌, ◌≤◌, ◌^◌, None, length};
 ghost use Rattle.bcs_registry_model.specs.Shape.{map as map_shape};
 ghost use Rattle.bcs_registry_model.specs.View.{shape_of};
@@ -15,7 +15,7 @@ use bcs_decode_slice::cursor::Cursor;
 use bcs_decode_spec::Stop;
 use bcs_registry::{Format, Registry};
 
-/// The formats of an entry's key and of its value.
+/// The formats of an entry's key and value.
 #[derive(Clone, Copy)]
 pub(crate) struct Entry<'r> {
     pub(crate) key: &'r Format,
@@ -30,7 +30,7 @@ struct EntryRun<'r> {
     count: u32,
 }
 
-/// A map: its length, and that number of entries.
+/// Reports a map: its length, and its entries.
 #[inline(never)]
 #[cycle(walking)]
 pub(crate) fn map<'r, 'a, T: Listener>(
@@ -55,7 +55,7 @@ pub(crate) fn map<'r, 'a, T: Listener>(
     entries(registry, run, depth, cursor, trail, out)
 }
 
-/// The entries of a map. A key stops the bytes if it isn't above the one before it.
+/// Reports the entries of a map. A key that isn't above the one before it is a stop.
 #[inline(always)]
 #[cycle(walking)]
 fn entries<'r, 'a, T: Listener>(
@@ -74,7 +74,7 @@ fn entries<'r, 'a, T: Listener>(
     let mut last: Option<&'a [u8]> = None;
     for i in 0..run.count {
         let (start, from) = (cursor.place, cursor.rest);
-        // One variable for both steps, so that each level of the stack stores only one.
+        // A single variable for both steps, so that each stack frame stores only one.
         let mut at = below(&*trail, Step::Key(i));
         value(registry, run.key, depth, cursor, &at, out)?;
         let (found, _) = from.split_at((cursor.place - start) as usize);

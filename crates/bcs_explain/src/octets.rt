@@ -1,4 +1,4 @@
-//! The elements of a list or an array of `U8`, which are one piece.
+//! Reports all elements of a list or array of `U8` as one piece.
 ghost use Rattle.std.specs.Prelude.{◌≡◌, ◌+◌, ◌<◌, ◌≤◌, ◌^◌, true, length};
 ghost use Rattle.std.specs.Int.{w8};
 ghost use Rattle.bcs_registry_model.specs.Shape as shape;
@@ -22,7 +22,7 @@ pub fn is_octet(format: &Format) -> bool
     matches!(format, Format::U8)
 }
 
-/// `count` elements of the format `U8`.
+/// Reports `count` elements of format `U8`.
 #[inline(never)]
 #[tactic(auto, using(crate::proofs::Advancing::advances_octets))]
 pub fn report_octets<T: Listener>(

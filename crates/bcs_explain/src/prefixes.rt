@@ -1,4 +1,4 @@
-//! What comes before the content of a value: its length, or the tag of an option.
+//! Reports what precedes the content of a value: its length, or the tag byte of an option.
 ghost use Rattle.std.specs.Prelude.{◌≡◌, ◌+◌, ◌<◌, ◌≤◌, ◌^◌, length};
 ghost use Rattle.bcs_decode_slice.specs.Passing.{Passes, Onward, counted_here, flag_past};
 ghost use Rattle.bcs_explain.specs.Covering.{Covers};
@@ -10,7 +10,7 @@ use bcs_decode_slice::cursor::Cursor;
 use bcs_decode_slice::shallow::{counted, flag_value};
 use bcs_decode_spec::{Reason, Stop};
 
-/// The length of a text, a byte string, a list or a map.
+/// Reports the length of a string, a byte string, a list or a map, and returns it.
 #[inline(never)]
 #[tactic(auto, using(crate::proofs::Advancing::advances_counted))]
 pub fn report_length<T: Listener>(
@@ -38,7 +38,7 @@ pub fn report_length<T: Listener>(
     }
 }
 
-/// The byte that says whether an option's value is present.
+/// Reports the tag byte of an option, and returns whether a value follows.
 #[inline(never)]
 #[tactic(auto, using(crate::proofs::Advancing::advances_flag))]
 pub fn report_option_tag<T: Listener>(

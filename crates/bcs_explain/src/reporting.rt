@@ -1,4 +1,4 @@
-//! Calls of the listener: for the bytes that a step read, and for a stop.
+//! Calls the listener.
 ghost use Rattle.std.specs.Prelude.{◌≡◌, ℕ, ◌+◌, ◌-◌, ◌<◌, ◌≤◌, ◌^◌, List, length, drop};
 ghost use Rattle.bcs_explain.specs.Covering.{Covered, ReportsAnyStop};
 
@@ -7,7 +7,7 @@ use crate::trail::Trail;
 use bcs_decode_slice::cursor::Cursor;
 use bcs_decode_spec::Stop;
 
-/// Reports the bytes between `start` and the cursor as one piece, unless there are none. `from` is what was left at `start`.
+/// Reports the bytes from `start` to the cursor as one piece, if there are any. `from` is the input from `start` on.
 #[inline(never)]
 pub fn report_piece<T: Listener>(
     start: u64,

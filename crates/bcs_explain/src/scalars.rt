@@ -1,4 +1,4 @@
-//! Values without parts. These functions are outside the recursive cycle.
+//! Reports values without parts. These functions are outside the recursion.
 ghost use Rattle.std.specs.Prelude.{◌≡◌, ◌+◌, ◌<◌, ◌≤◌, ◌^◌, IfOk, length};
 ghost use Rattle.std.specs.Int.{byte_len, from_le_bytes};
 ghost use Rattle.bcs_num.specs.Le.{width_of};
@@ -18,7 +18,7 @@ use bcs_decode_spec::{Reason, Stop};
 use bcs_num::{Width, leading_unsigned};
 use bcs_registry_model::{IntegerKind, Scalar};
 
-/// A value of any scalar format.
+/// Reports a value of a scalar format.
 #[inline(never)]
 pub fn report_scalar<T: Listener>(
     scalar: Scalar,
@@ -42,7 +42,7 @@ pub fn report_scalar<T: Listener>(
     }
 }
 
-/// A Boolean.
+/// Reports a Boolean.
 #[tactic(auto, using(crate::proofs::Advancing::advances_flag), unfolding(bcs_decode_spec::specs::Reading::chain, bcs_decode_spec::specs::Reading::give, crate::specs::ScalarParsing::discarding))]
 fn report_bool<T: Listener>(
     cursor: &mut Cursor,
@@ -67,7 +67,7 @@ fn report_bool<T: Listener>(
     }
 }
 
-/// Starts a node and reads `count` bytes.
+/// Counts a node, and reads `count` bytes.
 #[tactic(auto, unfolding(bcs_decode_spec::specs::Reading::chain, bcs_decode_spec::specs::Reading::give, bcs_decode_spec::specs::Reading::bytes_here, crate::specs::ScalarParsing::node_and_bytes))]
 fn fixed_bytes<'a>(cursor: &mut Cursor<'a>, count: usize) -> Result<&'a [u8], Stop>
     requires room { cursor.old.place + length cursor.old.rest.now < 2 ^ 64 }
@@ -79,7 +79,7 @@ fn fixed_bytes<'a>(cursor: &mut Cursor<'a>, count: usize) -> Result<&'a [u8], St
     bytes(cursor, count)
 }
 
-/// The unsigned integer that these little-endian bytes encode.
+/// The unsigned integer with this little-endian encoding.
 fn unsigned_of(width: Width, bytes: &[u8]) -> u128
     requires { length bytes.now ≡ byte_len (width_of width) }
     ensures { result ≡ from_le_bytes (width_of width) bytes.now }
@@ -90,7 +90,7 @@ fn unsigned_of(width: Width, bytes: &[u8]) -> u128
     }
 }
 
-/// An unsigned integer.
+/// Reports an unsigned integer.
 #[tactic(auto, using(crate::proofs::Advancing::advances_node_and_bytes), unfolding(bcs_decode_spec::specs::Reading::chain, bcs_decode_spec::specs::Reading::give, crate::specs::ScalarParsing::discarding))]
 fn report_unsigned<T: Listener>(
     cursor: &mut Cursor,
@@ -117,7 +117,7 @@ fn report_unsigned<T: Listener>(
     }
 }
 
-/// A signed integer.
+/// Reports a signed integer.
 #[tactic(auto, using(crate::proofs::Advancing::advances_node_and_bytes), unfolding(bcs_decode_spec::specs::Reading::chain, bcs_decode_spec::specs::Reading::give, crate::specs::ScalarParsing::discarding))]
 fn report_signed<T: Listener>(
     cursor: &mut Cursor,

@@ -1,4 +1,4 @@
-//! Lists, arrays and tuples: values one after another, numbered from 0.
+//! Reports lists, arrays and tuples, whose elements have indices from 0 on.
 ghost use Rattle.std.specs.Prelude.{◌≡◌, ℕ, ◌+◌, ◌-◌, ◌<◌, ◌≤◌, ◌^◌, length};
 ghost use Rattle.bcs_registry_model.specs.Shape.{seq as list_shape, tuple as tuple_shape, array as array_shape};
 ghost use Rattle.bcs_registry_model.specs.View.{shape_of, formats_shapes};
@@ -24,7 +24,7 @@ pub(crate) struct Run<'r> {
     pub(crate) count: u64,
 }
 
-/// Of `count` values of one format, those from number `first` on.
+/// The last of `count` values of one format, from index `first` on.
 #[derive(Clone, Copy)]
 struct RunFrom<'r> {
     element: &'r Format,
@@ -32,7 +32,7 @@ struct RunFrom<'r> {
     count: u64,
 }
 
-/// A list: its length, and that number of elements.
+/// Reports a list: its length, and its elements.
 #[inline(never)]
 #[cycle(walking)]
 pub(crate) fn list<'r, 'a, T: Listener>(
@@ -56,7 +56,7 @@ pub(crate) fn list<'r, 'a, T: Listener>(
     elements(registry, run, depth, cursor, trail, out)
 }
 
-/// An array, whose length isn't among its bytes.
+/// Reports an array, which is encoded without its length.
 #[inline(never)]
 #[cycle(walking)]
 pub(crate) fn array<'r, 'a, T: Listener>(
@@ -76,7 +76,7 @@ pub(crate) fn array<'r, 'a, T: Listener>(
     elements(registry, run, depth, cursor, trail, out)
 }
 
-/// The elements of a list or an array. `U8`s are one piece. Elements without bytes are skipped in one step.
+/// Reports the elements of a list or array. `U8`s are one piece. Elements without bytes are skipped in one step.
 #[inline(always)]
 #[cycle(walking)]
 fn elements<'r, 'a, T: Listener>(
@@ -105,7 +105,7 @@ fn elements<'r, 'a, T: Listener>(
     }
 }
 
-/// The elements that weren't skipped, one by one.
+/// Reports the elements that weren't skipped, one by one.
 #[inline(always)]
 #[cycle(walking)]
 fn elements_from<'r, 'a, T: Listener>(
@@ -134,7 +134,7 @@ fn elements_from<'r, 'a, T: Listener>(
     Ok(())
 }
 
-/// A value of each format in turn.
+/// Reports one value of each format.
 #[inline(never)]
 #[cycle(walking)]
 pub(crate) fn tuple<'r, 'a, T: Listener>(

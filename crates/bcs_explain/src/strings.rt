@@ -1,4 +1,4 @@
-//! Texts and byte strings: a length, and that number of bytes. These functions are outside the recursive cycle.
+//! Reports strings and byte strings: a length, and that number of bytes. These functions are outside the recursion.
 ghost use Rattle.std.specs.Prelude.{◌≡◌, ◌+◌, ◌<◌, ◌≤◌, ◌^◌, length};
 ghost use Rattle.bcs_decode_spec.specs.Reading.{bytes_here, text_here};
 ghost use Rattle.bcs_decode_slice.specs.Passing.{Passes, Onward, bytes_past, text_past};
@@ -12,7 +12,7 @@ use crate::trail::Trail;
 use bcs_decode_slice::cursor::{Cursor, bytes, text};
 use bcs_decode_spec::Stop;
 
-/// A text with its length.
+/// Reports a string with its length.
 #[tactic(auto, using(crate::proofs::Covering::covers_then), unfolding(bcs_decode_spec::specs::Reading::chain, bcs_decode_spec::specs::Reading::give, crate::specs::ScalarParsing::discarding, bcs_decode_slice::specs::Passing::text_past))]
 pub fn report_string<T: Listener>(
     cursor: &mut Cursor,
@@ -28,7 +28,7 @@ pub fn report_string<T: Listener>(
     report_text(cursor, count as usize, trail, out)
 }
 
-/// A byte string with its length.
+/// Reports a byte string with its length.
 #[tactic(auto, using(crate::proofs::Covering::covers_then), unfolding(bcs_decode_spec::specs::Reading::chain, bcs_decode_spec::specs::Reading::give, crate::specs::ScalarParsing::discarding, bcs_decode_slice::specs::Passing::bytes_past))]
 pub fn report_byte_string<T: Listener>(
     cursor: &mut Cursor,
@@ -44,7 +44,7 @@ pub fn report_byte_string<T: Listener>(
     report_bytes(cursor, count as usize, trail, out)
 }
 
-/// The `count` bytes of a text.
+/// Reports the `count` bytes of a string, which must be UTF-8 (RFC 3629).
 #[tactic(auto, using(crate::proofs::Advancing::advances_text), unfolding(bcs_decode_spec::specs::Reading::chain, bcs_decode_spec::specs::Reading::give, crate::specs::ScalarParsing::discarding))]
 fn report_text<T: Listener>(
     cursor: &mut Cursor,
@@ -70,7 +70,7 @@ fn report_text<T: Listener>(
     }
 }
 
-/// The `count` bytes of a byte string.
+/// Reports the `count` bytes of a byte string.
 #[tactic(auto, using(crate::proofs::Advancing::advances_bytes), unfolding(bcs_decode_spec::specs::Reading::chain, bcs_decode_spec::specs::Reading::give, crate::specs::ScalarParsing::discarding))]
 fn report_bytes<T: Listener>(
     cursor: &mut Cursor,

@@ -1,39 +1,39 @@
-//! The field path down to a piece. It is a chain of references on the stack, so it needs no memory.
+//! The field path to a piece. It is a linked list on the stack, so it never allocates.
 
 use bcs_registry_model::{Format, Named};
 
-/// A step down.
+/// A step from a value to a part of it.
 #[derive(Clone, Copy)]
 pub enum Step<'r, 'a> {
-    /// To the element of this number.
+    /// To the element with this index.
     Item(u64),
-    /// To the field of this number and name.
+    /// To the field with this index and name.
     Field(u64, &'r str),
-    /// To the value of an option.
+    /// Into an option.
     Inner,
-    /// To what the container of this name holds.
+    /// Into a container with this name.
     Container(&'r str),
-    /// To what the variant of this number and name holds.
+    /// Into a variant, with its number and name.
     Variant(u32, &'r str),
-    /// To the key of the entry of this number.
+    /// To the key of the entry with this index.
     Key(u32),
-    /// To the value of the entry whose key has these bytes.
+    /// To the value of the entry whose encoded key is these bytes.
     Value(&'a [u8]),
 }
 
-/// The steps down from the whole value. The last step comes first.
+/// The steps from the whole value to a part of it, linked from the last step up.
 #[derive(Clone, Copy)]
 pub enum Trail<'t, 'r, 'a> {
     Top,
     Below(&'t Trail<'t, 'r, 'a>, Step<'r, 'a>),
 }
 
-/// The trail with one more step.
+/// Appends a step.
 pub fn below<'t, 'r, 'a>(trail: &'t Trail<'t, 'r, 'a>, step: Step<'r, 'a>) -> Trail<'t, 'r, 'a> {
     Trail::Below(trail, step)
 }
 
-/// The step to the field of this number.
+/// The step to a field.
 pub fn to_field<'r, 'a>(number: usize, field: &'r Named<Format>) -> Step<'r, 'a> {
     Step::Field(number as u64, field.name.as_str())
 }

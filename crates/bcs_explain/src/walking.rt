@@ -1,4 +1,4 @@
-//! Reads a value of a format and reports its pieces: the entry to the recursive cycle, and options.
+//! The entry to the recursion, for a value of any format; and options.
 ghost use Rattle.std.specs.Prelude.{◌+◌, ◌<◌, ◌^◌, length};
 ghost use Rattle.bcs_registry_model.specs.Shape.{option as option_shape};
 ghost use Rattle.bcs_registry_model.specs.View.{shape_of};
@@ -17,8 +17,8 @@ use bcs_decode_spec::Stop;
 use bcs_registry::{Format, Registry};
 use bcs_registry_model::Kind;
 
-/// Reads a value of the format and reports its pieces. `depth` is the number of containers that may be open inside it.
-/// It has no variables of its own, so each level of a format needs one stack frame, that of its kind.
+/// Reports a value of `format`. At most `depth` more containers may be opened. It has no local variables, so each level
+/// of a format costs one stack frame, that of the function for its kind.
 #[inline(always)]
 #[cycle(walking)]
 pub fn value<'r, 'a, T: Listener>(
@@ -53,7 +53,7 @@ pub fn value<'r, 'a, T: Listener>(
     }
 }
 
-/// An option: its tag, and its value if that is present.
+/// Reports an option: its tag byte, and its value if there is one.
 #[inline(never)]
 #[cycle(walking)]
 fn option<'r, 'a, T: Listener>(

@@ -1,4 +1,4 @@
--- How many line feeds bytes have.
+-- Counting line feeds.
 use Rattle.bcs_io.proofs.Prelude.{◌≡◌, inl, inr, ℕ, zero, suc, ◌+◌, ◌-◌, ◌≤◌, ◌==◌, ◌∙◌, if◌then◌else◌, Bool, true, false, List, [], ◌∷◌, ◌++◌, length, take, refl, ap, arith, length-append, take-append-add, cases_lt, take-append-le, HasNoLineFeed, before_block, block_size, line_feeds}
 use Rattle.bcs_io.proofs.LineLemmas.{no_feed_first, no_feed_rest}
 
@@ -23,7 +23,7 @@ feeds_take zero xs = omega arith
 feeds_take (suc n) [] = omega arith
 feeds_take (suc n) (x ∷ xs) = more_within (x == 10) (line_feeds (take n xs)) (line_feeds xs) (feeds_take n xs)
 
--- all that stands before the last block, where the rest has no line feed there
+-- the bytes before the last block, if the rest has no line feed there
 pub feeds_before_block : (front rest : List ℕ) → HasNoLineFeed (before_block rest) → line_feeds (before_block (front ++ rest)) ≤ line_feeds front
 feeds_before_block front rest plain =
     let n = length (front ++ rest) - block_size in

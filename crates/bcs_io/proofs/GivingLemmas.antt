@@ -1,9 +1,9 @@
--- Bytes that a source gave in several calls.
+-- Bytes that a source returned in several calls.
 use Rattle.bcs_io.proofs.Prelude.{ℕ, Bool, List, [], ◌++◌, Option, refl, ◌∙◌, arith, Consumes-nil, Consumes-trans, Gave, GaveThenFailed}
 use Rattle.std.proofs.lemmas.List.{length-append}
 
 module _ {S : Type 0} (content : S → Option (List ℕ)) (is_failed : S → Bool) (allowance : S → ℕ) where
-  -- no call takes nothing
+  -- without a call, nothing is returned
   pub Gave-nothing : (a : S) → Gave content is_failed allowance a a []
   Gave-nothing a = record { front = Consumes-nil (content a); kept = refl; less = omega arith }
 

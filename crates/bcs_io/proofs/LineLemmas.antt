@@ -1,7 +1,7 @@
--- The lines of texts that begin with a line.
+-- The lines of a text, from its first line and the rest.
 use Rattle.bcs_io.proofs.Prelude.{◌≡◌, ◌≢◌, ◌⊎◌, ℕ, ◌==◌, true, false, ◌||◌, cond, List, [], ◌∷◌, ◌++◌, refl, sym, ap, ◌∙◌, inl, inr, subst, cases_Bool, eqb-true, All, list_any, All-nil, All-cons, All-head, All-tail, lines_of, onto, HasNoLineFeed, ended, LinesGiveTextBack, LinesHaveNoLineFeed}
 
--- neither the first byte nor one behind it is a line feed
+-- if no byte is a line feed, the first one isn't
 pub no_feed_first : (c : ℕ) (cs : List ℕ) → HasNoLineFeed (c ∷ cs) → (c == 10) ≡ false
 no_feed_first c cs plain = elim (c == 10) as (λ b. (b || list_any (λ d. d == 10) cs) ≡ false → b ≡ false) [ true ↦ λ h. h | false ↦ λ _. refl ] plain
 
@@ -11,7 +11,7 @@ no_feed_rest c cs plain = elim (c == 10) as (λ b. (b || list_any (λ d. d == 10
 lines_of-other : (c : ℕ) (cs : List ℕ) → (c == 10) ≡ false → lines_of (c ∷ cs) ≡ onto c (lines_of cs)
 lines_of-other c cs other = ap (λ b. cond b ([] ∷ lines_of cs) (onto c (lines_of cs))) other
 
--- a line, its line feed, and what stands behind it
+-- a line, its line feed, and what follows
 pub lines_of-line : (line rest : List ℕ) → HasNoLineFeed line → lines_of (line ++ 10 ∷ rest) ≡ line ∷ lines_of rest
 lines_of-line [] rest plain = refl
 lines_of-line (c ∷ cs) rest plain =
@@ -24,7 +24,7 @@ lines_of-last (c ∷ []) plain some = lines_of-other c [] (no_feed_first c [] pl
 lines_of-last (c ∷ d ∷ ds) plain some =
     lines_of-other c (d ∷ ds) (no_feed_first c (d ∷ ds) plain) ∙ ap (onto c) (lines_of-last (d ∷ ds) (no_feed_rest c (d ∷ ds) plain) (λ e. (cc)))
 
--- a byte before the first line stands before the text of all
+-- prepending a byte to the first line prepends it to the joined text
 ended-onto : (c : ℕ) (ls : List (List ℕ)) (text : List ℕ) → (ended ls ≡ text) ⊎ (ended ls ≡ text ++ 10 ∷ [])
     → (ls ≡ [] → text ≡ []) → (ended (onto c ls) ≡ c ∷ text) ⊎ (ended (onto c ls) ≡ c ∷ (text ++ 10 ∷ []))
 ended-onto c [] text is none = inr (ap (λ (t : List ℕ). c ∷ (t ++ 10 ∷ [])) (sym (none refl)))
@@ -35,7 +35,7 @@ onto-some : (c : ℕ) (ls : List (List ℕ)) → onto c ls ≡ [] → ⊥
 onto-some c [] e = cc
 onto-some c (l ∷ ls) e = cc
 
--- no lines are those of the empty text alone
+-- only the empty text has no lines
 lines_of-none : (text : List ℕ) → lines_of text ≡ [] → text ≡ []
 lines_of-none [] e = refl
 lines_of-none (c ∷ cs) e =
@@ -57,7 +57,7 @@ lines_give_text_back (c ∷ cs) = elim (cases_Bool (c == 10)) [
       ]
 ]
 
--- a byte that is no line feed, before lines that have none
+-- prepending a byte that isn't a line feed
 plain-onto : (c : ℕ) (ls : List (List ℕ)) → (c == 10) ≡ false → All HasNoLineFeed ls → All HasNoLineFeed (onto c ls)
 plain-onto c [] other all = All-cons HasNoLineFeed (c ∷ []) [] (ap (λ b. b || false) other) (All-nil HasNoLineFeed)
 plain-onto c (l ∷ ls) other all =

@@ -1,4 +1,4 @@
--- Blocks that were read one after the other.
+-- Reading several blocks.
 use Rattle.bcs_io.proofs.Prelude.{◌≡◌, ℕ, ◌+◌, ◌<◌, ◌≤◌, Bool, true, List, [], ◌∷◌, ◌++◌, length, take, Option, Result, Ok, Err, nat_lt, sym, ap, subst, ◌∙◌, inl, inr, append_assoc, arith, drop, length-take-le, append-nil, nil_from_length, Gave, TakesLine, IsTooLong, RunsOut, GivesBlock, ReadsBlock, HeldLine, IsFirstLineFeed, HasNoLineFeed, before_block, block_size, NextFault, Read, TooLong, OutOfMemory}
 use Rattle.bcs_io.proofs.GivingLemmas.{Gave-then}
 use Rattle.bcs_io.proofs.Ahead.{block_behind, rest_behind}
@@ -8,7 +8,7 @@ some_long [] is e = cc
 some_long (x ∷ xs) is e = cc
 
 module _ {S : Type 0} (content : S → Option (List ℕ)) (is_failed : S → Bool) (allowance : S → ℕ) where
-  -- these bytes were given so far, and stand behind the rest
+  -- these bytes were read so far, and appended to the rest
   pub record Reads (old new : S) (before after : List ℕ) : Type 0 where
     pub given : List ℕ
     pub took : Gave content is_failed allowance old new given
@@ -51,7 +51,7 @@ module _ {S : Type 0} (content : S → Option (List ℕ)) (is_failed : S → Boo
     ahead = λ before. subst (λ (l : List ℕ). HasNoLineFeed (before_block l)) p.rest (p.ahead before);
   }
 
-  -- memory runs out behind what was read before
+  -- an allocation fails after earlier blocks were read
   pub Reads-runs_out : (a b c : S) (before between : HeldLine) (after : List ℕ) (result : Result ℕ NextFault) → Reads a b before.rest between.rest
       → ReadsBlock content is_failed allowance b c between.rest after result → result ≡ Err OutOfMemory
       → HasNoLineFeed between.rest → RunsOut content is_failed allowance a c before
@@ -66,7 +66,7 @@ module _ {S : Type 0} (content : S → Option (List ℕ)) (is_failed : S → Boo
         (block_behind between.rest q.given plain q.within);
   }
 
-  -- at the end of the content, what was read is the last line
+  -- at the end of the content, the bytes read are the last line
   pub Reads-last : (limit : ℕ) (a b c : S) (before between read after : HeldLine) (count : ℕ) → Reads a b before.rest between.rest
       → GivesBlock content is_failed allowance b c between.rest read.rest count → count ≡ 0
       → HasNoLineFeed between.rest → length between.rest ≤ limit → after ≡ record { line = read.rest; rest = [] }

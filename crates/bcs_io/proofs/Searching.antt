@@ -1,4 +1,4 @@
--- Where the first line feed stands, from a search behind bytes that have none.
+-- Finding the first line feed when a prefix is known to have none.
 use Rattle.bcs_io.proofs.Prelude.{◌≡◌, ℕ, zero, suc, ◌+◌, ◌-◌, ◌<◌, ◌≤◌, ◌==◌, Bool, ◌||◌, List, [], ◌∷◌, ◌++◌, length, take, drop, get_or, refl, sym, ap, ◌∙◌, arith, ⊎_elim, length-take-le, length-drop, get_or-take, get_or-drop, take-append-drop, cases_Bool, eqb-true, drop_more, drop-drop, take_rest, list_any-append, take-add, list_any, Nowhere, NoneBefore, Passes, is_byte, HasNoLineFeed, IsFirstLineFeed}
 use Rattle.bcs_io.proofs.LineLemmas.{no_feed_first, no_feed_rest}
 
@@ -14,13 +14,13 @@ plain-take (suc n) [] plain = refl
 plain-take (suc n) (c ∷ cs) plain =
     ap (λ b. b || list_any is_line_feed (take n cs)) (no_feed_first c cs plain) ∙ plain-take n cs (no_feed_rest c cs plain)
 
--- what is searched of all that is held
+-- the searched slice, in terms of the rest
 pub searched_part : (all bytes : List ℕ) (next searched : ℕ) → drop next all ≡ bytes
     → take (length all - (next + searched)) (drop (next + searched) all) ≡ drop searched bytes
 searched_part all bytes next searched is =
     take_rest all (next + searched) ∙ sym (drop-drop searched next all) ∙ ap (drop searched) is
 
--- no place has a line feed
+-- no index has a line feed
 plain-nowhere : (bytes : List ℕ) → ((k : ℕ) → k < length bytes → ¬ Passes (is_byte 10) bytes k) → HasNoLineFeed bytes
 plain-nowhere [] none = refl
 plain-nowhere (c ∷ cs) none =
@@ -28,13 +28,13 @@ plain-nowhere (c ∷ cs) none =
     ∙ plain-nowhere cs (λ k below. none (suc k) (omega arith))
 
 module _ (bytes : List ℕ) (searched : ℕ) (within : searched ≤ length bytes) (plain : HasNoLineFeed (take searched bytes)) where
-  -- nothing was found behind them
+  -- nothing was found after the prefix
   pub searched_none : Nowhere (Passes (is_byte 10) (drop searched bytes)) 0 (length (drop searched bytes)) → HasNoLineFeed bytes
   searched_none none =
       let whole = plain-append (take searched bytes) (drop searched bytes) plain (plain-nowhere (drop searched bytes) (λ k below. none k (omega arith) below)) in
       rw take-append-drop at whole
 
-  -- the first behind them is the first of all
+  -- the first one found after the prefix is the first of all
   pub searched_found : (place : ℕ) → NoneBefore (Passes (is_byte 10) (drop searched bytes)) 0 (length (drop searched bytes)) place
       → Passes (is_byte 10) (drop searched bytes) place → IsFirstLineFeed bytes (searched + place)
   searched_found place first is =

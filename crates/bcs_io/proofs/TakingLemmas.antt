@@ -1,8 +1,8 @@
--- Bytes that a sink took in several calls.
+-- Bytes that a sink accepted in several calls.
 use Rattle.bcs_io.proofs.Prelude.{ℕ, Bool, List, [], ◌++◌, Option, refl, ◌∙◌, Appends-nil, Appends-trans, Took, TookThenFailed}
 
 module _ {K : Type 0} (taken : K → Option (List ℕ)) (is_failed : K → Bool) where
-  -- no call takes nothing
+  -- without a call, nothing is accepted
   pub Took-nothing : (a : K) → Took taken is_failed a a []
   Took-nothing a = record { appended = Appends-nil (taken a); kept = refl }
 

@@ -1,4 +1,4 @@
--- What reading on to the next line takes of a source, and what it leaves in the buffer.
+-- The effect of reading the next line, on the source and on the buffer.
 use Rattle.std.specs.Prelude.{◌≡◌, ◌≢◌, ◌⊎◌, ℕ, ◌+◌, ◌<◌, ◌≤◌, Bool, false, List, [], ◌∷◌, ◌++◌, length, take, Option}
 use Rattle.std.specs.Io.KnownBytes.{IsAtEnd}
 use Rattle.bcs_io.specs.Giving.{Gave, GaveThenFailed}
@@ -6,7 +6,7 @@ use Rattle.bcs_io.specs.Held.{HeldLine}
 use Rattle.bcs_io.specs.Lines.{HasNoLineFeed, before_block, block_size}
 
 module _ {S : Type 0} (content : S → Option (List ℕ)) (is_failed : S → Bool) (allowance : S → ℕ) where
-  -- these bytes are the line, and behind them the content is at its end
+  -- these bytes are the last line, and the content ends after them
   pub record IsLastLine (new : S) (bytes : List ℕ) (after : HeldLine) : Type 0 where
     pub line : bytes ≡ after.line
     pub some : after.line ≢ []
@@ -14,17 +14,17 @@ module _ {S : Type 0} (content : S → Option (List ℕ)) (is_failed : S → Boo
     pub ends : IsAtEnd (content new)
     pub works : is_failed new ≡ false
 
-  -- what was left and what was given begins with the line and a line feed, or is the last line
+  -- the rest and the bytes read start with the line and a line feed, or they are the last line
   pub record TakesLine (limit : ℕ) (old new : S) (before after : HeldLine) : Type 0 where
     pub given : List ℕ
     pub took : Gave content is_failed allowance old new given
     pub plain : HasNoLineFeed after.line
     pub within : length after.line ≤ limit
     pub parts : (before.rest ++ given ≡ after.line ++ 10 ∷ after.rest) ⊎ IsLastLine new (before.rest ++ given) after
-    -- less than a block is left, since none is asked for where a line is left
+    -- less than a block remains, because no block is requested while a line is left
     pub ahead : HasNoLineFeed (before_block before.rest) → length after.rest < block_size
 
-  -- nothing was left, and nothing is to come
+  -- no bytes remain, in the buffer or in the source
   pub record HasNoLine (old new : S) (before after : HeldLine) : Type 0 where
     pub none_left : before.rest ≡ []
     pub took : Gave content is_failed allowance old new []
@@ -33,7 +33,7 @@ module _ {S : Type 0} (content : S → Option (List ℕ)) (is_failed : S → Boo
     pub line : after.line ≡ []
     pub rest : after.rest ≡ []
 
-  -- a call failed before a line was whole; what was given before it is kept
+  -- a call failed before the line was complete; the bytes read so far are kept
   pub record FailsInLine (limit : ℕ) (old new : S) (before after : HeldLine) : Type 0 where
     pub given : List ℕ
     pub lost : GaveThenFailed content is_failed allowance old new given
@@ -41,7 +41,7 @@ module _ {S : Type 0} (content : S → Option (List ℕ)) (is_failed : S → Boo
     pub within : length (before.rest ++ given) ≤ limit
     pub kept : after.rest ≡ before.rest ++ given
 
-  -- the line has a byte more than is allowed; what was given is kept
+  -- the line has more bytes than the limit; the bytes read so far are kept
   pub record IsTooLong (limit : ℕ) (old new : S) (before after : HeldLine) : Type 0 where
     pub given : List ℕ
     pub took : Gave content is_failed allowance old new given
@@ -50,7 +50,7 @@ module _ {S : Type 0} (content : S → Option (List ℕ)) (is_failed : S → Boo
     pub kept : after.rest ≡ before.rest ++ given
     pub ahead : HasNoLineFeed (before_block before.rest) → HasNoLineFeed (before_block (before.rest ++ given))
 
-  -- memory ran out for the block that was given last; before it stands no whole line
+  -- an allocation failed for the last block; no complete line comes before that block
   pub record RunsOut (old new : S) (before : HeldLine) : Type 0 where
     pub given : List ℕ
     pub took : Gave content is_failed allowance old new given

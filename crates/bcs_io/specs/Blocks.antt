@@ -1,4 +1,4 @@
--- What reading one block takes of a source.
+-- The effect of reading one block.
 use Rattle.std.specs.Prelude.{◌≡◌, ◌≤◌, ℕ, Bool, false, List, [], ◌++◌, length, Option, Result, Ok, Err}
 use Rattle.std.specs.Io.KnownBytes.{IsAtEnd}
 use Rattle.bcs_io.specs.Giving.{Gave, GaveThenFailed}
@@ -7,7 +7,7 @@ use Rattle.bcs_io.specs.declared.next_fault.NextFault.{NextFault}
 use Rattle.bcs_io.specs.declared.next_fault.NextFault.TheVariants.{Read, TooLong, OutOfMemory}
 
 module _ {S : Type 0} (content : S → Option (List ℕ)) (is_failed : S → Bool) (allowance : S → ℕ) where
-  -- these bytes were given, and stand behind the rest
+  -- these bytes were read, and appended to the rest
   pub record GivesBlock (old new : S) (before after : List ℕ) (count : ℕ) : Type 0 where
     pub given : List ℕ
     pub took : Gave content is_failed allowance old new given

@@ -1,13 +1,13 @@
--- What holds of the lines of a text.
+-- Laws about the lines of a text.
 use Rattle.std.specs.Prelude.{◌≡◌, ◌⊎◌, ℕ, List, [], ◌∷◌, ◌++◌, All}
 use Rattle.bcs_io.specs.Lines.{lines_of, HasNoLineFeed}
 
--- the lines, each with a line feed behind it
+-- the lines, each followed by a line feed
 abbrev pub ended : List (List ℕ) → List ℕ
 ended [] = []
 ended (l ∷ ls) = l ++ 10 ∷ ended ls
 
--- the text is its lines, of which the last may lack its line feed
+-- the lines, each followed by a line feed, are the text, possibly with one more line feed at its end
 abbrev pub LinesGiveTextBack : Type 0
 LinesGiveTextBack = (text : List ℕ) → (ended (lines_of text) ≡ text) ⊎ (ended (lines_of text) ≡ text ++ 10 ∷ [])
 

@@ -1,4 +1,4 @@
--- What the standard error is told of a source whose content was not taken.
+-- The line on standard error if the content of a source wasn't read.
 use Rattle.std.specs.Prelude.{ℕ, List, codes}
 use Rattle.bcs_io.specs.declared.taking.TakeFault.{TakeFault}
 use Rattle.bcs_io.specs.declared.taking.TakeFault.TheVariants.{Read, TooLarge, OutOfMemory}

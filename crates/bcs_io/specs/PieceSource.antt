@@ -1,21 +1,21 @@
--- A source that gives its bytes in pieces, as clauses see it.
+-- A source that returns its bytes in pieces, as contracts see it.
 use Rattle.std.specs.Prelude.{◌≡◌, ℕ, ◌+◌, ◌⊎◌, Bool, true, List, Option, Some, length, min, drop}
 use Rattle.std.specs.Io.Iter.{u64_saturate}
 use Rattle.bcs_io.specs.Calls.{one_fewer}
 
 pub record State : Type 0 where
-  -- the bytes that are still to come
+  -- the remaining bytes
   pub rest : List ℕ
-  -- how many bytes it gave
+  -- the number of bytes returned so far
   pub given : ℕ
-  -- the most bytes that one call gives
+  -- the greatest number of bytes that one call returns
   pub piece : ℕ
-  -- how many calls come before the one that was chosen to fail
+  -- the number of calls before the one that was chosen to fail
   pub calls_left : Option ℕ
   -- whether a call has failed
   pub is_failed : Bool
 
--- how many bytes it may still give
+-- the number of bytes that it can still return
 abbrev pub allowance_of : State → ℕ
 allowance_of s = u64_saturate (length s.rest)
 
@@ -23,12 +23,12 @@ allowance_of s = u64_saturate (length s.rest)
 abbrev pub Fails : State → Type 0
 Fails s = (s.is_failed ≡ true) ⊎ (s.calls_left ≡ Some 0)
 
--- how many bytes the next call gives into a buffer of this length, unless it fails: all that are
--- left, or a whole piece, or as many as there is room for
+-- the number of bytes that the next call returns, unless it fails: limited by the remaining bytes, the piece size, and
+-- the length of the buffer (room)
 abbrev pub share : State → ℕ → ℕ
 share s room = min (length s.rest) (min s.piece room)
 
--- the source after a call that gave so many bytes
+-- the source after a call that returned count bytes
 abbrev pub after_giving : State → ℕ → State
 after_giving s count = record s {
   rest = drop count s.rest;

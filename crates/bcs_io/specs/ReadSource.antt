@@ -1,12 +1,11 @@
--- What a clause reads of a source over a reader.
+-- The parts of a `ReadSource`, for contracts.
 use Rattle.std.specs.Prelude.{ℕ, ◌-◌, ◌^◌, Bool}
 use Rattle.bcs_io.specs.declared.read_source.ReadSource.{ReadSource}
 
--- the reader
 abbrev pub reader_of : {R : Type 0} → ReadSource R → R
 reader_of source = source.reader
 
--- how many bytes it may still give
+-- the number of bytes that it can still return
 abbrev pub allowance_of : {R : Type 0} → ReadSource R → ℕ
 allowance_of source = 2 ^ 64 - 1 - source.given
 

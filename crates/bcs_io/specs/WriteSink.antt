@@ -1,8 +1,7 @@
--- What a clause reads of a sink over a writer.
+-- The parts of a `WriteSink`, for contracts.
 use Rattle.std.specs.Prelude.{Bool}
 use Rattle.bcs_io.specs.declared.write_sink.WriteSink.{WriteSink}
 
--- the writer
 abbrev pub writer_of : {W : Type 0} → WriteSink W → W
 writer_of sink = sink.writer
 

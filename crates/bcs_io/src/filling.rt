@@ -1,10 +1,10 @@
-//! A buffer that is filled from a source.
+//! Fills a buffer from a source.
 ghost use Rattle.std.specs.Prelude.{◌≡◌, false, length};
 ghost use Rattle.bcs_io.specs.Filling.{Fills};
 
 use crate::source::{ByteSource, SourceFailed};
 
-/// Fills the buffer as far as the content goes, and answers how many bytes there were.
+/// Fills `buf`, or as much of it as there is content for, and returns how many bytes. Fails if the source fails.
 pub fn fill<S: ByteSource>(source: &mut S, buf: &mut [u8]) -> Result<usize, SourceFailed>
     requires good { S.is_failed source.old ≡ false }
     ensures fills { Fills S.content S.is_failed S.allowance source.old source.new result buf.new }

@@ -1,4 +1,4 @@
-//! Where bytes come from, line by line too, and where they go.
+//! Sources and sinks of bytes, and reading a source line by line.
 #![tactic(auto)]
 
 pub mod filling;

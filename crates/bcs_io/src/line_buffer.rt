@@ -1,4 +1,4 @@
-//! A buffer that reads the lines of a source.
+//! Reads the lines of a source.
 ghost use Rattle.std.specs.Prelude.{◌≡◌, ℕ, ◌+◌, ◌<◌, ◌≤◌, true, false, nat_lt, [], length, take, drop, slice_range, vec_len, Ok, Err};
 ghost use Rattle.bcs_io.specs.Lines.{HasNoLineFeed};
 ghost use Rattle.bcs_io.specs.Held.{HeldLine, FindsLineFeed};
@@ -11,10 +11,10 @@ use memchr::memchr;
 use std::alloc::Global;
 use std::marker::Model;
 
-// How many bytes are asked of the source at a time.
+// The number of bytes requested from the source at a time.
 const BLOCK: usize = 65536;
 
-/// A line of a source, and what was read behind it. Its memory is used again for each line.
+/// A line of a source, and the bytes that were read after it. The memory is reused for each line.
 #[derive(Drop)]
 pub struct LineBuffer {
     held: Vec<u8>,
@@ -23,7 +23,7 @@ pub struct LineBuffer {
     next: usize,
 }
 
-// Clauses see the line, which stands from `start` to `end`, and the rest, from `next` on.
+// Contracts see the line (`start` to `end`) and the rest (from `next` on).
 impl Model for LineBuffer {
     ghost Value = { HeldLine };
 
@@ -37,7 +37,7 @@ impl Model for LineBuffer {
 }
 
 impl LineBuffer {
-    /// Nothing was read yet.
+    /// An empty buffer.
     pub fn new(alloc: Global) -> Self
         ensures { result ≡ record { line = []; rest = [] } }
     {
@@ -49,14 +49,15 @@ impl LineBuffer {
         }
     }
 
-    /// The line, without its line feed.
+    /// The current line, without its line feed.
     pub fn line(&self) -> &[u8]
         ensures { result.now ≡ self.now.line }
     {
         &self.held[self.start..self.end]
     }
 
-    /// Reads on to the next line, of at most `limit` bytes, and answers whether there is one.
+    /// Reads the next line, and returns whether there is one. Fails with `TooLong` if the line has more than `limit`
+    /// bytes, with `Read` if the source fails, and with `OutOfMemory` if an allocation fails.
     pub fn advance<S: ByteSource>(&mut self, source: &mut S, limit: u64) -> Result<bool, NextFault>
         ensures line { result ≡ Ok true →
             TakesLine S.content S.is_failed S.allowance limit source.old source.new self.old self.new }
@@ -94,7 +95,7 @@ impl LineBuffer {
         self.held.len() - self.next
     }
 
-    // The first line feed of the rest, whose first `searched` bytes have none.
+    // Finds the first line feed in the rest. Its first `searched` bytes must not contain one.
     fn find_line_feed(&self, searched: usize) -> Option<usize>
         requires within { searched ≤ length self.now.rest }
         requires plain { HasNoLineFeed (take searched self.now.rest) }
@@ -104,7 +105,7 @@ impl LineBuffer {
         Some(searched + place)
     }
 
-    // So many bytes of the rest become the line, and the line feed behind them belongs to neither.
+    // Makes the first `count` bytes of the rest the line, and drops the line feed after them.
     fn take_line(&mut self, count: usize)
         requires { count < length self.old.rest }
         ensures { self.new ≡ record { line = take count self.old.rest; rest = drop (count + 1) self.old.rest } }
@@ -114,7 +115,7 @@ impl LineBuffer {
         self.next = self.end + 1;
     }
 
-    // The rest becomes the line. Answers whether that has any byte.
+    // Makes the rest the line, and returns whether it has any bytes.
     fn take_rest(&mut self) -> bool
         ensures some { result ≡ nat_lt 0 (length self.old.rest) }
         ensures after { self.new ≡ record { line = self.old.rest; rest = [] } }
@@ -125,7 +126,7 @@ impl LineBuffer {
         self.start < self.end
     }
 
-    // Reads a block behind the rest, and answers how many bytes there were.
+    // Appends a block to the rest, and returns the number of bytes read.
     fn read_block<S: ByteSource>(&mut self, source: &mut S) -> Result<usize, NextFault>
         ensures { ReadsBlock S.content S.is_failed S.allowance source.old source.new self.old.rest
             self.new.rest result }
@@ -141,7 +142,7 @@ impl LineBuffer {
         Ok(count)
     }
 
-    // The rest moves over the lines before it, so that memory is that of the longest line.
+    // Moves the rest to the start of the buffer, so the buffer only grows with the longest line.
     fn move_to_front(&mut self)
         ensures { self.new.rest ≡ self.old.rest }
     {

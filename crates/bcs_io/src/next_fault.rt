@@ -1,16 +1,16 @@
-//! Why there is no next line.
+//! Why the next line can't be read.
 use thiserror::Error;
 
-/// Why there is no next line. The message is the variant's name alone.
+/// Why the next line can't be read. The message is the name of the variant.
 #[derive(Clone, Copy, Debug, Drop, PartialEq, Eq, Error)]
 pub enum NextFault {
     /// The source failed.
     #[error("Read")]
     Read,
-    /// The line has more bytes than are allowed.
+    /// The line is longer than the limit.
     #[error("TooLong")]
     TooLong,
-    /// Memory ran out.
+    /// An allocation failed.
     #[error("OutOfMemory")]
     OutOfMemory,
 }

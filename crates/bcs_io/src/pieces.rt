@@ -1,5 +1,4 @@
-//! Sinks and sources that work in pieces, fail at a chosen call, or hardly end, to show what their
-//! callers do then.
+//! Sources and sinks that work in pieces, fail at a chosen call, or almost never end. Tests use them to check callers.
 mod piece_sink;
 mod piece_source;
 mod repeat_source;

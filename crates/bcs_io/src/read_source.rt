@@ -6,8 +6,8 @@ ghost use Rattle.bcs_io.specs.Giving.{Gives};
 use crate::source::{ByteSource, SourceFailed};
 use std::io::Read;
 
-/// The bytes of a reader. Any error of a read is a failure, and after it nothing more is read. A
-/// reader may never end, so the call after 18446744073709551615 bytes fails too.
+/// The bytes of a reader. Any read error is a failure, and nothing is read after it. Since a reader may never end, it
+/// also fails after 18446744073709551615 bytes.
 #[derive(Drop)]
 pub struct ReadSource<R> {
     reader: R,
@@ -31,7 +31,7 @@ impl<R: Read> ReadSource<R> {
     }
 }
 
-// Its content is what its reader has left.
+// Its content is what the reader has left.
 impl<R: Read> ByteSource for ReadSource<R> {
     ghost use Rattle.bcs_io.specs.ReadSource.{reader_of, allowance_of, failed};
 

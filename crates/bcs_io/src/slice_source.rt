@@ -13,7 +13,7 @@ pub struct SliceSource<'a> {
     rest: &'a [u8],
 }
 
-// Clauses see the bytes that are still to come.
+// Contracts see the remaining bytes.
 impl<'a> Model for SliceSource<'a> {
     ghost Value = { List ℕ };
 
@@ -27,7 +27,7 @@ impl<'a> SliceSource<'a> {
         SliceSource { rest: bytes }
     }
 
-    /// The bytes that are still to come.
+    /// The remaining bytes.
     pub fn rest(&self) -> &'a [u8]
         ensures { result.now ≡ self.now }
     {

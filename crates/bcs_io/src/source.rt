@@ -1,26 +1,25 @@
-//! Where bytes come from.
+//! Sources: where bytes are read from.
 ghost use Rattle.std.specs.Prelude.{◌≡◌, ℕ, ◌<◌, ◌^◌, Bool, List, Option};
 ghost use Rattle.bcs_io.specs.Giving.{Gives};
 
-/// The source failed, and gave no byte.
+/// The source failed, and returned no bytes in this call.
 #[derive(Clone, Copy, Debug, PartialEq, Eq)]
 pub struct SourceFailed;
 
-/// What gives bytes, a buffer at a time.
+/// A source of bytes.
 pub trait ByteSource {
-    /// The bytes that are still to come, where that is known.
+    /// The remaining bytes, if known.
     ghost content: { Self → Option (List ℕ) };
 
     /// Whether a call has failed.
     ghost is_failed: { Self → Bool };
 
-    /// How many bytes it may still give.
+    /// The greatest number of bytes that it can still return.
     ghost allowance: { Self → ℕ };
 
-    /// Writes the next bytes to the front of the buffer, and answers how many: at least one,
-    /// unless the content is at its end or the buffer is empty. A call that fails gives none,
-    /// and after it every call fails. What lies in the buffer behind the bytes that were given
-    /// is not said.
+    /// Copies the next bytes to the start of `buf` and returns how many. Returns 0 only at the end of the content or if
+    /// `buf` is empty. A call that fails copies nothing, and every later call fails too. The rest of `buf` is
+    /// unspecified.
     fn next(&mut self, buf: &mut [u8]) -> Result<usize, SourceFailed>
         ensures { Gives content is_failed allowance self.old self.new result buf.new };
 
@@ -28,6 +27,6 @@ pub trait ByteSource {
     fn failed(&self) -> bool
         ensures { result ≡ is_failed self.now };
 
-    /// No source gives 18446744073709551616 bytes, so whoever reads one to its end is done.
+    /// No source returns 18446744073709551616 bytes, so reading one to its end terminates.
     ghost bounded: { (source : Self) → allowance source < 2 ^ 64 };
 }

@@ -1,4 +1,4 @@
-//! Taking the whole content of a source.
+//! Reads the whole content of a source.
 ghost use Rattle.std.specs.Prelude.{◌≡◌, ◌+◌, ◌≤◌, ℕ, List, false, length, vec_len, IfOk, Err};
 ghost use Rattle.std.specs.Io.KnownBytes.{IsAtEnd};
 ghost use Rattle.bcs_io.specs.Giving.{Gave, GaveThenFailed};
@@ -8,22 +8,22 @@ use crate::source::ByteSource;
 use std::alloc::Global;
 use thiserror::Error;
 
-/// Why the content of a source was not taken. The message is the variant's name alone, and the variants count from 1.
+/// Why the content of a source wasn't read. The message is the variant's name. The variants are numbered from 1.
 #[derive(Clone, Copy, Debug, Drop, PartialEq, Eq, Error)]
 pub enum TakeFault {
     /// The source failed.
     #[error("Read")]
     Read = 1,
-    /// The content has more bytes than are allowed.
+    /// The content is longer than the limit.
     #[error("TooLarge")]
     TooLarge,
-    /// Memory ran out.
+    /// An allocation failed.
     #[error("OutOfMemory")]
     OutOfMemory,
 }
 
 impl TakeFault {
-    /// The line for the standard error.
+    /// The line for standard error.
     pub fn note(self) -> &'static str
         ensures { result.now ≡ take_note self }
     {
@@ -35,11 +35,11 @@ impl TakeFault {
     }
 }
 
-// How many bytes are asked of the source at a time.
+// The number of bytes requested from the source at a time.
 const BLOCK: u64 = 65536;
 
-/// The whole content of a source, of at most `limit` bytes. Memory grows by the bytes that were
-/// given, a source of endless content included: after one byte more than the limit it is refused.
+/// Reads the whole content of a source, at most `limit` bytes. Memory grows only with the bytes that were read, and
+/// reading stops one byte after the limit. So it is safe even if the source never ends.
 pub fn take_all<S: ByteSource>(
     alloc: Global,
     input: &mut S,
@@ -61,7 +61,7 @@ pub fn take_all<S: ByteSource>(
     let mut block = [0; BLOCK as usize];
     loop {
         let left = limit - bytes.len() as u64;
-        // A byte beyond the limit shows that the content is too large.
+        // Requests one byte more than the limit allows, to detect content that is too large.
         let room = left.min(BLOCK - 1) as usize + 1;
         let Ok(count) = input.next(&mut block[..room]) else {
             return Err(TakeFault::Read);

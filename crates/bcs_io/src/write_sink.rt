@@ -5,8 +5,8 @@ ghost use Rattle.bcs_io.specs.Taking.{Takes};
 use crate::sink::{ByteSink, SinkFailed};
 use std::io::Write;
 
-/// The bytes of a writer. A write that answers an error, or takes no byte of a piece that has one,
-/// is a failure, and after it nothing more is written.
+/// Writes to a writer. A write that returns an error, or that accepts no byte of a non-empty piece, is a failure, and
+/// nothing is written after it.
 #[derive(Drop)]
 pub struct WriteSink<W> {
     writer: W,
@@ -27,7 +27,7 @@ impl<W: Write> WriteSink<W> {
     }
 }
 
-// The bytes that it took are those that its writer holds.
+// It has accepted the bytes that the writer contains.
 impl<W: Write> ByteSink for WriteSink<W> {
     ghost use Rattle.bcs_io.specs.WriteSink.{writer_of, failed};
 

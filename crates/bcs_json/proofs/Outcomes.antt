@@ -1,11 +1,11 @@
--- What the calls answer, from what the crates below tell.
-use Rattle.bcs_json.proofs.Prelude.{◌≡◌, ◌≢◌, ◌≤◌, ◌↔◌, ℕ, List, Ok, Err, Result, Some, IfOk, IfErr, IfSome, Bool, Decides, refl, ap, sym, subst, none-some, same_Some, result_ok, result_err, Data, depth, Entries, IsOrderly, Shape, IsWellFormed, Bounds, Same, Tree, tree_of, Value, bytes_decide_same, IsForm, IsSound, EncodeFault, IsDecoded, IsNotJson, TextFault, NotJson, Json, fault_of_text, fault_of_value, JsonFault, OutOfMemory, HasBytes, Compares, Normalises, of, PointerStep, value, parts, IsPlaceOf, Reports, read_data, shown, nesting_limit, IsReadAs, SpelledBy, MisspellsAt, RefusesText, IsTextOf, shown_denotes, form_is_sound, form_nests, exact_data, read_is_spelled, stop_is_refusal, refused_value, steps, IsPlaced, Refusal, Prints}
+-- The results of the calls, from the results of the crates below.
+use Rattle.bcs_json.proofs.Prelude.{◌≡◌, ◌≢◌, ◌≤◌, ◌↔◌, ℕ, List, Ok, Err, Result, None, Option, option_map, Some, Vec, IfOk, IfErr, IfSome, Bool, Global, map, Decides, refl, ap, sym, subst, none-some, same_Some, result_ok, result_err, Data, depth, Entries, IsOrderly, Shape, IsWellFormed, Bounds, Same, Tree, tree_of, Value, bytes_decide_same, IsForm, IsSound, EncodeFault, IsDecoded, IsNotJson, TextFault, NotJson, Json, fault_of_text, fault_of_value, JsonFault, JsonStep, OutOfMemory, HasBytes, Compares, Normalises, of, PointerStep, pointer_step_of, value, parts, IsPlaceOf, Reports, read_data, shown, nesting_limit, IsReadAs, SpelledBy, MisspellsAt, RefusesText, IsTextOf, shown_denotes, form_is_sound, form_nests, exact_data, read_is_spelled, stop_is_refusal, refused_value, steps, IsPlaced, Refusal, Prints}
 use Rattle.bcs_registry_model.specs.Container as container
 use Rattle.bcs_encode_spec.specs.Refused as encode
 use Rattle.bcs_encode_spec.specs.declared.fault.EncodeFault.TheVariants as encode_fault
 use Rattle.bcs_registry_json.specs.declared.json_reading.TextFault.TheVariants as unread
 
--- results that were looked at by `ok` and `err`
+-- results that `ok` and `err` have inspected
 pub was_ok : {A E : Type 0} (r : Result A E) (x : A) (P : A → Type 0) → Some x ≡ result_ok r → IfOk r P → P x
 was_ok (Ok y) x P is h = subst P (same_Some y x (sym is)) h
 was_ok (Err e) x P is h = absurd (none-some x (sym is))
@@ -15,22 +15,22 @@ was_err (Ok y) e is = absurd (none-some e (sym is))
 was_err (Err g) e is = ap Err (same_Some g e (sym is))
 
 module _ (registry : Entries) (limits : Bounds) (s : Shape) (text : List ℕ) where
-  -- a text that isn't read is no JSON, unless memory ran out
+  -- a document that can't be parsed isn't JSON, unless an allocation failed
   pub text_fault : (e : TextFault) (r : Result Json TextFault) → r ≡ Err e → (r ≡ Err NotJson → IsNotJson text) → fault_of_text e ≢ OutOfMemory → RefusesText registry limits s text (fault_of_text e)
   text_fault NotJson r is h other = h is
   text_fault unread.OutOfMemory r is h other = absurd (other refl)
 
-  -- what the reader gave is spelled
+  -- the document spells the value that the reader returned
   pub told_value : (d : Data) → IsReadAs text d → (r : Result Value JsonFault) → Reports tree_of r (read_data registry limits.depth (of s) d) → IfOk r (λ v. SpelledBy registry limits s text (tree_of v))
   told_value d is (Ok v) h = read_is_spelled registry limits s text d is (tree_of v) h
   told_value d is (Err e) h = tt
 
-  -- where it stopped, the text is refused
+  -- where the reader stopped, the document is refused
   pub told_fault : (d : Data) → IsReadAs text d → (r : Result Value JsonFault) → Reports tree_of r (read_data registry limits.depth (of s) d) → IfErr r (λ e. e ≢ OutOfMemory → RefusesText registry limits s text e)
   told_fault d is (Ok v) h = tt
   told_fault d is (Err e) h = λ other. stop_is_refusal registry limits s text d is e (h other)
 
-  -- and a known way leads to where it is
+  -- and known steps lead to that JSON
   pub told_place : (d : Data) → IsReadAs text d → (n : ℕ) → n ≡ limits.depth → (r : Refusal) → Reports {X = Value} tree_of (Err r.fault) (read_data registry n (of s) d)
       → IsPlaced {X = Value} registry (parts registry n (value (of s)) d) (Err r) → r.fault ≢ OutOfMemory → (path : List PointerStep) → steps r.location ≡ Some path → MisspellsAt registry limits s text path r.fault
   told_place d is n depth r reports placed other path known =
@@ -38,24 +38,31 @@ module _ (registry : Entries) (limits : Bounds) (s : Shape) (text : List ℕ) wh
       let place : IsPlaceOf registry n (value (of s)) d path = subst (λ o. IfSome o (λ location. IsPlaceOf registry n (value (of s)) d location)) known (placed other) in
       (d, is, ((exact_data registry limits.depth (of s) d).err r.fault read, subst (λ m. IsPlaceOf registry m (value (of s)) d path) depth place))
 
-  -- a fault of encoding what is spelled is one of the text
+  -- so the steps of a refusal do
+  pub told_steps : (d : Data) → IsReadAs text d → (n : ℕ) → n ≡ limits.depth → (r : Refusal) → Reports {X = Value} tree_of (Err r.fault) (read_data registry n (of s) d)
+      → IsPlaced {X = Value} registry (parts registry n (value (of s)) d) (Err r) → r.fault ≢ OutOfMemory → (o : Option (Vec JsonStep Global)) → option_map (λ v. map pointer_step_of v.items) o ≡ steps r.location
+      → IfSome o (λ v. MisspellsAt registry limits s text (map pointer_step_of v.items) r.fault)
+  told_steps d is n depth r reports placed other None known = tt
+  told_steps d is n depth r reports placed other (Some v) known = told_place d is n depth r reports placed other (map pointer_step_of v.items) (sym known)
+
+  -- a fault of encoding the value is a fault of the document
   pub value_fault : IsOrderly registry → (t : Tree) → SpelledBy registry limits s text t → (e : EncodeFault) → (e ≢ encode_fault.OutOfMemory → encode.RefusesValue registry limits s t e)
       → fault_of_value e ≢ OutOfMemory → RefusesText registry limits s text (fault_of_value e)
   value_fault orderly t spelled encode_fault.OutOfMemory h other = absurd (other refl)
   value_fault orderly t spelled e h other = refused_value registry limits s text orderly t spelled e (h (λ is. cc))
 
-  -- what the bytes of a text are decoded to is the canonical form of what the text denotes
+  -- decoding the bytes of a document returns the canonical form of its value
   pub decoded_form : (b : List ℕ) (form : Tree) (has : HasBytes registry limits s text b) → IsDecoded registry limits s b form → IsForm registry (container.of s) has.value form
   decoded_form b form has is = record { fit = is.accepted.sound.fit; canonical = is.accepted.canonical; is_same = is.only has.value has.encoded }
 
-  -- and what is shown of it nests no deeper than a text may
+  -- and the JSON of that form nests no deeper than a document may
   pub decoded_nests : IsWellFormed registry → IsOrderly registry → (b : List ℕ) (form : Tree) → HasBytes registry limits s text b → IsDecoded registry limits s b form → depth (shown registry form (of s)) ≤ nesting_limit
   decoded_nests well orderly b form has is =
       let denoted = has.denoted in
       let spelled : SpelledBy registry limits s text has.value = record { read = denoted.read; is = denoted.is; spells = (denoted.spells, denoted.sound.depth_holds) } in
       form_nests registry limits s well orderly text has.value form spelled (decoded_form b form has is)
 
-  -- the text of what the bytes of a text are decoded to
+  -- the document of the value that the bytes of a document decode to
   pub normalises : IsWellFormed registry → IsOrderly registry → (b : List ℕ) (form : Tree) (out : List ℕ) → HasBytes registry limits s text b → IsDecoded registry limits s b form
       → IsTextOf registry s form out → IsReadAs out (shown registry form (of s)) → Normalises registry limits s text out
   normalises well orderly b form out has decoded is back =
@@ -68,7 +75,7 @@ module _ (registry : Entries) (limits : Bounds) (s : Shape) (text : List ℕ) wh
         again = shown_denotes registry limits s well orderly form decoded.accepted.sound out back.0 back.1;
       }
 
--- the text of the canonical form of a sound value
+-- the document of the canonical form of a sound value
 pub prints : (registry : Entries) (limits : Bounds) (s : Shape) → IsWellFormed registry → IsOrderly registry → (t form : Tree) (out : List ℕ) → IsSound registry limits s t → IsForm registry (container.of s) t form
     → IsTextOf registry s form out → IsReadAs out (shown registry form (of s)) → Prints registry limits s t out
 prints registry limits s well orderly t form out sound is_form is back =
@@ -79,7 +86,7 @@ prints registry limits s well orderly t form out sound is_form is back =
       denotes = shown_denotes registry limits s well orderly form (form_is_sound registry limits s well orderly t form sound is_form) out back.0 back.1;
     }
 
--- bytes that are equal or not say whether the values are the same
+-- values are equal exactly if their bytes are
 pub compares : (registry : Entries) (limits : Bounds) (s : Shape) (first second b c : List ℕ) (answer : Bool) → HasBytes registry limits s first b → HasBytes registry limits s second c
     → Decides answer (b ≡ c) → Compares registry limits s first second answer
 compares registry limits s first second b c answer one other equal =

@@ -1,5 +1,5 @@
--- What the proofs use of other crates, and of this crate's definitions.
-pub use Rattle.std.proofs.Common.{ap, Bool, Decides, Err, IfErr, IfOk, IfSome, List, map, Ok, refl, Result, rules, Some, string_bytes, subst, sym, ℕ, ◌↔◌, ◌≡◌, ◌≢◌, ◌≤◌}
+-- Imports of the proofs: definitions and lemmas of other crates, and definitions of this one.
+pub use Rattle.std.proofs.Common.{ap, Bool, Decides, Err, Global, IfErr, IfOk, IfSome, List, map, None, Ok, Option, option_map, refl, Result, rules, Some, string_bytes, subst, sym, Vec, ℕ, ◌↔◌, ◌≡◌, ◌≢◌, ◌≤◌}
 pub use Rattle.std.proofs.lemmas.Option.{none-some, same_Some}
 pub use Rattle.std.proofs.lemmas.Result.{err_from_is_err_and}
 pub use Rattle.std.proofs.lemmas.Slice.Eq.{bytes_eq-Decides}
@@ -23,6 +23,7 @@ pub use Rattle.bcs_json_spec.specs.Reading.{read_data, Reports}
 pub use Rattle.bcs_json_spec.specs.Shown.{shown}
 pub use Rattle.bcs_json_spec.specs.Texts.{IsReadAs, IsTextOf, MisspellsAt, nesting_limit, RefusesText, SpelledBy}
 pub use Rattle.bcs_json_spec.specs.declared.json_fault.JsonFault.{JsonFault}
+pub use Rattle.bcs_json_spec.specs.declared.json_step.JsonStep.{JsonStep}
 pub use Rattle.bcs_json_spec.specs.declared.json_fault.JsonFault.TheVariants.{OutOfMemory}
 pub use Rattle.bcs_registry_json.specs.Json.{IsNotJson}
 pub use Rattle.bcs_registry_json.specs.declared.json_reading.TextFault.{TextFault}

@@ -1,4 +1,5 @@
 pub mod Printing
+pub mod Refusing
 pub mod Showing
 pub use Rattle.bcs_registry.specs.Container
 pub use Rattle.bcs_registry.specs.Grows

@@ -1,4 +1,4 @@
--- Which text a value has, and why it has none.
+-- The JSON document of a value, and why a value has none.
 use Rattle.std.specs.Prelude.{◌<◌, ℕ, List}
 use Rattle.serde_json.specs.Data.{depth}
 use Rattle.bcs_registry_model.specs.Container.{Entries}
@@ -17,21 +17,21 @@ use Rattle.bcs_encode_spec.specs.declared.fault.EncodeFault.{EncodeFault}
 use Rattle.bcs_encode_spec.specs.declared.fault.EncodeFault.TheVariants as encoding
 use Rattle.bcs_json.specs.declared.print_fault.PrintFault.TheVariants.{NotOfFormat, Unsupported, TooDeep, TooManyNodes, TooLong, RepeatedKey, TooNested, OutOfMemory}
 
--- the text is what is shown of the canonical form of t, and denotes this form
+-- the document is the JSON of the canonical form of t, and represents this form
 pub record Prints (registry : Entries) (limits : Bounds) (s : Shape) (t : Tree) (text : List ℕ) : Type 0 where
   pub form : Tree
   pub is_form : IsForm registry (container.of s) t form
   pub is : IsTextOf registry s form text
   pub denotes : Denotes registry limits s text form
 
--- what is shown of the canonical form nests deeper than a text may
+-- the JSON of the canonical form nests deeper than a document may
 pub record IsShownTooDeep (registry : Entries) (limits : Bounds) (s : Shape) (t : Tree) : Type 0 where
   pub sound : IsSound registry limits s t
   pub form : Tree
   pub is_form : IsForm registry (container.of s) t form
   pub too_deep : nesting_limit < depth (shown registry form (of s))
 
--- why a value is not encoded, as why it is not printed
+-- an encoding fault as a printing fault
 abbrev pub fault_of : EncodeFault → PrintFault
 fault_of encoding.NotOfFormat = NotOfFormat
 fault_of encoding.Unsupported = Unsupported
@@ -41,7 +41,7 @@ fault_of encoding.TooLong = TooLong
 fault_of encoding.RepeatedKey = RepeatedKey
 fault_of encoding.OutOfMemory = OutOfMemory
 
--- the value has no text, for this reason: it has no encoding, or its text would nest too deep
+-- the value has no document for this reason: it has no encoding, or its document would nest too deep
 abbrev pub PrintRefuses : Entries → Bounds → Shape → Tree → PrintFault → Type 0
 PrintRefuses registry limits s t NotOfFormat = encode.RefusesValue registry limits s t encoding.NotOfFormat
 PrintRefuses registry limits s t Unsupported = encode.RefusesValue registry limits s t encoding.Unsupported

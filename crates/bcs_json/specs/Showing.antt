@@ -1,4 +1,4 @@
--- What is answered to bytes of which the text is asked for.
+-- The result of decoding bytes to a JSON document.
 use Rattle.std.specs.Prelude.{◌<◌, ℕ, List, length, Result, Ok, Err, String, string_bytes}
 use Rattle.std.specs.declared.alloc.Global.{Global}
 use Rattle.serde_json.specs.Data.{depth}
@@ -17,18 +17,18 @@ use Rattle.bcs_json_spec.specs.Texts.{nesting_limit}
 use Rattle.bcs_json.specs.declared.from_fault.FromFault.{FromFault}
 use Rattle.bcs_json.specs.declared.from_fault.FromFault.TheVariants.{Stop, TooNested, OutOfMemory}
 
--- memory ran out, though the bytes begin with a value
+-- an allocation failed, and the bytes begin with the encoding of a value
 abbrev pub RanOut : Entries → Bounds → Shape → List ℕ → Type 0
 RanOut registry limits s b = (n : ℕ) × (c : Tree) × Accepts registry limits s b n c
 
--- the value whose bytes are the whole input; or the one stop of it
+-- the value whose encoding is the whole input, or the stop
 abbrev pub DecodesWhole : Entries → Bounds → Shape → List ℕ → Result Value FromFault → Type 0
 DecodesWhole registry limits s b (Ok v) = Accepts registry limits s b (length b) (tree_of v)
 DecodesWhole registry limits s b (Err (Stop x)) = StopsAll registry limits s b x.reason x.place
 DecodesWhole registry limits s b (Err TooNested) = ⊥
 DecodesWhole registry limits s b (Err OutOfMemory) = RanOut registry limits s b
 
--- the text of that value; or the one stop; or the value is there and its text would nest too deep
+-- the document of that value, or the stop, or there is a value whose document would nest too deep
 abbrev pub Shows : Entries → Bounds → Shape → List ℕ → Result (String Global) FromFault → Type 0
 Shows registry limits s b (Ok text) = ShowsBytes registry limits s b (string_bytes text)
 Shows registry limits s b (Err (Stop x)) = StopsAll registry limits s b x.reason x.place

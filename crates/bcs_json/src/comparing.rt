@@ -1,4 +1,4 @@
-//! Whether two texts denote the same value.
+//! Whether two JSON documents represent equal values.
 ghost use Rattle.std.specs.Prelude.{◌≡◌, ◌≢◌, ◌⊎◌, IfErr, IfOk};
 ghost use Rattle.bcs_registry_model.specs.View.{shape_of};
 ghost use Rattle.bcs_json_spec.specs.Headline.{Compares};
@@ -12,9 +12,10 @@ use bcs_registry::{Format, Registry};
 use bcs_value::Limits;
 use std::alloc::Global;
 
-/// Whether two JSON texts denote equal values, maps being finite maps, which is whether their bytes are equal.
+/// Whether two JSON documents represent equal values (maps are finite maps). That is the case exactly if their
+/// encodings are equal.
 ///
-/// Each is refused as by [`read_value`](crate::read_value), a fault of the first before the second is read.
+/// Each is refused like in [`read_value`](crate::read_value). If the first is refused, the second isn't read.
 pub fn compare(
     alloc: Global,
     registry: &Registry,

@@ -1,4 +1,4 @@
-//! Texts of bytes.
+//! JSON documents from bytes.
 ghost use Rattle.bcs_registry_model.specs.View.{shape_of};
 ghost use Rattle.bcs_registry_model.specs.WellFormed.{Admits};
 ghost use Rattle.bcs_json.specs.Showing.{DecodesWhole, Shows};
@@ -12,10 +12,10 @@ use bcs_registry_json::NESTING_LIMIT;
 use bcs_value::{Limits, Value};
 use std::alloc::Global;
 
-/// The text of the one value whose bytes are the whole input. The bytes of that text are the input again.
+/// The JSON document of the value whose encoding is the whole input. Encoding that document returns the input.
 ///
-/// `Stop`: the whole input is no value's bytes; it is the one stop. `TooNested`: it is, and the arrays and objects of
-/// its text would nest more than 100 deep.
+/// `Stop`: the input isn't the encoding of a value, with the one stop. `TooNested`: it is, and the arrays and objects
+/// of the document would nest more than 100 deep.
 pub fn from_bcs(
     alloc: Global,
     registry: &Registry,
@@ -35,7 +35,7 @@ pub fn from_bcs(
     Ok(text)
 }
 
-// The value whose bytes are the whole input.
+// The value whose encoding is the whole input.
 fn whole_value(
     alloc: Global,
     registry: &Registry,

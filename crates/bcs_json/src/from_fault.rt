@@ -1,19 +1,19 @@
-//! What keeps bytes from being shown.
+//! Why bytes can't be printed as JSON.
 
 use bcs_decode::Stop;
 use std::alloc::AllocError;
 use thiserror::Error;
 
-/// Why bytes have no text. The message is the variant's name alone.
+/// Why bytes have no JSON document. The message is the name of the variant.
 #[derive(Clone, Copy, Debug, Drop, PartialEq, Eq, Error)]
 pub enum FromFault {
-    /// The bytes stop being a value.
+    /// The bytes aren't the encoding of a value.
     #[error("Stop")]
     Stop(Stop),
-    /// The arrays and objects of the value's text would nest more than 100 deep.
+    /// The arrays and objects of the document would nest more than 100 deep.
     #[error("TooNested")]
     TooNested,
-    /// Memory ran out.
+    /// An allocation failed.
     #[error("OutOfMemory")]
     OutOfMemory,
 }

@@ -1,12 +1,12 @@
-//! What keeps a value from being printed.
+//! Why a value can't be printed as JSON.
 ghost use Rattle.std.specs.Prelude.{◌≡◌};
 
 use bcs_encode::EncodeFault;
 use std::alloc::AllocError;
 use thiserror::Error;
 
-/// Why a value has no text, in the order in which it is told: it has no encoding, as `EncodeFault` says, or its text would
-/// nest too deep. The message is the variant's name alone.
+/// Why a value has no JSON document. An encoding fault (see `EncodeFault`) comes before `TooNested`. The message is the
+/// name of the variant.
 #[derive(Clone, Copy, Debug, PartialEq, Eq, Error)]
 pub enum PrintFault {
     #[error("NotOfFormat")]
@@ -21,7 +21,7 @@ pub enum PrintFault {
     TooLong = 3,
     #[error("RepeatedKey")]
     RepeatedKey = 4,
-    /// The arrays and objects of its text would nest more than 100 deep.
+    /// The arrays and objects of the document would nest more than 100 deep.
     #[error("TooNested")]
     TooNested = 7,
     #[error("OutOfMemory")]

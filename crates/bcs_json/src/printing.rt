@@ -1,4 +1,4 @@
-//! Texts of values.
+//! JSON documents of values.
 ghost use Rattle.std.specs.Prelude.{◌≡◌, ◌≢◌, IfErr, IfOk, OnOk, string_bytes};
 ghost use Rattle.bcs_encode_spec.specs.Refused.{IsSoundBesidesKeys};
 ghost use Rattle.bcs_encode_spec.specs.Sound.{IsSound};
@@ -16,10 +16,10 @@ use bcs_registry_json::NESTING_LIMIT;
 use bcs_value::{Limits, Value};
 use std::alloc::Global;
 
-/// The one text of a sound value: the compact JSON of its canonical form.
+/// The JSON document of a sound value: the compact JSON of its canonical form.
 ///
-/// The value is refused as `encode` refuses it. `TooNested`: it is sound, and the arrays and objects of its text would nest
-/// more than 100 deep.
+/// It fails like `encode`. `TooNested`: the value is sound, and the arrays and objects of the document would nest more
+/// than 100 deep.
 pub fn print_value(
     alloc: Global,
     registry: &Registry,

@@ -1,4 +1,4 @@
-//! The JSON of a text, and the value that it spells.
+//! The JSON of a document, and the value that it represents.
 ghost use Rattle.std.specs.Prelude.{◌≢◌, IfErr, IfOk};
 ghost use Rattle.serde_json.specs.View.{view};
 ghost use Rattle.bcs_registry_model.specs.Container.{Entries};
@@ -8,7 +8,9 @@ ghost use Rattle.bcs_value_model.specs.Limits.{Bounds};
 ghost use Rattle.bcs_value_model.specs.View.{tree_of};
 ghost use Rattle.bcs_json_spec.specs.Texts.{IsReadAs, SpelledBy, RefusesText};
 ghost use Rattle.bcs_json_spec.specs.declared.json_fault.JsonFault.TheVariants.{OutOfMemory};
+ghost use Rattle.bcs_json.specs.Refusing.{IsRefusedAs};
 
+use crate::text_refusal::TextRefusal;
 use bcs_json_reader::reading::read;
 use bcs_json_spec::JsonFault;
 use bcs_json_tokens::{GivenUp, value_of_text};
@@ -18,7 +20,7 @@ use bcs_value::{Limits, Value};
 use serde_json::Value as Json;
 use std::alloc::Global;
 
-/// The JSON of a text, which nests within the limit.
+/// Parses a document, whose arrays and objects must nest at most 100 deep.
 pub(crate) fn json_of(alloc: Global, text: &[u8]) -> Result<Json, JsonFault>
     ensures read { IfOk result (λ json. IsReadAs text.now (view json)) }
     ensures fault { IfErr result (λ e. e ≢ OutOfMemory
@@ -32,24 +34,36 @@ pub(crate) fn json_of(alloc: Global, text: &[u8]) -> Result<Json, JsonFault>
     }
 }
 
-/// The value that a text spells, its pairs as they stand there. It isn't validated yet: it may have too many nodes, too
-/// long lengths, or equal keys. A plain text is read from its tokens, and any other by way of its JSON.
+/// The value that a document represents, with map entries in the order given. It isn't fully validated yet: it may have
+/// too many nodes, a length above the limit, or equal keys. A plain document is read from its tokens, any other through
+/// a tree of its JSON.
 pub(crate) fn spelled(
     alloc: Global,
     registry: &Registry,
     format: &Format,
     limits: &Limits,
     text: &[u8],
-) -> Result<Value, JsonFault>
+) -> Result<Value, TextRefusal>
     ensures spelled { IfOk result (λ v. SpelledBy registry.now limits.now (shape_of format.now) text.now (tree_of v)) }
-    ensures fault { IfErr result (λ e. e ≢ OutOfMemory → RefusesText registry.now limits.now (shape_of format.now) text.now e) }
+    ensures refused { IfErr result (IsRefusedAs registry.now limits.now (shape_of format.now) text.now) }
 {
     match value_of_text(alloc, registry, format, limits, text) {
         Ok(value) => return Ok(value),
-        Err(GivenUp::OutOfMemory) => return Err(JsonFault::OutOfMemory),
+        Err(GivenUp::OutOfMemory) => return Err(TextRefusal::from(JsonFault::OutOfMemory)),
         Err(GivenUp::Unusual) => {}
     }
     let json = json_of(alloc, text)?;
-    let value = read(alloc, registry, format, limits.depth(), json)?;
-    Ok(value)
+    match read(alloc, registry, format, limits.depth(), json) {
+        Ok(value) => Ok(value),
+        Err(refusal) => {
+            if refusal.fault == JsonFault::OutOfMemory {
+                return Err(TextRefusal::from(JsonFault::OutOfMemory));
+            }
+            let steps = refusal.location.outward(alloc);
+            Err(TextRefusal {
+                fault: refusal.fault,
+                steps,
+            })
+        }
+    }
 }

@@ -1,4 +1,4 @@
--- The members of an object by the places of its fields.
+-- The members of an object by the indices of its fields.
 use Rattle.bcs_json_printer.proofs.Prelude.{◌≡◌, ◌∙◌, ◌<◌, ◌+◌, ℕ, zero, suc, List, [], ◌∷◌, length, get_or, drop, map, String, Global, Ordering, Less, Equal, Greater, string_bytes, string_cmp, refl, ap, arith, insert_entry, match_ordering, Data, null, put, Entries, shape_of, field_of, Format, Named, tree_of, items_trees, Value, of, shown, shown_fields, name_of, placed, put_from}
 use Rattle.bcs_json_printer.proofs.PrintedRows.{left_at}
 
@@ -14,14 +14,14 @@ pub placed-insert_entry : (at : ℕ → Data) (es : List Entry) (k : String Glob
 placed-insert_entry at [] k n = refl
 placed-insert_entry at (e ∷ es) k n = placed-match_ordering at (string_cmp k e.0) _ _ _ ∙ rw (placed-insert_entry at es k n)
 
--- one field before those that have their places
+-- one field before those that have an index
 pub put_from_more : (at : ℕ → Data) (fs : List (Named Format)) (n : ℕ) (f : Named Format) → n < length fs → f ≡ get_or fs n f
     → put (name_of f) (at n) (put_from at (n + 1) (map name_of (drop (n + 1) fs))) ≡ put_from at n (map name_of (drop n fs))
 put_from_more at fs n f h e =
     let here = left_at fs n f h e in
     rw here (ap (λ m. put (name_of f) (at n) (put_from at m (map name_of (drop (n + 1) fs)))) (omega arith))
 
--- what is shown at a place
+-- the JSON at an index
 abbrev pub shown_at : Entries → List Value → List (Named Format) → ℕ → Data
 shown_at r [] fs n = null
 shown_at r (x ∷ xs) [] n = null
@@ -39,7 +39,7 @@ put_from-shift : (at later : ℕ → Data) → ((n : ℕ) → at (suc n) ≡ lat
 put_from-shift at later same n [] = refl
 put_from-shift at later same n (k ∷ ks) = rw (same n, put_from-shift at later same (suc n) ks) refl
 
--- the fields of a struct, put by their places
+-- the fields of a struct, inserted by their indices
 pub shown_fields-places : (r : Entries) (xs : List Value) (fs : List (Named Format)) → length xs ≡ length fs
     → put_from (shown_at r xs fs) 0 (map name_of fs) ≡ shown_fields r (items_trees xs) (map field_of fs)
 shown_fields-places r [] [] h = refl

@@ -1,4 +1,4 @@
--- What the proofs use of other crates, and of this crate's definitions.
+-- Imports of the proofs: definitions and lemmas of other crates, and definitions of this one.
 pub use Rattle.std.proofs.Common.{[], ap, arith, Bor, Box, BTreeMap, drop, Equal, false, get_or, Global, Greater, IfOk, length, Less, List, map, max, nat_le, None, Option, option_map, Ordering, refl, rules, Some, String, string_bytes, string_cmp, subst, suc, sym, true, true≢false, Vec, zero, ℕ, ◌&&◌, ◌*◌, ◌++◌, ◌+◌, ◌-◌, ◌<◌, ◌∙◌, ◌∷◌, ◌≡◌, ◌≤◌}
 pub use Rattle.std.proofs.Math.Nat.{max-le}
 pub use Rattle.std.proofs.lemmas.Bool.{and_parts}

@@ -1,7 +1,7 @@
--- Rows that are sent one part after another.
+-- Lists that are sent one part after another.
 use Rattle.bcs_json_printer.proofs.Prelude.{◌≡◌, ◌<◌, ◌≤◌, ℕ, zero, suc, List, [], ◌∷◌, length, get_or, map, true, false, true≢false, String, Global, refl, sym, ap, arith, subst, and_parts, All, values_of, Data, items_len, members_len, Entries, field_shapes, at_format, Shape, field_of, formats_shapes, shape_of, Format, Named, each_fits, fits, nodes, pairs_nodes, trees_nodes, entries_pairs, items_trees, tree_of, Value, shown_all, shown_each, shown_pairs, placed}
 
--- a part of a row has no more nodes than the row
+-- a part of a list has at most as many nodes as the list
 pub part_nodes : (xs : List Value) (i : ℕ) (x : Value) → i < length xs → x ≡ get_or xs i x → nodes (tree_of x) ≤ trees_nodes (items_trees xs)
 part_nodes [] i x h is = absurd (omega arith)
 part_nodes (y ∷ xs) zero x h is = let own = ap (λ (v : Value). nodes (tree_of v)) is in omega (arith, own)
@@ -16,7 +16,7 @@ entry_nodes (q ∷ ps) zero p h is =
     (omega (arith, key), omega (arith, value))
 entry_nodes (q ∷ ps) (suc i) p h is = let rest = entry_nodes ps i p (omega arith) is in (omega (arith, rest.0), omega (arith, rest.1))
 
--- how many parts a row shows
+-- the number of parts in the JSON of a list
 pub all_len : (r : Entries) (xs : List Value) (s : Shape) → items_len (shown_all r (items_trees xs) s) ≡ length xs
 all_len r [] s = refl
 all_len r (x ∷ xs) s = ap suc (all_len r xs s)
@@ -36,7 +36,7 @@ placed_len at [] = refl
 placed_len at (e ∷ es) = ap suc (placed_len at es)
 
 module _ (r : Entries) where
-  -- a field's value is of the field's format
+  -- the value of a field has the format of the field
   pub field_fits : (xs : List Value) (fs : List (Named Format)) (n : ℕ) (x : Value) (f : Named Format) → n < length xs → n < length fs → x ≡ get_or xs n x → f ≡ get_or fs n f
       → each_fits false r (items_trees xs) (field_shapes (map field_of fs)) ≡ true → fits false r (tree_of x) (at_format (shape_of f.value)) ≡ true
   field_fits [] fs n x f h g is found fit = absurd (omega arith)
@@ -44,7 +44,7 @@ module _ (r : Entries) where
   field_fits (y ∷ xs) (e ∷ fs) zero x f h g is found fit = rw (is, found) ((and_parts _ _ fit).0)
   field_fits (y ∷ xs) (e ∷ fs) (suc n) x f h g is found fit = field_fits xs fs n x f (omega arith) (omega arith) is found (and_parts _ _ fit).1
 
--- the place that comes next, and those after it
+-- the next index, and those after it
 pub next_within : (es : List (String Global × ℕ)) (e : String Global × ℕ) (rest : List (String Global × ℕ)) (n : ℕ) → es ≡ e ∷ rest → All (λ i. i < n) (values_of es)
     → (e.1 < n) × All (λ i. i < n) (values_of rest)
 next_within es e rest n is h =

@@ -5,7 +5,7 @@ use Rattle.bcs_json_printer.proofs.PrintedRows.{left_at}
 abbrev pub names : List Field → List (List ℕ)
 names fs = map (λ f. f.0) fs
 
--- a member of a new name nests beside the others
+-- a member with a new name nests beside the others
 put_new : (k : List ℕ) (d : Data) (ms : Members) → get_member k ms ≡ None → members_depth (put k d ms) ≡ max (depth d) (members_depth ms)
 put_new k d ms h =
     let beside : max (depth d) (members_depth ms) ≤ members_depth (put k d ms) = max-le (put_own_depth k d ms) (put_others_depth k d ms h) in
@@ -23,7 +23,7 @@ module _ (registry : Entries) where
   first_field t ts f fs limit h =
       ap (λ n. nat_le n limit) (put_new f.0 (shown registry t (of f.1)) (shown_fields registry ts fs) (new_field registry f ts fs h)) ∙ both_within _ _ _
 
-  -- one field of those that are left
+  -- one of the remaining fields
   pub field_more : (xs : List Value) (fs : List (Named Format)) (i : ℕ) (x : Value) (f : Named Format) (limit : ℕ) → i < length xs → i < length fs → x ≡ get_or xs i x → f ≡ get_or fs i f
       → are_distinct (names (map field_of (drop i fs))) ≡ true
       → nat_le (members_depth (shown_fields registry (items_trees (drop i xs)) (map field_of (drop i fs)))) limit

@@ -1,6 +1,6 @@
-//! Values without parts, and the brackets and names round the parts of a value, as a serializer is sent them. Each is a
-//! function of its own, also where it hands on one call: so the serializer's code stays out of the frame that the walk
-//! needs for each level, and an edit turns what is sent outside the walk's cycle, where that is cheap to refuse.
+//! Sends a serializer values without parts, and the brackets and names around parts. Even a single call has a function
+//! of its own: so the serializer's code stays out of the stack frame of the recursive functions, and a must-fail edit
+//! changes code outside their cycle, which is cheap to check.
 ghost use Rattle.std.specs.Prelude.{◌≡◌, ◌<◌, ◌^◌, ◌∷◌, [], FitsSigned, IfOk, OnOk, Some, decimal, true};
 ghost use Rattle.std.specs.Fmt.{signed_decimal};
 ghost use Rattle.std.specs.Int.{w64};
@@ -44,7 +44,7 @@ pub(crate) fn send_text<S: Serializer>(text: &str, out: &mut S) -> Result<(), S:
     out.str(text)
 }
 
-/// An unsigned number that `serde_json` holds, as a number.
+/// An unsigned integer below 2^64, as a JSON number.
 #[inline(never)]
 pub(crate) fn send_narrow_unsigned<S: Serializer>(number: u128, out: &mut S) -> Result<(), S::Error>
     requires { number < 2 ^ 64 }
@@ -53,7 +53,7 @@ pub(crate) fn send_narrow_unsigned<S: Serializer>(number: u128, out: &mut S) -> 
     out.u64(number as u64)
 }
 
-/// A signed number of at most 64 bits, as a number.
+/// A signed integer of at most 64 bits, as a JSON number.
 #[inline(never)]
 pub(crate) fn send_narrow_signed<S: Serializer>(number: i128, out: &mut S) -> Result<(), S::Error>
     requires { FitsSigned w64 number }
@@ -66,7 +66,7 @@ pub(crate) fn send_narrow_signed<S: Serializer>(number: i128, out: &mut S) -> Re
     }
 }
 
-/// An unsigned number as a string of its decimal digits.
+/// An unsigned integer as a string of its decimal digits.
 #[inline(never)]
 pub(crate) fn send_wide_unsigned<S: Serializer>(number: u128, out: &mut S) -> Result<(), S::Error>
     ensures { OnOk result (SendsValue (string (decimal number)) (S.written out.old) (S.written out.new)) }
@@ -75,7 +75,7 @@ pub(crate) fn send_wide_unsigned<S: Serializer>(number: u128, out: &mut S) -> Re
     out.str(digits.format(number))
 }
 
-/// A signed number as a string of its decimal digits, behind a `-` where it is negative.
+/// A signed integer as a string of its decimal digits, with a leading `-` if it is negative.
 #[inline(never)]
 pub(crate) fn send_wide_signed<S: Serializer>(number: i128, out: &mut S) -> Result<(), S::Error>
     ensures { OnOk result (SendsValue (string (signed_decimal number)) (S.written out.old) (S.written out.new)) }
@@ -84,8 +84,8 @@ pub(crate) fn send_wide_signed<S: Serializer>(number: i128, out: &mut S) -> Resu
     out.str(signed_digits.format(number))
 }
 
-/// Bytes as a string of two lower-case hexadecimal digits each. Want of memory is told by `custom`, the one maker of a
-/// serializer's errors.
+/// Bytes as a string of two lower-case hexadecimal digits each. A failed allocation is reported by `custom`, the only
+/// way to make an error of the serializer.
 #[inline(never)]
 pub(crate) fn send_bytes<S: Serializer>(
     alloc: Global,
@@ -100,7 +100,7 @@ pub(crate) fn send_bytes<S: Serializer>(
     }
 }
 
-/// A list of whole numbers that are bytes, as a string of two digits each.
+/// A list of bytes as a string of two hexadecimal digits each.
 #[inline(never)]
 pub(crate) fn send_byte_list<S: Serializer>(
     alloc: Global,
@@ -140,7 +140,7 @@ fn byte_of(item: &Value) -> u8
     }
 }
 
-/// The beginning of a sequence of so many elements.
+/// The beginning of a sequence of `length` elements.
 #[inline(never)]
 pub(crate) fn open_seq<S: Serializer>(length: usize, out: &mut S) -> Result<(), S::Error>
     ensures { OnOk result (Logs (S.written out.old) (S.written out.new) (seq_begins (Some length))) }
@@ -156,7 +156,7 @@ pub(crate) fn close_seq<S: Serializer>(out: &mut S) -> Result<(), S::Error>
     out.end_seq()
 }
 
-/// The beginning of a map of so many members.
+/// The beginning of a map of `length` members.
 #[inline(never)]
 pub(crate) fn open_map<S: Serializer>(length: usize, out: &mut S) -> Result<(), S::Error>
     ensures { OnOk result (Logs (S.written out.old) (S.written out.new) (map_begins (Some length))) }
@@ -164,7 +164,7 @@ pub(crate) fn open_map<S: Serializer>(length: usize, out: &mut S) -> Result<(), 
     out.begin_map(Some(length))
 }
 
-/// The name of a member, whose value has to follow.
+/// The name of a member. Its value must follow.
 #[inline(never)]
 pub(crate) fn send_name<S: Serializer>(name: &str, out: &mut S) -> Result<(), S::Error>
     ensures { OnOk result (Logs (S.written out.old) (S.written out.new) (field_key name.now AsIs)) }

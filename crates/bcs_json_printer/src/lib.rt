@@ -1,4 +1,4 @@
-//! The JSON of values as text, and how deep it nests, each a walk over a value.
+//! Prints values as JSON, and checks how deep that JSON nests, each by recursion over the value.
 #![tactic(auto)]
 
 mod field_order;

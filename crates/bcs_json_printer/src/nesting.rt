@@ -1,4 +1,4 @@
-//! How deep the JSON nests that is shown of a value, without making it.
+//! How deep the JSON of a value nests, without building it.
 ghost use Rattle.std.specs.Prelude.{◌≡◌, ◌||◌, Some, true, map, nat_le, string_bytes};
 ghost use Rattle.std.specs.List.{list_all};
 ghost use Rattle.serde_json.specs.Data.{array, depth, items_depth, members_depth};
@@ -12,8 +12,8 @@ ghost use Rattle.bcs_json_spec.specs.Shown.{shown, shown_all, shown_choice, show
 use bcs_registry::{Container, Format, Named, Registry, VariantFormat};
 use bcs_value_model::Value;
 
-/// Whether arrays and objects nest at most `limit` deep in the JSON of the value. The walk goes as deep as they may,
-/// and as containers do.
+/// Whether arrays and objects nest at most `limit` deep in the JSON of the value. The recursion is as deep as that
+/// nesting, plus the nesting of containers.
 #[cycle(nesting)]
 pub fn shown_nests_within(registry: &Registry, format: &Format, limit: u32, value: &Value) -> bool
     ensures { result ≡ nat_le (depth (shown registry.now (tree_of value.now) (of (shape_of format.now)))) limit }
@@ -53,7 +53,7 @@ pub fn shown_nests_within(registry: &Registry, format: &Format, limit: u32, valu
     }
 }
 
-/// The same of what stands in a container.
+/// Like [`shown_nests_within`], for a container's content.
 #[cycle(nesting)]
 fn content_nests_within(
     registry: &Registry,
@@ -80,7 +80,7 @@ fn content_nests_within(
     }
 }
 
-/// The same of a variant: its name alone doesn't nest, and an object with what it carries does.
+/// The same for a variant. Its name alone doesn't nest, but an object with its payload does.
 #[cycle(nesting)]
 fn variant_nests_within(
     registry: &Registry,
@@ -107,7 +107,7 @@ fn variant_nests_within(
     }
 }
 
-/// The same of a list or an array: bytes are a string.
+/// The same for a list or an array. Bytes are a string.
 #[cycle(nesting)]
 fn list_nests_within(registry: &Registry, element: &Format, limit: u32, items: &[Value]) -> bool
     ensures { result ≡ (is_byte (shape_of element.now)
@@ -119,7 +119,7 @@ fn list_nests_within(registry: &Registry, element: &Format, limit: u32, items: &
     0 < limit && all_nest_within(registry, element, limit - 1, items)
 }
 
-/// Whether each element of one format nests at most `limit` deep.
+/// Whether each element of a list nests at most `limit` deep.
 #[cycle(nesting)]
 fn all_nest_within(registry: &Registry, element: &Format, limit: u32, items: &[Value]) -> bool
     ensures { result ≡ nat_le (items_depth (shown_all registry.now (items_trees items.now) (shape_of element.now))) limit }
@@ -132,7 +132,7 @@ fn all_nest_within(registry: &Registry, element: &Format, limit: u32, items: &[V
     true
 }
 
-/// The same of the elements of a tuple.
+/// The same for the elements of a tuple.
 #[cycle(nesting)]
 fn each_nests_within(registry: &Registry, formats: &[Format], limit: u32, items: &[Value]) -> bool
     ensures { result ≡ nat_le (items_depth (shown_each registry.now (items_trees items.now) (formats_shapes formats.now))) limit }
@@ -148,7 +148,7 @@ fn each_nests_within(registry: &Registry, formats: &[Format], limit: u32, items:
     true
 }
 
-/// The same of the fields of a struct, whose names differ.
+/// The same for the fields of a struct, whose names are distinct.
 #[cycle(nesting)]
 fn fields_nest_within(
     registry: &Registry,
@@ -170,7 +170,7 @@ fn fields_nest_within(
     true
 }
 
-/// The same of a map's entries, each of which is an array.
+/// The same for the entries of a map, each of which is an array.
 #[cycle(nesting)]
 fn pairs_nest_within(
     registry: &Registry,

@@ -1,5 +1,4 @@
-//! A value with its format, as it is printed: a serializer is sent its JSON, front to back, with no JSON made in
-//! between.
+//! Prints a value: sends its JSON to a serializer, from front to back, without building a tree of it.
 ghost use Rattle.std.specs.Prelude.{◌≡◌, IfSome, IsTrue, OnOk, false, is_some, Some, if◌then◌else◌, map, string_bytes};
 ghost use Rattle.hex.specs.Hex.{encode_lower};
 ghost use Rattle.serde_json.specs.Data.{array, null, object, string};
@@ -24,7 +23,7 @@ use bcs_value_model::Value;
 use serde::{Described, Serialize, Serializer};
 use std::alloc::Global;
 
-/// A value of the format, which is sent to a serializer as its JSON.
+/// A value of the format, which serializes as its JSON.
 #[derive(Clone, Copy)]
 pub struct Shown<'a> {
     pub value: &'a Value,
@@ -35,8 +34,7 @@ pub struct Shown<'a> {
 }
 
 impl<'a> Shown<'a> {
-    /// The value as it is shown at the format, to be put into a JSON of your own. `None` exactly if the value isn't one
-    /// of the format.
+    /// The value as JSON, to put into a larger JSON of yours. `None` exactly if the value isn't one of the format.
     pub fn new(
         alloc: Global,
         registry: &'a Registry,
@@ -120,7 +118,7 @@ fn send_value<S: Serializer>(
     }
 }
 
-/// Sends the JSON of what stands in a container.
+/// Sends the JSON of a container's content.
 #[cycle(sending)]
 fn send_content<S: Serializer>(
     alloc: Global,
@@ -148,7 +146,7 @@ fn send_content<S: Serializer>(
     }
 }
 
-/// Sends the JSON of a variant: its name alone, or an object with what it carries.
+/// Sends the JSON of a variant: its name alone, or an object with its payload.
 #[cycle(sending)]
 fn send_variant<S: Serializer>(
     alloc: Global,
@@ -171,7 +169,7 @@ fn send_variant<S: Serializer>(
     close_map(out)
 }
 
-/// Sends the JSON of what a variant carries.
+/// Sends the JSON of a variant's payload.
 #[cycle(sending)]
 fn send_payload<S: Serializer>(
     alloc: Global,
@@ -195,7 +193,7 @@ fn send_payload<S: Serializer>(
     }
 }
 
-/// Sends the JSON of a list or an array: of bytes it is a string.
+/// Sends the JSON of a list or an array. For bytes it is a string.
 #[cycle(sending)]
 fn send_list<S: Serializer>(
     alloc: Global,
@@ -253,7 +251,7 @@ fn send_each<S: Serializer>(
     close_seq(out)
 }
 
-/// Sends the fields of a struct, as an object, in the order of their names' bytes.
+/// Sends the fields of a struct as an object, sorted by the bytes of their names.
 #[cycle(sending)]
 fn send_fields<S: Serializer>(
     alloc: Global,
@@ -275,7 +273,7 @@ fn send_fields<S: Serializer>(
     close_map(out)
 }
 
-/// Sends the entries of a map in their order, as an array of arrays.
+/// Sends the entries of a map in the order given, as an array of arrays.
 #[cycle(sending)]
 fn send_pairs<S: Serializer>(
     alloc: Global,
@@ -298,8 +296,7 @@ fn send_pairs<S: Serializer>(
     close_seq(out)
 }
 
-/// Sends `null`, where that is what is shown of the value. It says so as an equation, by which the arm of
-/// [`send_value`] that has no case of its own is proved.
+/// Sends `null` for a value whose JSON that is. The equation in its contract proves the last arm of [`send_value`].
 fn send_nothing<S: Serializer>(
     registry: &Registry,
     format: &Format,

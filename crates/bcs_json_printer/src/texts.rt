@@ -1,4 +1,4 @@
-//! The compact text of a value's JSON.
+//! The compact JSON document of a value.
 ghost use Rattle.std.specs.Prelude.{◌≤◌, IfOk, string_bytes};
 ghost use Rattle.serde_json.specs.Data.{depth};
 ghost use Rattle.bcs_registry_model.specs.View.{shape_of};
@@ -13,7 +13,7 @@ use bcs_registry::{Format, Registry};
 use bcs_value_model::Value;
 use std::alloc::{AllocError, Global};
 
-/// The text of a value of the format, whose JSON nests within the limit. It is read as that JSON again.
+/// The document of a value of `format` whose JSON nests within the limit. Parsing it returns that JSON.
 pub fn show(
     alloc: Global,
     registry: &Registry,
@@ -32,6 +32,6 @@ pub fn show(
         registry,
         alloc,
     };
-    // No clause of `serde_json` says so, but it fails here for want of memory alone: see the README.
+    // It fails only if an allocation fails. No clause of `serde_json` says so: see the README.
     serde_json::to_string(alloc, &shown).map_err(|_| AllocError)
 }

@@ -1,14 +1,14 @@
--- An enum's variant by its name: first its number, and then what has this number.
+-- A variant by its name: first its number, then the variant with that number.
 use Rattle.bcs_json_reader.proofs.Prelude.{◌≡◌, ◌∙◌, ℕ, List, Option, Some, None, option_map, Bor, map, string_bytes, true, refl, sym, ap, subst, is_at, lookup, option_copied, option_map_or, and_parts, Choice, Payload, Entries, enumeration, container_at, choice_called, choice_numbered, number_called, variant_number, IsOrderly, choice_of, payload_of, Named, VariantFormat, find-choice, nothing, json_content, numbering_at, called_numbered, numbers_differ, numbers_fit, has_numbering, orderly_numbering}
 use Rattle.std.specs.Ordering.{nat_cmp}
 
--- an enum's numbers differ
+-- the variants of an enum have different numbers
 pub differ : (registry : Entries) (name : List ℕ) → IsOrderly registry → (cs : List Choice) → container_at name registry ≡ Some (enumeration cs) → numbers_differ cs ≡ true
 differ registry name orderly cs h =
     (and_parts (numbers_differ cs) (numbers_fit cs)
     (sym (ap (λ p. has_numbering (option_map_or json_content p nothing)) h) ∙ numbering_at name registry (orderly_numbering registry orderly))).0
 
--- the variant of which this is the number
+-- the variant with this number
 numbered : (o : Option Choice) (n : ℕ) → Some n ≡ option_map (λ c. c.0) o → (c : Choice) × (o ≡ Some c) × (c.0 ≡ n)
 numbered None n h = cc
 numbered (Some c) n h = (c, refl, cc)
@@ -24,7 +24,7 @@ module _ (registry : Entries) (orderly : IsOrderly registry) (name word : List �
   number_is : variant_number name word registry ≡ option_map (λ c. c.0) (choice_called word (map choice_of vs))
   number_is = ap (λ o. option_map_or (number_called word) o None) h
 
-  -- what has the number is the variant of this name
+  -- the variant with this number is the one with this name
   pub found_called : (r : Option ℕ) (n : ℕ) (o : Option (Bor (Named VariantFormat))) → r ≡ variant_number name word registry → r ≡ Some n → option_copied o ≡ lookup (is_at (nat_cmp n)) vs
       → option_map (λ v. choice_of (n, v.now)) o ≡ choice_called word (map choice_of vs)
   found_called r n o is some found =

@@ -1,9 +1,9 @@
--- Arrays of exactly so many items.
+-- Arrays of exactly `n` items.
 use Rattle.bcs_json_reader.proofs.Prelude.{◌≡◌, ◌∙◌, ℕ, suc, List, [], ◌∷◌, length, Vec, Global, Bool, Ok, Err, ◌==◌, refl, ap, sym, rules, Decides-eqb, Data, Items, array, items_view, Json, Shape, formats_shapes, Format, Tree, Trees, items, tree_of, items_trees, Value, the_lemmas, JsonFault, BadShape, item_count, shape_count, item_parts, each_parts, array_parts, tuple_parts, Read, follow, read_all, read_array, read_tuple, read_shape, read_each, when_true, when_false}
 use Rattle.bcs_registry_model.specs.Shape as shape
 use Rattle.bcs_value_model.specs.declared.value.Value as value
 
--- as many items as values of JSON
+-- the view has as many items as the list
 count_items : (js : List Json) → item_count (items_view js) ≡ length js
 count_items [] = refl
 count_items (j ∷ js) = ap suc (count_items js)
@@ -21,14 +21,14 @@ count_formats (f ∷ fs) = ap suc (count_formats fs)
 tree_items : (v : Vec Value Global) → tree_of (value.Items v) ≡ items (items_trees v.items)
 tree_items v = search (rules, the_lemmas)
 
--- the values of a row as a value
+-- the values of a list, as a value
 pub items_read : (x : Read Trees) (v : Vec Value Global) → x ≡ Ok (items_trees v.items) → follow x (λ ts. Ok (items ts)) ≡ Ok (tree_of (value.Items v))
 items_read x v h = ap (λ (y : Read Trees). follow y (λ ts. Ok (items ts))) h ∙ ap Ok (sym (tree_items v))
 
 pub items_fault : (x : Read Trees) (e : JsonFault) → x ≡ Err e → follow x (λ ts. Ok (items ts)) ≡ Err e
 items_fault x e h = ap (λ (y : Read Trees). follow y (λ ts. Ok (items ts))) h
 
--- a tuple of as many items as formats
+-- a tuple, if there are as many items as formats
 module _ (named : List ℕ → Data → Read Tree) (fs : List Format) (j : Data) where
   pub tuple_refused : (n : ℕ) (e : JsonFault) → n ≡ length fs → ((r : Items → Read Trees) → read_tuple n r j ≡ Err e) → read_shape named (shape.tuple (formats_shapes fs)) j ≡ Err e
   tuple_refused n e same h = ap (λ m. read_tuple m (read_each named (formats_shapes fs)) j) (count_formats fs ∙ sym same) ∙ h (read_each named (formats_shapes fs))
@@ -43,7 +43,7 @@ module _ (named : List ℕ → Data → Read Tree) (fs : List Format) (j : Data)
         ∙ when_true (item_count (items_view v.items) == shape_count (formats_shapes fs)) row (Err BadShape) (Decides-eqb (item_count (items_view v.items)) (shape_count (formats_shapes fs)))
         (count_items v.items ∙ same ∙ sym (count_formats fs))
 
--- an array of so many elements, or of another number
+-- an array, with `n` items or with another number
 module _ (bytes : Bool) (n : ℕ) (r : Data → Read Tree) (j : Data) (v : Vec Json Global) (is : j ≡ array (items_view v.items)) where
   abbrev elements : Read Tree
   elements = follow (read_all r (items_view v.items)) (λ ts. Ok (items ts))
@@ -59,7 +59,7 @@ module _ (bytes : Bool) (n : ℕ) (r : Data → Read Tree) (j : Data) (v : Vec J
       ap (read_array bytes n r) is
       ∙ when_true (item_count (items_view v.items) == n) elements (Err BadShape) (Decides-eqb (item_count (items_view v.items)) n) (count_items v.items ∙ same)
 
--- the parts of an array of so many elements, or of another number
+-- the parts of an array, with `n` items or with another number
 module _ (left : ℕ) (s : Shape) (n : ℕ) (j : Data) (v : Vec Json Global) (is : j ≡ array (items_view v.items)) where
   pub array_other_none : (length v.items ≡ n → ⊥) → array_parts left s n j ≡ []
   array_other_none other =
@@ -72,7 +72,7 @@ module _ (left : ℕ) (s : Shape) (n : ℕ) (j : Data) (v : Vec Json Global) (is
       ap (array_parts left s n) is
       ∙ when_true (item_count (items_view v.items) == n) (item_parts left s 0 (items_view v.items)) [] (Decides-eqb (item_count (items_view v.items)) n) (count_items v.items ∙ same)
 
--- and of a tuple
+-- the parts of a tuple
 pub tuple_items : (left : ℕ) (fs : List Format) (j : Data) (v : Vec Json Global) → j ≡ array (items_view v.items) → length v.items ≡ length fs
     → tuple_parts left (formats_shapes fs) j ≡ each_parts left (formats_shapes fs) 0 (items_view v.items)
 tuple_items left fs j v is same =

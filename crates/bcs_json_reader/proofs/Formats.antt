@@ -1,7 +1,7 @@
--- Formats with formats inside, and how many levels these have.
+-- Formats that contain formats, and how many levels these have.
 use Rattle.bcs_json_reader.proofs.Prelude.{◌≡◌, ℕ, zero, suc, ◌≤◌, List, [], ◌∷◌, map, drop, Result, ap, sym, subst, arith, field_shapes, shape_of, formats_shapes, field_of, levels, shapes_levels, Format, Named, JsonFault, Read, Reports}
 
--- what tells one reading tells an equal one
+-- replaces a reading by an equal one
 pub reports_as : {X A : Type 0} (v : X → A) (r : Result X JsonFault) (x y : Read A) → x ≡ y → Reports v r y → Reports v r x
 reports_as v r x y h t = subst (Reports v r) (sym h) t
 

@@ -1,10 +1,10 @@
--- A container that was looked up: what stands in it, and how many levels that has.
+-- A container that was found: its contents, and how many levels they have.
 use Rattle.bcs_json_reader.proofs.Prelude.{◌≡◌, ◌∙◌, ℕ, suc, ◌≤◌, List, Some, ap, option_map_or, Shape, Shapes, tuple_shape, Field, Choice, Container, newtype_struct, tuple_struct, field_struct, enumeration, Entries, container_at, content, content_at, field_shapes, payload_shape, choice_called, IsOrderly, container_of, IsWellFormed, levels, shapes_levels, content_at-inside, choice_at-inside, called_numbered}
 use Rattle.bcs_registry_model.specs.Container as container
 use Rattle.bcs_registry_model.specs.declared.container.Container as declared
 use Rattle.bcs_json_reader.proofs.Called.{differ}
 
--- what was found is this container
+-- the container that was found
 pub container_found : (registry : Entries) (name : List ℕ) (c k : declared.Container) → container_at name registry ≡ Some (container_of c) → c ≡ k
     → container_at name registry ≡ Some (container_of k)
 container_found registry name c k found is = found ∙ ap (λ k. Some (container_of k)) is
@@ -22,7 +22,7 @@ module _ (registry : Entries) (good : IsWellFormed registry) (name : List ℕ) w
   pub struct_levels : (fs : List Field) → container_at name registry ≡ Some (field_struct fs) → suc (shapes_levels (field_shapes fs)) ≤ 33
   struct_levels fs h = (content_at-inside registry good name (tuple_shape (field_shapes fs)) (content_found (field_struct fs) h)).1
 
-  -- what stands in a variant that was found by its name
+  -- the contents of a variant that was found by its name
   module _ (orderly : IsOrderly registry) (cs : List Choice) (h : container_at name registry ≡ Some (enumeration cs)) where
     pub variant_levels : (word : List ℕ) (c : Choice) → choice_called word cs ≡ Some c → levels (payload_shape c.1.1) ≤ 33
     variant_levels word c called =

@@ -1,4 +1,4 @@
--- Ways with a step more, and turned round.
+-- Locations with one more step, and in reverse order.
 use Rattle.bcs_json_reader.proofs.Prelude.{◌≡◌, ◌∙◌, List, [], ◌∷◌, ◌++◌, map, reverse, refl, ap, sym, reverse-append, map-append, pointer_step_of, JsonStep}
 
 pub steps_more : (inner : List JsonStep) (s : JsonStep) → reverse (map pointer_step_of (inner ++ s ∷ [])) ≡ pointer_step_of s ∷ reverse (map pointer_step_of inner)

@@ -1,9 +1,9 @@
--- JSON that is refused for its own kind has no parts.
+-- JSON of the wrong kind has no parts.
 use Rattle.bcs_json_reader.proofs.Prelude.{◌≡◌, ◌∙◌, ℕ, List, [], ◌∷◌, codes, Bool, true, false, cond, Some, None, Ok, Err, ◌==◌, if◌then◌else◌, bytes_eq, refl, ap, bytes_eq-Decides, Data, array, object, Items, no_items, item, Members, no_members, member, Shape, Shapes, Field, newtype, Choice, choice_called, Tree, Trees, no_trees, item_count, shape_count, JsonPart, option_parts, seq_parts, map_parts, tuple_parts, array_parts, struct_parts, enum_parts, pair_parts, Read, follow, read_all, read_choice, read_enum, read_option, read_pair, read_seq, read_tuple, JsonFault, not_both, BadShape}
 use Rattle.bcs_registry_model.specs.Shape as shape
 use Rattle.bcs_value_model.specs.Tree as tree
 
--- a reader that takes anything
+-- a reader that accepts anything
 abbrev takes : Data → Read Tree
 takes d = Ok tree.unit
 
@@ -53,7 +53,7 @@ module _ (left : ℕ) where
   struct_none fs (object ms) other = absurd (other ms refl)
   struct_none fs _ other = refl
 
-  -- the variant that this name would have
+  -- a variant with this name
   abbrev named_so : List ℕ → List Choice
   named_so word = (0, (word, newtype (shape.name []))) ∷ []
 

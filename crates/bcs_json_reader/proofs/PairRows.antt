@@ -1,4 +1,4 @@
--- The entries of a map: those that were read so far, before those that are still to be read.
+-- The entries of a map: those read so far, followed by those that are left.
 use Rattle.bcs_json_reader.proofs.Prelude.{◌≡◌, ◌∙◌, ◌++◌, List, [], ◌∷◌, Ok, Err, refl, ap, sym, Data, view, items_view, Json, Tree, Pairs, no_pairs, pair, tree_of, entries_pairs, Value, Read, follow, read_pair, read_pairs}
 
 abbrev pub joined_pairs : List (Value × Value) → Pairs → Pairs
@@ -20,7 +20,7 @@ step es e (Err f) = refl
 
 -- ---- an entry
 
--- ---- entries in a row
+-- ---- consecutive entries
 
 module _ (k v : Data → Read Tree) (js : List Json) (es : List (Value × Value)) where
   abbrev pairs_from : List Json → Read Pairs
@@ -34,6 +34,6 @@ module _ (k v : Data → Read Tree) (js : List Json) (es : List (Value × Value)
       → pairs_from js ≡ follow (read_pairs k v (items_view left)) (λ ps. Ok (joined_pairs (es ++ x ∷ []) ps))
   pair_more left j x h r = ap pairs_from h ∙ ap (after left) r ∙ step es x (read_pairs k v (items_view left))
 
-  -- or there is none
+  -- or no entry is left
   pub pairs_done : js ≡ [] → pairs_from js ≡ Ok (entries_pairs es)
   pairs_done h = ap pairs_from h ∙ ap Ok (joined_pairs-none es)

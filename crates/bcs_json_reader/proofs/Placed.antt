@@ -1,7 +1,7 @@
--- Ways to where JSON is refused, part by part.
+-- The location of a refusal, part by part.
 use Rattle.bcs_json_reader.proofs.Prelude.{◌≡◌, ◌≢◌, ◌∙◌, List, [], ◌∷◌, Option, Some, None, Result, Ok, Err, IfSome, All, option_map, refl, ap, sym, subst, result_err, All-nil, Entries, PointerStep, JsonPart, parts, IsGood, IsPlaceAmong, Read, Reports, JsonFault, OutOfMemory, fault_at, good_of, none_of, place-here, place-later, steps, fault_alone, location_of, IsPlaced, Refusal, Here}
 
--- what was told stays so, seen from outside
+-- what was read is the same without the location
 pub told_ok : {X A : Type 0} (see : X → A) (inner : Result X Refusal) (read : Read A) (v : X) → Ok v ≡ fault_alone inner → Reports see (fault_alone inner) read → read ≡ Ok (see v)
 told_ok see inner read v same h = subst (λ y. Reports see y read) (sym same) h
 
@@ -18,11 +18,11 @@ err_is : {X : Type 0} (e g : JsonFault) (r : Result X JsonFault) → r ≡ Err e
 err_is e g r h k = cc
 
 module _ (registry : Entries) where
-  -- a known way leads to the place among these parts
+  -- the location, if known, is the place among these parts
   abbrev pub IsWay : List JsonPart → Refusal → Type 0
   IsWay ps r = r.fault ≢ OutOfMemory → IfSome (steps r.location) (λ path. IsPlaceAmong registry path ps)
 
-  -- JSON that is refused for its own kind, or once all of its parts are read
+  -- JSON that is refused itself, after all of its parts were read or because it has none
   pub placed_own : (ps : List JsonPart) (r : Refusal) → r.location ≡ Here → All (IsGood registry) ps → IsWay ps r
   placed_own ps r here good other = subst (λ w. IfSome (steps w) (λ path. IsPlaceAmong registry path ps)) (sym here) good
 
@@ -35,7 +35,7 @@ module _ (registry : Entries) where
   pub placed_as : {X : Type 0} (ps qs : List JsonPart) (r : Result X Refusal) → ps ≡ qs → IsPlaced registry qs r → IsPlaced registry ps r
   placed_as ps qs r same h = subst (λ os. IsPlaced registry os r) (sym same) h
 
-  -- from some parts to others
+  -- from one list of parts to another
   pub placed_on : (ps qs : List JsonPart) (r : Refusal) → ((path : List PointerStep) → IsPlaceAmong registry path ps → IsPlaceAmong registry path qs)
       → IsWay ps r → IsWay qs r
   placed_on ps qs r on h other = step (steps r.location) (h other)

@@ -1,15 +1,15 @@
--- Ways to where a part of a row is refused: those before it are read.
+-- The location of a refused part: the parts before it were read.
 use Rattle.bcs_json_reader.proofs.Prelude.{◌≡◌, ◌∙◌, ◌++◌, ℕ, suc, List, [], ◌∷◌, codes, length, Some, None, Result, Ok, Err, IfSome, option_map, map, string_bytes, refl, ap, sym, subst, arith, length-append, option_map_or, result_err, Data, Members, array, object, no_items, no_members, get_member, view, items_view, Json, Entries, Payload, Choice, choice_called, Shape, shape_of, formats_shapes, field_of, Format, Named, Tree, of, payload_content, without, PointerStep, JsonPart, part, parts, entry, item_parts, each_parts, entry_parts, field_parts, option_parts, enum_parts, pair_parts, IsPlaceAmong, fault_at, Read, Reports, read_content, read_data, read_named, read_pair, read_part, steps, fault_alone, location_of, IsPlaced, Refusal}
 use Rattle.serde_json.specs.Data as json
 use Rattle.bcs_registry_model.specs.Container as container
 use Rattle.bcs_json_spec.specs.Place.{item, member}
 use Rattle.bcs_json_reader.proofs.Placed.{IsWay, placed_here, placed_on, read_later}
 
--- what was found, with one more
+-- the list found so far, with one more value
 pub found_more : {V : Type 0} (vs ws : List V) (v : V) → ws ≡ vs ++ v ∷ [] → length ws ≡ suc (length vs)
 found_more vs ws v h = let e : length ws ≡ length (vs ++ v ∷ []) = ap length h in let long = length-append vs (v ∷ []) in omega (arith, e, long)
 
--- the refusal of what was read inside, seen from outside
+-- `r` is the refusal of what was read inside, with the step `s` in front of its location
 pub record IsOutside {X : Type 0} (s : PointerStep) (inner : Result X Refusal) (r : Refusal) : Type 0 where
   pub same : Err r.fault ≡ fault_alone inner
   pub location : IfSome (steps r.location) (λ path. option_map (λ tail. s ∷ tail) (location_of inner) ≡ Some path)
@@ -21,7 +21,7 @@ pub outside_named : {X : Type 0} (a b : List ℕ) (inner : Result X Refusal) (r 
 outside_named a b inner r same h = subst (λ name. IsOutside (member name) inner r) same h
 
 module _ (registry : Entries) (left : ℕ) where
-  -- what was read of JSON
+  -- what was read from the JSON of a part
   pub record IsReadOf {X A : Type 0} (see : X → A) (p : JsonPart) (read : Read A) (inner : Result X Refusal) : Type 0 where
     pub reports : Reports see (fault_alone inner) read
     pub placed : IsPlaced registry (parts registry p.left p.target p.json) inner
@@ -45,7 +45,7 @@ module _ (registry : Entries) (left : ℕ) where
   payload_same (container.tuple ss) j = refl
   payload_same (container.fields fs) j = refl
 
-  -- what a variant carries
+  -- the payload of a variant
   pub payload_placed : {X : Type 0} (cs : List Choice) (word : List ℕ) (c : Choice) (j d : Data) → j ≡ object (json.member word d no_members) → choice_called word cs ≡ Some c
       → (see : X → Tree) (inner : Result X Refusal) (r : Refusal) → IsReadOf see (part left (member word) (payload_content c.1.1) d) (read_part (read_named registry left) (payload_content c.1.1) d) inner
       → IsOutside (member word) inner r → IsWay registry (enum_parts left cs j) r
@@ -73,7 +73,7 @@ module _ (registry : Entries) (left : ℕ) where
         (read_later registry the_item (item_parts left s (suc n) (items_view rest)) (read_data registry left (of s) (view j)) t refl h path
         (subst (λ k. IsPlaceAmong registry path (item_parts left s k (items_view rest))) more g))
 
-  -- ---- an item of each format
+  -- ---- one item of each format
 
   module _ (n : ℕ) (fs gs : List Format) (f : Format) (first : fs ≡ f ∷ gs) (js rest : List Json) (j : Json) (is : js ≡ j ∷ rest) where
     abbrev each_item : JsonPart
@@ -125,7 +125,7 @@ module _ (registry : Entries) (left : ℕ) where
           (read_later registry the_entry (entry_parts left k v (suc n) (items_view rest)) (reads_entry (view j)) t refl h path
           (subst (λ i. IsPlaceAmong registry path (entry_parts left k v i (items_view rest))) more g))
 
-    -- the key and the value of one
+    -- the key and the value of an entry
     module _ (j a b : Data) (two : j ≡ array (json.item a (json.item b no_items))) where
       pub key_placed : {X : Type 0} (see : X → Tree) (inner : Result X Refusal) (r : Refusal) → IsReadOf see (part left (item 0) (of k) a) (read_data registry left (of k) a) inner → IsOutside (item 0) inner r
           → IsWay registry (pair_parts left k v j) r

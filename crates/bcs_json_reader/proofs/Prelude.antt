@@ -1,4 +1,4 @@
--- What the proofs use of other crates, and of this crate's definitions.
+-- Names from other crates and from this crate's definitions that the proofs share.
 pub use Rattle.std.proofs.Common.{[], All, ap, arith, Bool, Bor, bytes_eq, codes, cond, drop, Err, false, get_or, Global, IfErr, IfOk, IfSome, if◌then◌else◌, is_eq, length, length-append, List, map, max, nat_cmp, negsuc, None, Ok, Option, option_map, pos, refl, Result, reverse, rules, Some, String, string_bytes, subst, suc, sym, true, true≢false, Vec, zero, ℕ, ℤ, ◌*◌, ◌++◌, ◌+◌, ◌==◌, ◌^◌, ◌∙◌, ◌∷◌, ◌≡◌, ◌≢◌, ◌≤◌}
 pub use Rattle.std.proofs.lemmas.Bool.{and_parts}
 pub use Rattle.std.proofs.lemmas.Bool.Decides.{Decides-eqb, Decides-ltb}

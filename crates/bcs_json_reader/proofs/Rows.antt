@@ -1,7 +1,7 @@
--- A row of values: what was read so far, before what is still to be read.
+-- Lists of values: those read so far, followed by those that are left.
 use Rattle.bcs_json_reader.proofs.Prelude.{◌≡◌, ◌∙◌, ◌++◌, ℕ, suc, List, [], ◌∷◌, length, Ok, Err, refl, ap, sym, Data, view, items_view, Json, shape_of, formats_shapes, Format, Tree, Trees, no_trees, tree, unsigned, count, tree_of, items_trees, Value, byte_trees, JsonFault, Read, follow, read_all, read_shape, read_each}
 
--- what was read, and then these
+-- appends trees to the trees of values
 abbrev pub joined : List Value → Trees → Trees
 joined [] ts = ts
 joined (v ∷ vs) ts = tree (tree_of v) (joined vs ts)
@@ -28,12 +28,12 @@ step : (vs : List Value) (v : Value) (rest : Read Trees) → follow (follow rest
 step vs v (Ok ts) = ap Ok (sym (joined-more vs v ts))
 step vs v (Err e) = refl
 
--- the row from here on, with its first part read
+-- the first of the remaining values is read
 pub row_more : (vs : List Value) (v : Value) (x : Read Tree) (rest : Read Trees) → x ≡ Ok (tree_of v)
     → follow (follow x (λ t. follow rest (λ ts. Ok (tree t ts)))) (λ ts. Ok (joined vs ts)) ≡ follow rest (λ ts. Ok (joined (vs ++ v ∷ []) ts))
 row_more vs v x rest h = ap (λ (y : Read Tree). follow (follow y (λ t. follow rest (λ ts. Ok (tree t ts)))) (λ ts. Ok (joined vs ts))) h ∙ step vs v rest
 
--- or with its first part refused
+-- or refused
 pub row_fault : (vs : List Value) (x : Read Tree) (rest : Read Trees) (e : JsonFault) → x ≡ Err e
     → follow (follow x (λ t. follow rest (λ ts. Ok (tree t ts)))) (λ ts. Ok (joined vs ts)) ≡ Err e
 row_fault vs x rest e h = ap (λ (y : Read Tree). follow (follow y (λ t. follow rest (λ ts. Ok (tree t ts)))) (λ ts. Ok (joined vs ts))) h
@@ -53,11 +53,11 @@ module _ (r : Data → Read Tree) (js : List Json) (vs : List Value) where
   pub item_fault : (left : List Json) (j : Json) (e : JsonFault) → js ≡ j ∷ left → r (view j) ≡ Err e → items_from js ≡ Err e
   item_fault left j e h f = ap items_from h ∙ row_fault vs (r (view j)) (read_all r (items_view left)) e f
 
-  -- or there is none
+  -- or no item is left
   pub items_done : js ≡ [] → items_from js ≡ Ok (items_trees vs)
   items_done h = ap items_from h ∙ ap Ok (joined-none vs)
 
--- ---- an item of each format
+-- ---- one item of each format
 
 module _ (named : List ℕ → Data → Read Tree) (fs : List Format) (js : List Json) (vs : List Value) where
   abbrev each_from : List Format → List Json → Read Trees

@@ -1,4 +1,4 @@
--- An object's members, and what is left of them; and an array that is no pair.
+-- The members of an object, and those that are left; and arrays that aren't pairs.
 use Rattle.bcs_json_reader.proofs.Prelude.{◌≡◌, ◌∙◌, ℕ, List, [], ◌∷◌, String, Global, Bool, true, false, cond, option_map, string_bytes, nat_cmp, is_eq, Result, Ok, Err, IfOk, IfErr, refl, ap, sym, is_eq-slice_cmp, is_at, slice_cmp, lookup, remove_entry, Data, Members, member, no_members, Items, no_items, item, array, get_member, view, members_view, view-lookup, Tree, JsonFault, BadShape, without, Read, read_pair}
 use Rattle.serde_json.specs.declared.value.Value.{Value}
 
@@ -18,14 +18,14 @@ pub found_member : (name : List ℕ) (es : List (String Global × Value))
     → option_map view (lookup (is_at (λ k. slice_cmp nat_cmp name (string_bytes k))) es) ≡ get_member name (members_view es)
 found_member = view-lookup
 
--- an array of another number of items is no entry of a map
+-- an array that hasn't exactly two items isn't a map entry
 pub not_two : (ds : Items) → ((a b : Data) → ds ≡ item a (item b no_items) → ⊥) → (k v : Data → Read Tree) → read_pair k v (array ds) ≡ Err BadShape
 not_two no_items other k v = refl
 not_two (item a no_items) other k v = refl
 not_two (item a (item b no_items)) other k v = absurd (other a b refl)
 not_two (item a (item b (item c ds))) other k v = refl
 
--- two items of an array are an entry of a map
+-- an array of two items is a map entry
 pub entry_of : (d : Data) (ds : Items) → d ≡ array ds → (r : Result (Value × Value) JsonFault)
     → IfOk r (λ p. ds ≡ item (view p.0) (item (view p.1) no_items)) → IfOk r (λ p. d ≡ array (item (view p.0) (item (view p.1) no_items)))
 entry_of d ds is (Ok p) h = is ∙ ap array h

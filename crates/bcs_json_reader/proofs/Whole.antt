@@ -1,4 +1,4 @@
--- From what JSON spells, and from nothing that it spells, to what is read of a whole number.
+-- From the integer that JSON spells, or from its absence, to what is read.
 use Rattle.bcs_json_reader.proofs.Prelude.{◌≡◌, ℕ, ℤ, pos, negsuc, [], ◌^◌, Ok, Err, Bool, true, false, refl, arith, rules, Decides-ltb, Width, w128, bits, Data, number, string, IsUnsigned, IsSigned, half_most, holds_signed-is, is-holds_signed, unsigned, signed, tree_of, the_lemmas, SpellsWhole, is_unsigned_of, is_signed_of, whole_refusal, read_unsigned, read_signed, BadNumber, exact_unsigned, exact_signed}
 use Rattle.bcs_value_model.specs.declared.value.Value as value
 
@@ -37,7 +37,7 @@ tree_unsigned n = search (rules, the_lemmas)
 pub tree_signed : (z : ℤ) → tree_of (value.Signed z) ≡ signed z
 tree_signed z = search (rules, the_lemmas)
 
--- a number of a width is one of 128 bits
+-- an integer of any width fits into 128 bits
 pub widen : (w : Width) (z : ℤ) → IsSigned w z → IsSigned w128 z
 widen w (pos n) h = record { sfits = omega (arith, h.sfits, half_most w) }
 widen w (negsuc n) h = record { sfits = omega (arith, h.sfits, half_most w) }

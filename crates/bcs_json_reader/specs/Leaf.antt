@@ -1,4 +1,4 @@
--- What is read at a format that has no parts.
+-- Reading values without parts.
 use Rattle.std.specs.Prelude.{Err}
 use Rattle.serde_json.specs.Data.{Data}
 use Rattle.bcs_registry_model.specs.Shape as shape
@@ -7,7 +7,7 @@ use Rattle.bcs_value_model.specs.Tree.{Tree}
 use Rattle.bcs_json_spec.specs.Reading.{Read, read_unit, read_truth, read_unsigned, read_signed, read_text, read_bytes}
 use Rattle.bcs_json_spec.specs.declared.json_fault.JsonFault.TheVariants.{Unsupported}
 
--- a format that has parts is read elsewhere
+-- formats with parts are read elsewhere
 abbrev pub read_leaf : Shape → Data → Read Tree
 read_leaf shape.unit = read_unit
 read_leaf shape.truth = read_truth

@@ -1,4 +1,4 @@
-//! Arrays, taken apart, so that their items are moved and not copied.
+//! Takes arrays apart. Their items are moved, not copied.
 ghost use Rattle.std.specs.Prelude.{◌≡◌, ◌≢◌, length, IfOk, IfErr, OnOk, OnErr, Err, ℕ, Bool};
 ghost use Rattle.serde_json.specs.Data.{Data, Items, item, no_items, array};
 ghost use Rattle.serde_json.specs.View.{view, items_view};
@@ -11,7 +11,7 @@ ghost use Rattle.bcs_json_spec.specs.Reading as spec;
 use bcs_json_spec::JsonFault;
 use serde_json::Value as Json;
 
-/// The items of an array.
+/// The items of an array. `BadShape`: it isn't an array.
 pub fn array_of(json: Json) -> Result<Vec<Json>, JsonFault>
     ensures ok { IfOk result (λ v. view json ≡ array (items_view v.items)) }
     ensures other { IfErr result (λ _. (ds : Items) → view json ≢ array ds) }
@@ -23,7 +23,7 @@ pub fn array_of(json: Json) -> Result<Vec<Json>, JsonFault>
     }
 }
 
-/// The items of an array of exactly so many.
+/// The items of an array of exactly `count`. `BadShape`: it isn't one.
 pub fn array_of_exactly(json: Json, count: u64) -> Result<Vec<Json>, JsonFault>
     ensures ok { IfOk result (λ v. view json ≡ array (items_view v.items)) }
     ensures count { IfOk result (λ v. length v.items ≡ count) }
@@ -34,7 +34,7 @@ pub fn array_of_exactly(json: Json, count: u64) -> Result<Vec<Json>, JsonFault>
     Ok(items)
 }
 
-/// Sees that there are so many. Another number is refused as a `BadShape`.
+/// Checks a number of items. `BadShape`: it isn't the expected one.
 pub fn exactly(found: usize, expected: u64) -> Result<(), JsonFault>
     ensures ok { OnOk result (found ≡ expected) }
     ensures other { OnErr result (found ≢ expected) }
@@ -47,7 +47,7 @@ pub fn exactly(found: usize, expected: u64) -> Result<(), JsonFault>
     }
 }
 
-/// The key and the value of a map's entry: the items of an array of exactly two.
+/// The key and the value of a map entry, which is an array of exactly two items. `BadShape`: it isn't one.
 pub fn pair_of(entry: Json) -> Result<(Json, Json), JsonFault>
     ensures ok { IfOk result (λ p. view entry ≡ array (item (view p.0) (item (view p.1) no_items))) }
     ensures fault { IfErr result (λ e. (k : Data → Read Tree) (v : Data → Read Tree) → spec.read_pair k v (view entry) ≡ Err e) }
@@ -55,7 +55,7 @@ pub fn pair_of(entry: Json) -> Result<(Json, Json), JsonFault>
     two_items(array_of(entry)?)
 }
 
-// The items, where they are exactly two. Another number is refused as a `BadShape`.
+// The items, if there are exactly two.
 fn two_items(items: Vec<Json>) -> Result<(Json, Json), JsonFault>
     ensures ok { IfOk result (λ p. items_view items.items ≡ item (view p.0) (item (view p.1) no_items)) }
     ensures other { IfErr result (λ _. (a : Data) (b : Data) → items_view items.items ≢ item a (item b no_items)) }
@@ -71,14 +71,14 @@ fn two_items(items: Vec<Json>) -> Result<(Json, Json), JsonFault>
     }
 }
 
-/// JSON where a list or an array stands: the array of its elements, or text.
+/// The JSON of a list: an array of its elements, or a string.
 #[derive(Drop)]
 pub enum ListJson {
     Array(Vec<Json>),
     Text(String),
 }
 
-/// An array, or text. `BadShape`: another kind of JSON.
+/// Takes an array or a string. `BadShape`: it is neither.
 pub fn list_of(json: Json) -> Result<ListJson, JsonFault>
     ensures ok { IfOk result (λ list. view json ≡ list_json list) }
     ensures fault { IfErr result (λ e. (bytes : Bool) (r : Data → Read Tree) → spec.read_seq bytes r (view json) ≡ Err e) }

@@ -1,4 +1,4 @@
-//! What stands in containers.
+//! Reads the contents of containers.
 ghost use Rattle.std.specs.Prelude.{◌≡◌, Some, map};
 ghost use Rattle.serde_json.specs.View.{view};
 ghost use Rattle.bcs_registry_model.specs.Container.{container_at, enumeration};
@@ -24,7 +24,7 @@ use serde_json::Value as Json;
 use std::alloc::Global;
 use std::collections::BTreeMap;
 
-/// The container of this name.
+/// Reads a value of the container `name`.
 #[cycle(reading)]
 pub(crate) fn read_named(
     alloc: Global,
@@ -41,7 +41,7 @@ pub(crate) fn read_named(
     Ok(Value::Named(Box::new(alloc, value)?))
 }
 
-/// What stands in the container of this name.
+/// Reads the contents of the container `name`.
 #[cycle(reading)]
 fn read_content(
     alloc: Global,
@@ -62,7 +62,7 @@ fn read_content(
     }
 }
 
-/// An object of exactly the fields.
+/// Reads an object with exactly one member for each field.
 #[cycle(reading)]
 fn read_struct(
     alloc: Global,
@@ -78,7 +78,7 @@ fn read_struct(
     Ok(Value::Items(read_fields(alloc, registry, fields, left, members)?))
 }
 
-/// A unit variant's name, or an object with one member, the variant's name with its payload.
+/// Reads an enum: the name of a unit variant, or an object whose only member is the variant's name with its payload.
 #[cycle(reading)]
 fn read_enum(
     alloc: Global,
@@ -105,7 +105,7 @@ fn read_enum(
     }
 }
 
-/// What a variant carries.
+/// Reads the payload of a variant.
 #[cycle(reading)]
 fn read_payload(
     alloc: Global,

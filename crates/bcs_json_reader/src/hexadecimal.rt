@@ -1,4 +1,4 @@
-//! Bytes by hexadecimal digits. Each call takes its text and lets go of it.
+//! Reads bytes from hexadecimal digits. Each function consumes its JSON, and drops it.
 ghost use Rattle.std.specs.Prelude.{◌≡◌, IfOk, IfErr, string_bytes};
 ghost use Rattle.serde_json.specs.View.{view};
 ghost use Rattle.bcs_registry_model.specs.View.{shape_of};
@@ -16,7 +16,7 @@ use hex::FromHexError;
 use serde_json::Value as Json;
 use std::alloc::Global;
 
-/// A byte string.
+/// Reads a byte string.
 #[inline(never)]
 pub fn read_bytes(alloc: Global, json: Json) -> Result<Value, JsonFault>
     ensures { Reports tree_of result (spec.read_bytes (view json)) }
@@ -27,7 +27,7 @@ pub fn read_bytes(alloc: Global, json: Json) -> Result<Value, JsonFault>
     }
 }
 
-/// Text where a list stands: of the word `U8` itself it is hexadecimal digits.
+/// Reads a list that is given as a string: hexadecimal digits, only for lists of `U8`.
 #[inline(never)]
 pub fn read_byte_text(
     alloc: Global,
@@ -40,7 +40,7 @@ pub fn read_byte_text(
     numbers(alloc, bytes.as_slice())
 }
 
-/// Text where an array of so many elements stands: of the word `U8` itself it is hexadecimal digits, two for each.
+/// Reads an array that is given as a string: hexadecimal digits for `size` bytes, only for arrays of `U8`.
 #[inline(never)]
 pub fn read_byte_array(
     alloc: Global,
@@ -55,7 +55,7 @@ pub fn read_byte_array(
     numbers(alloc, bytes.as_slice())
 }
 
-// The bytes of the digits, where the elements are bytes.
+// The bytes of the digits, if elements are bytes.
 fn bytes_of(alloc: Global, element: &Format, text: String) -> Result<Vec<u8>, JsonFault>
     ensures { Reports (λ v. byte_trees v.items) result (spec.read_byte_text (is_byte (shape_of element.now)) (string_bytes text)) }
 {
@@ -66,7 +66,7 @@ fn bytes_of(alloc: Global, element: &Format, text: String) -> Result<Vec<u8>, Js
     }
 }
 
-// The bytes of hexadecimal digits.
+// Decodes hexadecimal digits, in either case. `BadHex`: they are invalid.
 #[tactic(auto, unfolding(bcs_json_spec::specs::Reading::read_hex))]
 fn read_hex(alloc: Global, text: &str) -> Result<Vec<u8>, JsonFault>
     ensures { Reports (λ v. v.items) result (spec.read_hex text.now) }
@@ -78,7 +78,7 @@ fn read_hex(alloc: Global, text: &str) -> Result<Vec<u8>, JsonFault>
     }
 }
 
-// Each byte as a whole number.
+// Each byte as an integer value.
 fn numbers(alloc: Global, bytes: &[u8]) -> Result<Vec<Value>, JsonFault>
     ensures ok { IfOk result (λ v. items_trees v.items ≡ byte_trees bytes.now) }
     ensures fault { IfErr result (λ e. e ≡ JsonFault.OutOfMemory) }

@@ -1,4 +1,4 @@
-//! Values that have no parts. Each call takes its JSON, so that text is moved and not copied.
+//! Reads values without parts. Each function consumes its JSON, so strings are moved, not copied.
 ghost use Rattle.std.specs.Prelude.{◌≢◌, IfErr};
 ghost use Rattle.serde_json.specs.View.{view};
 ghost use Rattle.bcs_value_model.specs.View.{tree_of};
@@ -16,7 +16,7 @@ use bcs_value_model::Value;
 use serde_json::Value as Json;
 use std::alloc::Global;
 
-/// `null`.
+/// Reads `null`.
 #[inline(never)]
 pub fn read_unit(json: Json) -> Result<Value, JsonFault>
     ensures reads { Reports tree_of result (spec.read_unit (view json)) }
@@ -28,7 +28,7 @@ pub fn read_unit(json: Json) -> Result<Value, JsonFault>
     }
 }
 
-/// `true` or `false`.
+/// Reads `true` or `false`.
 #[inline(never)]
 pub fn read_truth(json: Json) -> Result<Value, JsonFault>
     ensures reads { Reports tree_of result (spec.read_truth (view json)) }
@@ -40,7 +40,7 @@ pub fn read_truth(json: Json) -> Result<Value, JsonFault>
     }
 }
 
-/// A string, which becomes the value's.
+/// Reads a string, which moves into the value.
 #[inline(never)]
 pub fn read_text(json: Json) -> Result<Value, JsonFault>
     ensures reads { Reports tree_of result (spec.read_text (view json)) }
@@ -52,7 +52,7 @@ pub fn read_text(json: Json) -> Result<Value, JsonFault>
     }
 }
 
-/// A value of a format that has no parts. `Unsupported`: the format has no values, or has parts, and is read elsewhere.
+/// Reads a value without parts. `Unsupported`: the format has no values, or it has parts and is read elsewhere.
 #[inline(never)]
 pub fn read_leaf(alloc: Global, format: &Format, json: Json) -> Result<Value, JsonFault>
     ensures { Reports tree_of result (leaf.read_leaf (shape_of format.now) (view json)) }

@@ -1,4 +1,4 @@
-//! Reading a value's JSON, whose parts are moved and not copied.
+//! Reads a value from parsed JSON, whose parts are moved, not copied.
 #![tactic(auto)]
 
 mod arrays;

@@ -1,4 +1,4 @@
-//! What names stand for: a container of the registry, which may be opened, and a variant of an enum.
+//! Looks up containers and variants, and counts open containers.
 ghost use Rattle.std.specs.Prelude.{◌≡◌, IfOk, IfErr, Some, None, ◌≢◌, OnOk, OnErr, map, option_map, string_bytes, suc};
 ghost use Rattle.bcs_registry_model.specs.Container.{container_at, enumeration, choice_called};
 ghost use Rattle.bcs_registry_model.specs.Ranges.{IsOrderly};
@@ -16,7 +16,7 @@ use bcs_value_model::Value;
 use std::alloc::Global;
 use std::collections::BTreeMap;
 
-/// The container of this name. `BadShape`: the registry has none.
+/// The container `name`. `BadShape`: the registry has none.
 #[inline(never)]
 pub fn container_called<'a>(registry: &'a Registry, name: &str) -> Result<&'a Container, JsonFault>
     ensures ok { IfOk result (λ c. container_at name.now registry.now ≡ Some (container_of c.now)) }
@@ -28,7 +28,7 @@ pub fn container_called<'a>(registry: &'a Registry, name: &str) -> Result<&'a Co
     registry.container(name).ok_or(JsonFault::BadShape)
 }
 
-/// The variant of this name, with its number, in the enum that stands under `name`. `UnknownVariant`: it has none.
+/// The variant `word` of the enum `name`, and its number. `UnknownVariant`: there is none.
 #[inline(never)]
 pub fn variant_called<'a>(
     registry: &Registry,
@@ -45,8 +45,8 @@ pub fn variant_called<'a>(
     find_variant(registry, name, variants, word).ok_or(JsonFault::UnknownVariant)
 }
 
-/// The value of a variant that is named alone, which is a unit variant. `UnknownVariant`: the enum has none of this
-/// name. `BadShape`: it has one that carries something.
+/// The value of a variant that is given by its name alone, which must be a unit variant. `UnknownVariant`: the enum has
+/// no such variant. `BadShape`: the variant has a payload.
 #[inline(never)]
 pub fn read_word(
     alloc: Global,
@@ -64,7 +64,7 @@ pub fn read_word(
     Ok(Value::Variant(number, Box::new(alloc, Value::Unit)?))
 }
 
-// The variant and its number: first the number by the name, then what has this number.
+// Finds the number by the name, and then the variant by the number.
 fn find_variant<'a>(
     registry: &Registry,
     name: &str,
@@ -80,7 +80,7 @@ fn find_variant<'a>(
     Some((number, variant))
 }
 
-// Sees that a variant carries nothing. `BadShape`: it carries something.
+// Checks that a variant has no payload. `BadShape`: it has one.
 fn without_payload(payload: &VariantFormat) -> Result<(), JsonFault>
     ensures ok { OnOk result (payload_of payload.now ≡ container.unit) }
     ensures carries { OnErr result (payload_of payload.now ≢ container.unit) }
@@ -94,7 +94,7 @@ fn without_payload(payload: &VariantFormat) -> Result<(), JsonFault>
     }
 }
 
-/// How many containers may open inside the next one, where so many may open now. `TooDeep`: none may.
+/// How many containers may still open inside a container, if `left` may open including it. `TooDeep`: `left` is 0.
 pub fn open_container(left: u32) -> Result<u32, JsonFault>
     ensures ok { IfOk result (λ inside. left ≡ suc inside) }
     ensures deep { IfErr result (λ _. left ≡ 0) }

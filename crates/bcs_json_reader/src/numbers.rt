@@ -1,4 +1,4 @@
-//! Whole numbers: what a JSON value spells, and a row of them, which is one loop outside of the walk.
+//! Reads integers, and lists of them in one loop outside the recursion.
 ghost use Rattle.std.specs.Prelude.{◌≡◌, ◌≢◌, ℕ, ℤ, pos, Some, None, IfSome, IfOk, IfErr};
 ghost use Rattle.serde_json.specs.Find.{as_integer};
 ghost use Rattle.serde_json.specs.View.{number_view, view, items_view};
@@ -22,7 +22,7 @@ use bcs_value_model::Value;
 use serde_json::{Number, Value as Json};
 use std::alloc::Global;
 
-/// An unsigned number.
+/// Reads an unsigned integer.
 #[inline(never)]
 #[tactic(auto, using(crate::proofs::Whole::unsigned_told, crate::proofs::Whole::unsigned_refused))]
 pub fn read_unsigned(width: Width, json: Json) -> Result<Value, JsonFault>
@@ -32,7 +32,7 @@ pub fn read_unsigned(width: Width, json: Json) -> Result<Value, JsonFault>
     Ok(Value::Unsigned(unsigned_of(width, &json)?))
 }
 
-/// A signed number.
+/// Reads a signed integer.
 #[inline(never)]
 #[tactic(auto, using(crate::proofs::Whole::signed_told, crate::proofs::Whole::signed_refused))]
 pub fn read_signed(width: Width, json: Json) -> Result<Value, JsonFault>
@@ -42,8 +42,7 @@ pub fn read_signed(width: Width, json: Json) -> Result<Value, JsonFault>
     Ok(Value::Signed(signed_of(width, &json)?))
 }
 
-/// The items in order, each a whole number of the format. No container opens in a number, so what is read is the same
-/// at any registry.
+/// Reads a list of integers. An integer opens no container, so the result is the same for every registry.
 #[inline(never)]
 pub(crate) fn read_numbers(
     alloc: Global,
@@ -63,7 +62,7 @@ pub(crate) fn read_numbers(
     Ok(found)
 }
 
-// A whole number of the format.
+// Reads an integer.
 #[inline(always)]
 fn read_number(format: IntegerKind, json: Json) -> Result<Value, Refusal>
     ensures reports { (registry : Entries) (left : ℕ) → Reports tree_of (fault_alone result) (read_data registry left (of (whole_shape format)) (view json)) }
@@ -75,7 +74,7 @@ fn read_number(format: IntegerKind, json: Json) -> Result<Value, Refusal>
     }
 }
 
-// The unsigned number of the width that a JSON value spells.
+// The unsigned integer that the JSON spells, as a number or as a string of decimal digits.
 fn unsigned_of(width: Width, value: &Json) -> Result<u128, JsonFault>
     ensures ok { IfOk result (λ n. SpellsWhole (view value.now) (pos n) × IsUnsigned (width_of width) n) }
     ensures none { IfErr result (λ _. (n : ℕ) → SpellsWhole (view value.now) (pos n)
@@ -89,7 +88,7 @@ fn unsigned_of(width: Width, value: &Json) -> Result<u128, JsonFault>
     }
 }
 
-// The signed number of the width that a JSON value spells.
+// The signed integer that the JSON spells, as a number or as a string of decimal digits.
 fn signed_of(width: Width, value: &Json) -> Result<i128, JsonFault>
     ensures ok { IfOk result (λ z. SpellsWhole (view value.now) z × IsSigned (width_of width) z) }
     ensures none { IfErr result (λ _. (z : ℤ) → SpellsWhole (view value.now) z
@@ -103,7 +102,7 @@ fn signed_of(width: Width, value: &Json) -> Result<i128, JsonFault>
     }
 }
 
-// The number, where it is held as a whole number and is in the unsigned range.
+// The number, if `serde_json` represents it as an integer and it is in the unsigned range.
 fn unsigned_in(width: Width, number: &Number) -> Option<u128>
     ensures some { IfSome result (λ n. (as_integer (number_view number.now) ≡ Some (pos n))
         × IsUnsigned (width_of width) n) }
@@ -121,7 +120,7 @@ fn unsigned_in(width: Width, number: &Number) -> Option<u128>
     }
 }
 
-// The number, where it is held as a whole number and is in the signed range.
+// The number, if `serde_json` represents it as an integer and it is in the signed range.
 fn signed_in(width: Width, number: &Number) -> Option<i128>
     ensures some { IfSome result (λ z. (as_integer (number_view number.now) ≡ Some z)
         × IsSigned (width_of width) z) }

@@ -1,4 +1,4 @@
-//! Objects, taken apart, so that their members are moved and not copied; and `null` or a string in their place.
+//! Takes objects apart, and `null` and strings where they are alternatives. Members are moved, not copied.
 ghost use Rattle.std.specs.Prelude.{◌≡◌, ◌≢◌, ℕ, List, IfOk, IfErr, OnOk, OnErr, Err, Some, None, string_bytes, option_map};
 ghost use Rattle.serde_json.specs.Data.{Data, Members, object, member, no_members};
 ghost use Rattle.serde_json.specs.Find.{get_member};
@@ -14,7 +14,7 @@ ghost use Rattle.bcs_json_spec.specs.Reading as spec;
 use bcs_json_spec::JsonFault;
 use serde_json::{Map, Value as Json};
 
-/// The members of an object. `BadShape`: another kind of JSON.
+/// The members of an object. `BadShape`: it isn't an object.
 pub fn object_of(json: Json) -> Result<Map<String, Json>, JsonFault>
     ensures ok { IfOk result (λ ms. view json ≡ object (members_view ms.entries)) }
     ensures other { IfErr result (λ _. (ms : Members) → view json ≢ object ms) }
@@ -26,7 +26,7 @@ pub fn object_of(json: Json) -> Result<Map<String, Json>, JsonFault>
     }
 }
 
-// The one member of an object. `BadShape`: it has none, or more.
+// The only member of an object. `BadShape`: there is none, or more than one.
 fn only_member(members: Map<String, Json>) -> Result<(String, Json), JsonFault>
     ensures ok { IfOk result (λ p. members_view members.entries ≡ member (string_bytes p.0) (view p.1) no_members) }
     ensures other { IfErr result (λ _. (k : List ℕ) (d : Data) → members_view members.entries ≢ member k d no_members) }
@@ -41,7 +41,7 @@ fn only_member(members: Map<String, Json>) -> Result<(String, Json), JsonFault>
     }
 }
 
-/// The member of a field, which is taken away. `MissingField`: there is none.
+/// Removes the member of a field and returns it. `MissingField`: there is none.
 #[tactic(auto, using(crate::proofs::Taken::left_without, crate::proofs::Taken::found_member))]
 pub fn take_field(members: &mut Map<String, Json>, name: &str) -> Result<Json, JsonFault>
     ensures ok { IfOk result (λ j. get_member name.now (members_view members.old.entries) ≡ Some (view j)) }
@@ -55,7 +55,7 @@ pub fn take_field(members: &mut Map<String, Json>, name: &str) -> Result<Json, J
     Ok(member)
 }
 
-/// Sees that no member is left. `UnknownField`: one is.
+/// Checks that no member is left. `UnknownField`: one is.
 pub fn no_member_left(members: &Map<String, Json>) -> Result<(), JsonFault>
     ensures ok { OnOk result (members_view members.now.entries ≡ no_members) }
     ensures left { OnErr result (members_view members.now.entries ≢ no_members) }
@@ -68,8 +68,7 @@ pub fn no_member_left(members: &Map<String, Json>) -> Result<(), JsonFault>
     }
 }
 
-/// What an option carries: nothing where `null` stands, else the one member of an object, whose name is `some`.
-/// `BadShape`: other JSON.
+/// The content of an option: none for `null`, else the only member of an object, named `some`. `BadShape`: other JSON.
 pub fn option_of(json: Json) -> Result<Option<Json>, JsonFault>
     ensures ok { IfOk result (λ part. view json ≡ option_json (option_map view part)) }
     ensures fault { IfErr result (λ e. (r : Data → Read Tree) → spec.read_option r (view json) ≡ Err e) }
@@ -88,14 +87,14 @@ pub fn option_of(json: Json) -> Result<Option<Json>, JsonFault>
     }
 }
 
-/// JSON where an enum's value stands: a variant's name alone, or with what the variant carries.
+/// The JSON of an enum: the name of a variant, alone or with the payload.
 #[derive(Drop)]
 pub enum EnumJson {
     Name(String),
     Member(String, Json),
 }
 
-/// A string, or an object of exactly one member. `BadShape`: other JSON.
+/// Takes a string, or an object with exactly one member. `BadShape`: it is neither.
 pub fn enum_of(json: Json) -> Result<EnumJson, JsonFault>
     ensures ok { IfOk result (λ choice. view json ≡ enum_json choice) }
     ensures fault { IfErr result (λ e. (named : List ℕ → Data → Read Tree) (cs : List Choice) → spec.read_enum named cs (view json) ≡ Err e) }

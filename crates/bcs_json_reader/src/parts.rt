@@ -1,4 +1,4 @@
-//! The parts of a value in their order, until the first fault.
+//! Reads the parts of a value in order, up to the first fault.
 ghost use Rattle.std.specs.Prelude.{map};
 ghost use Rattle.serde_json.specs.View.{view, items_view, members_view};
 ghost use Rattle.bcs_registry_model.specs.View.{shape_of, formats_shapes, field_of};
@@ -21,7 +21,7 @@ use bcs_value_model::Value;
 use serde_json::{Map, Value as Json};
 use std::alloc::Global;
 
-/// The items in order, each a value of the one format.
+/// Reads items of one format.
 #[cycle(reading)]
 pub(crate) fn read_all(
     alloc: Global,
@@ -46,7 +46,7 @@ pub(crate) fn read_all(
     Ok(found)
 }
 
-/// An item of each format in turn.
+/// Reads one item of each format.
 #[cycle(reading)]
 pub(crate) fn read_each(
     alloc: Global,
@@ -72,7 +72,7 @@ pub(crate) fn read_each(
     Ok(found)
 }
 
-/// The items in order, each an array of a key and its value.
+/// Reads map entries, each an array of a key and its value.
 #[cycle(reading)]
 pub(crate) fn read_pairs(
     alloc: Global,
@@ -95,7 +95,7 @@ pub(crate) fn read_pairs(
     Ok(found)
 }
 
-/// An array of a key and its value.
+/// Reads an array of a key and its value.
 #[cycle(reading)]
 fn read_entry(
     alloc: Global,
@@ -115,7 +115,7 @@ fn read_entry(
     Ok((name, value))
 }
 
-/// A value of each field in turn, whose member is taken away. Then no member may be left.
+/// Reads one value for each field, and removes its member. No member may be left at the end.
 #[cycle(reading)]
 pub(crate) fn read_fields(
     alloc: Global,

@@ -1,5 +1,5 @@
-//! Reading a value's JSON, front to back. Each call takes its JSON and gives the value of the tree that it spells, or
-//! the first fault with the way to it, which is written from the fault back.
+//! Reads a value from parsed JSON. Each function consumes its JSON, and returns the value that it spells or the first
+//! fault. The location of a fault is built on the way out, from the innermost step to the outermost.
 ghost use Rattle.serde_json.specs.View.{view};
 ghost use Rattle.bcs_registry_model.specs.View.{shape_of, formats_shapes};
 ghost use Rattle.bcs_registry_model.specs.Shape.{tuple as tuple_shape};
@@ -24,7 +24,7 @@ use bcs_value_model::Value;
 use serde_json::Value as Json;
 use std::alloc::Global;
 
-/// The value that the JSON spells at a format, where so many containers may open.
+/// Reads a value of `format`. At most `left` more containers may be opened.
 #[cycle(reading)]
 pub fn read(
     alloc: Global,
@@ -49,7 +49,7 @@ pub fn read(
     }
 }
 
-/// `null`, or an object with the one member `some`.
+/// Reads an option: `null`, or an object with the single member `some`.
 #[cycle(reading)]
 fn read_option(
     alloc: Global,
@@ -71,7 +71,7 @@ fn read_option(
     }
 }
 
-/// An array, or hexadecimal digits where the elements are bytes.
+/// Reads a list: an array or, for bytes, hexadecimal digits.
 #[cycle(reading)]
 fn read_list(
     alloc: Global,
@@ -92,7 +92,7 @@ fn read_list(
     }
 }
 
-/// An array of so many elements, or so many bytes by hexadecimal digits.
+/// Reads an array of `size` elements or, for bytes, `2 * size` hexadecimal digits.
 #[cycle(reading)]
 fn read_array(
     alloc: Global,
@@ -115,7 +115,7 @@ fn read_array(
     }
 }
 
-/// An array of a value of each format.
+/// Reads an array with one item of each format.
 #[cycle(reading)]
 pub(crate) fn read_tuple(
     alloc: Global,
@@ -131,7 +131,7 @@ pub(crate) fn read_tuple(
     Ok(Value::Items(read_each(alloc, registry, formats, left, items)?))
 }
 
-/// An array of keys with their values.
+/// Reads a map: an array of entries, each an array of a key and its value.
 #[cycle(reading)]
 fn read_map(
     alloc: Global,

@@ -1,4 +1,4 @@
-//! Why JSON is refused, and the way down to where it is.
+//! Why JSON is refused, and where.
 ghost use Rattle.std.specs.Prelude.{◌≡◌, ◌∷◌, Some, IfSome, option_map, map};
 ghost use Rattle.bcs_json_spec.specs.Place.{item, member, pointer_step_of};
 ghost use Rattle.bcs_json_reader.specs.Refused.{steps, fault_alone, location_of};
@@ -6,14 +6,14 @@ ghost use Rattle.bcs_json_reader.specs.Refused.{steps, fault_alone, location_of}
 use bcs_json_spec::{JsonFault, JsonStep};
 use std::alloc::{AllocError, AllocFailed, Global};
 
-/// Why JSON is refused, and the way down to where it is.
+/// A fault, and the location of the JSON that is refused.
 #[derive(Drop)]
 pub struct Refusal {
     pub fault: JsonFault,
     pub location: JsonLocation,
 }
 
-/// What was read of an item, seen from its array.
+/// Adds the step from an array to its item, if the item was refused.
 #[inline(always)]
 pub fn at_item<T: Drop>(
     alloc: Global,
@@ -29,7 +29,7 @@ pub fn at_item<T: Drop>(
     }
 }
 
-/// What was read of a member, seen from its object.
+/// Adds the step from an object to its member, if the member was refused.
 #[inline(always)]
 pub fn at_member<T: Drop>(alloc: Global, name: &str, read: Result<T, Refusal>) -> Result<T, Refusal>
     ensures same { fault_alone result ≡ fault_alone read }
@@ -117,19 +117,19 @@ impl From<Refusal> for JsonFault {
     }
 }
 
-/// The way from JSON down to where it is refused.
+/// Where JSON is refused, as steps to a part of it (as in a JSON Pointer, RFC 6901).
 #[derive(Drop)]
 pub enum JsonLocation {
-    /// It is refused itself.
+    /// The JSON itself is refused.
     Here,
-    /// By these steps, the innermost first.
+    /// The part at the end of these steps is refused. The innermost step comes first.
     Through(Vec<JsonStep>),
-    /// There was no memory to write it down.
+    /// Memory ran out while the location was built.
     Unknown,
 }
 
 impl JsonLocation {
-    /// The way that begins with this step and goes on as this one. It is unknown if memory runs out.
+    /// Prepends `step`. The result is `Unknown` if memory runs out.
     #[tactic(auto, using(crate::proofs::Locations::steps_more))]
     pub fn after(self, alloc: Global, step: JsonStep) -> JsonLocation
         ensures { IfSome (steps result) (λ path. option_map (λ inner. pointer_step_of step ∷ inner) (steps self) ≡ Some path) }
@@ -145,7 +145,7 @@ impl JsonLocation {
         }
     }
 
-    /// The steps from the outermost on, if the way is known.
+    /// The steps from the outermost inwards, unless the location is unknown.
     #[tactic(auto, using(crate::proofs::Locations::steps_turned))]
     pub fn outward(self, alloc: Global) -> Option<Vec<JsonStep>>
         ensures { option_map (λ v. map pointer_step_of v.items) result ≡ steps self }

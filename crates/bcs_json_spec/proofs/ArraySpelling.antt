@@ -1,4 +1,4 @@
--- What is spelled with arrays alone is spelled.
+-- What the older definition `ArraySpells` allows, `Spells` allows too.
 use Rattle.bcs_json_spec.proofs.Prelude.{◌≡◌, ℕ, List, [], ◌∷◌, codes, refl, w8, hex_on_literals, Data, number, unsigned, string, array, Items, no_items, item, Members, no_members, get_member, Shape, Shapes, no_shapes, shape, Field, Choice, Entries, choice_called, Tree, Trees, no_trees, tree, Pairs, no_pairs, pair, ArraySpells, AllArraySpell, EachArraySpells, PairsArraySpell, FieldsArraySpell, ByteTextSpells, is_byte, JsonContent, of, fields, one_of, json_content_at, payload_content, ArraySpellingStillSpells, IfThere, without, Spells, AllSpell, EachSpells, PairsSpell, FieldsSpell, IsWordOf}
 use Rattle.bcs_registry_model.specs.Shape as shape
 use Rattle.bcs_value_model.specs.Tree as tree
@@ -6,7 +6,7 @@ use Rattle.bcs_json_spec.proofs.Fitting.{Part}
 use Rattle.bcs_json_spec.proofs.Looking.{in_one, in_two, in_array, in_array_alone, in_object, in_word_or_one, in_there}
 
 module _ (registry : Entries) where
-  -- the older spelling of what the variant c carries, where it has the number n
+  -- the older spelling of the payload of variant `c`, which has the number `n`
   abbrev ArrayPart : ℕ → Tree → Data → Choice → Type 0
   ArrayPart n t d c = (c.0 ≡ n) × ArraySpells registry t (payload_content c.1.1) d
 
@@ -59,7 +59,7 @@ module _ (registry : Entries) where
 pub array_spelling_still_spells : ArraySpellingStillSpells
 array_spelling_still_spells registry f j t w = spells_still registry t f j w
 
--- ---- two rows
+-- ---- two lists
 
 abbrev byte_list : JsonContent
 byte_list = of (shape.seq (shape.unsigned w8))
@@ -70,7 +70,7 @@ one_byte = tree.items (tree (tree.unsigned 255) no_trees)
 by_elements : (registry : Entries) → ArraySpells registry one_byte byte_list (array (item (number (unsigned 255)) no_items))
 by_elements registry = ((refl, refl), tt)
 
--- hexadecimal text spells none, though `ff` spells this one in the reading of today
+-- hexadecimal digits spell nothing in the older definition, although `ff` spells this list today
 not_by_text : (registry : Entries) (s : List ℕ) (ts : Trees) → ArraySpells registry (tree.items ts) byte_list (string s) → ⊥
 not_by_text registry s ts w = w
 

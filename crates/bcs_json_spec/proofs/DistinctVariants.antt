@@ -1,5 +1,5 @@
--- The variants of an enum of a well-formed registry differ in their names: so the one that is found by its number is the one
--- that is called so.
+-- In a well-formed registry, the variants of an enum have different names. So a variant that is found by its number is
+-- also found by its name.
 use Rattle.bcs_json_spec.proofs.Prelude.{◌≡◌, ◌∙◌, ℕ, List, [], ◌∷◌, map, Some, Bool, true, false, not, ◌&&◌, ◌==◌, cond, bytes_eq, refl, ap, ap₂, sym, flat_map, list_all, list_any, false≢true, and_parts, or_right, Decides-eqb, none-some, same_Some, bytes_eq-Decides, list_all-found, Payload, Choice, Container, enumeration, Entries, container_at, choice_numbered, choice_called, container_names, payload_names, are_distinct, levels_hold, names_differ, names_known, IsWellFormed}
 
 abbrev pub choice_names : List Choice → List (List ℕ)
@@ -27,19 +27,19 @@ among_names_at : (name : List ℕ) (d : Choice) (ds : List Choice) (n : ℕ) (v 
 among_names_at name d ds n v true found is later = rw (ap (λ (w : List ℕ × Payload). bytes_eq name w.0) (same_Some d.1 v found) ∙ is) refl
 among_names_at name d ds n v false found is later = or_right (bytes_eq name d.1.0) _ (later found)
 
--- the name of a variant that is found by its number is among the names
+-- the name of a variant found by its number is among the names
 among_names : (name : List ℕ) (ds : List Choice) (n : ℕ) (v : List ℕ × Payload) → choice_numbered n ds ≡ Some v → bytes_eq name v.0 ≡ true → list_any (bytes_eq name) (choice_names ds) ≡ true
 among_names name [] n v found is = absurd (none-some v found)
 among_names name (d ∷ ds) n v found is = among_names_at name d ds n v (d.0 == n) found is (λ rest. among_names name ds n v rest is)
 
 module _ (word : List ℕ) (d : Choice) (ds : List Choice) (c : Choice) (is : bytes_eq c.1.0 word ≡ true) where
-  -- it stands here
+  -- it is the first variant
   called_here : (d.0 == c.0) ≡ true → d.1 ≡ c.1 → choice_called word (d ∷ ds) ≡ Some c
   called_here number rest =
       let same : d ≡ c = ap₂ (λ (n : ℕ) (v : List ℕ × Payload). (n, v)) ((Decides-eqb d.0 c.0).0 number) rest in
       rw (ap (λ (x : Choice). bytes_eq x.1.0 word) same ∙ is) (ap Some same)
 
-  -- it stands further on, so that its name is none of this one
+  -- it is a later variant, so the first has another name
   called_later : (b : Bool) → bytes_eq d.1.0 word ≡ b → not (list_any (bytes_eq d.1.0) (choice_names ds)) ≡ true → choice_numbered c.0 ds ≡ Some c.1
       → choice_called word ds ≡ Some c → cond b (Some d) (choice_called word ds) ≡ Some c
   called_later true here differ found later =
@@ -54,7 +54,7 @@ module _ (word : List ℕ) (d : Choice) (ds : List Choice) (c : Choice) (is : by
   called_at false number found differ later =
       called_later (bytes_eq d.1.0 word) refl (and_parts (not (list_any (bytes_eq d.1.0) (choice_names ds))) (are_distinct (choice_names ds)) differ).0 found (later found)
 
--- the variant that is found by its number is called by its name
+-- a variant found by its number is also found by its name
 pub numbered_called : (word : List ℕ) (ds : List Choice) (c : Choice) → are_distinct (choice_names ds) ≡ true → choice_numbered c.0 ds ≡ Some c.1 → bytes_eq c.1.0 word ≡ true
     → choice_called word ds ≡ Some c
 numbered_called word [] c differ found is = absurd (none-some c.1 found)

@@ -1,7 +1,7 @@
--- A reading that gives exactly what one relation allows, and refuses exactly as another says; and one reading after another.
+-- A reading that returns exactly what one relation allows, and fails exactly as another says; and readings in sequence.
 use Rattle.bcs_json_spec.proofs.Prelude.{true≢false, ◌≡◌, ◌∙◌, ◌⊎◌, inl, inr, ℕ, ◌≤◌, max, Ok, Err, Bool, true, false, Decides, if◌then◌else◌, refl, ap, sym, subst, arith, le-max_left, le-max_right, Read, follow, JsonFault, NotJson, TooNested, BadShape, TooManyNodes, TooLong, RepeatedKey, OutOfMemory}
 
--- a fault of the JSON itself: not of its text, of its nesting, or of the value
+-- a fault of the JSON itself, and not of its syntax, its nesting, or the value
 abbrev pub is_walk_fault : JsonFault → Bool
 is_walk_fault NotJson = false
 is_walk_fault TooNested = false
@@ -47,7 +47,7 @@ left a b h = omega (arith, le-max_left a b, h)
 pub right : (a b : ℕ) {n : ℕ} → max a b ≤ n → b ≤ n
 right a b h = omega (arith, le-max_right a b, h)
 
--- ---- tests that are decided
+-- ---- decidable conditions
 
 pub when_true : {A P : Type 0} (b : Bool) (x y : A) → Decides b P → P → (if b then x else y) ≡ x
 when_true b x y d p = ap (λ c. if c then x else y) (d.1 p)
@@ -58,22 +58,22 @@ when_false false x y d p = refl
 
 -- ---- exact readings
 
--- one value is given
+-- success with one value
 pub done : {A : Type 0} {S : A → Type 0} (a : A) → S a → ((t : A) → S t → a ≡ t) → Exact S (λ e. ⊥) (Ok a)
 done {S = S} a s only = record { ok = (λ t h. subst S (same_ok a t _ refl h) s); again = (λ t h. ap Ok (only t h)); err = (λ e h. cc); errs = (λ e h. absurd h); walks = (λ e h. absurd h) }
 
--- or none
+-- failure
 pub refused : {A : Type 0} {S : A → Type 0} (e : JsonFault) → is_walk_fault e ≡ true → ((t : A) → S t → ⊥) → Exact S (λ g. g ≡ e) (Err e)
 refused e walk none = record { ok = (λ t h. cc); again = (λ t s. absurd (none t s)); err = (λ g h. cc); errs = (λ g h. ap Err (sym h)); walks = (λ g h. ap is_walk_fault h ∙ walk) }
 
--- the same, in other words
+-- replaces the relation by an equivalent one
 pub allows : {A : Type 0} {S T : A → Type 0} {R : JsonFault → Type 0} {x : Read A} → Exact S R x → ((t : A) → S t → T t) → ((t : A) → T t → S t) → Exact T R x
 allows E there back = record { ok = (λ t h. there t (E.ok t h)); again = (λ t s. E.again t (back t s)); err = E.err; errs = E.errs; walks = E.walks }
 
 pub refuses : {A : Type 0} {S : A → Type 0} {R Q : JsonFault → Type 0} {x : Read A} → Exact S R x → ((e : JsonFault) → R e → Q e) → ((e : JsonFault) → Q e → R e) → Exact S Q x
 refuses E there back = record { ok = E.ok; again = E.again; err = (λ e h. there e (E.err e h)); errs = (λ e q. E.errs e (back e q)); walks = (λ e q. E.walks e (back e q)) }
 
--- what is made of what was read
+-- maps the result
 pub made : {A B : Type 0} {S : A → Type 0} {T : B → Type 0} {R : JsonFault → Type 0} {x : Read A} (f : A → B) → Exact S R x
     → ((a : A) → S a → T (f a)) → ((b : B) → T b → (a : A) × S a × (f a ≡ b)) → Exact T R (follow x (λ a. Ok (f a)))
 made {T = T} {x = x} f E there back =
@@ -85,7 +85,7 @@ made {T = T} {x = x} f E there back =
       walks = E.walks;
     }
 
--- what is read with what was read
+-- a reading that depends on an earlier one
 pub onward : {A B : Type 0} {S : A → Type 0} {T : A → B → Type 0} {U : B → Type 0} {R : JsonFault → Type 0} {Q : A → JsonFault → Type 0} {x : Read A} {k : A → Read B}
     → Exact S R x → ((a : A) → Exact (T a) (Q a) (k a))
     → ((a : A) (b : B) → S a → T a b → U b) → ((b : B) → U b → (a : A) × S a × T a b) → Exact U (λ e. R e ⊎ ((a : A) × S a × Q a e)) (follow x k)
@@ -98,7 +98,7 @@ onward {x = x} {k = k} D E there back =
       walks = λ e h. elim h [ inl r ↦ D.walks e r | inr a ↦ (E a.0).walks e a.2 ];
     }
 
--- one after the other
+-- two readings, one after the other
 pub both : {A B C : Type 0} {S : A → Type 0} {T : B → Type 0} {U : C → Type 0} {R Q : JsonFault → Type 0} {x : Read A} {y : Read B} (f : A → B → C) → Exact S R x → Exact T Q y
     → ((a : A) (b : B) → S a → T b → U (f a b)) → ((c : C) → U c → (a : A) × (b : B) × S a × T b × (f a b ≡ c))
     → Exact U (λ e. R e ⊎ ((a : A) × S a × Q e)) (follow x (λ a. follow y (λ b. Ok (f a b))))
@@ -108,7 +108,7 @@ both {B = B} {C = C} {T = T} {U = U} {Q = Q} f D E there back =
     (λ a c s t. subst U t.2 (there a t.0 s t.1))
     (λ c u. let o = back c u in (o.0, o.2, (o.1, o.3, o.4)))
 
--- behind a test
+-- a reading after a condition
 pub tested : {A P : Type 0} {S : A → Type 0} {R : JsonFault → Type 0} {x : Read A} (b : Bool) → Decides b P → (P → Exact S R x) → ((t : A) → S t → P)
     → Exact S (λ e. ((P → ⊥) × (e ≡ BadShape)) ⊎ (P × R e)) (if b then x else Err BadShape)
 tested true d E need = refuses (E (d.0 refl)) (λ e r. inr (d.0 refl, r)) (λ e r. elim r [ inl n ↦ absurd (n.0 (d.0 refl)) | inr y ↦ y.1 ])

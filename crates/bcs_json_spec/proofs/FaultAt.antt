@@ -1,4 +1,4 @@
--- What JSON is refused with, as a function: it answers what the relation says.
+-- The fault of some JSON as a function, which agrees with the relation.
 use Rattle.bcs_json_spec.proofs.Prelude.{◌≡◌, ◌∙◌, ℕ, Option, None, Some, Ok, Err, refl, ap, sym, result_err, none-some, Data, Shape, Entries, of, IfTwo, Target, value, entry, JsonPart, IsGood, IsRefusedWith, Read, read_data, read_pair, Refuses, SpellsWithin, JsonFault}
 use Rattle.bcs_json_spec.proofs.Exact.{Exact}
 use Rattle.bcs_json_spec.proofs.PartVerdicts.{exact_pair}

@@ -1,4 +1,4 @@
--- What JSON spells is a value of the format.
+-- If JSON spells a tree, the tree fits the format.
 use Rattle.bcs_json_spec.proofs.Prelude.{◌≡◌, ◌∙◌, ◌⊎◌, inl, inr, ℕ, List, [], ◌∷◌, codes, ◌==◌, ◌&&◌, ◌<◌, ◌^◌, nat_lt, IsTrue, suc, Option, Some, None, Bool, true, false, not, cond, bytes_eq, refl, ap, sym, subst, w8, is_utf8, list_all, list_any, option_map_or, and_from, or_left, or_right, Decides-eqb, Decides-ltb, same_Some, IsBytes, decode_of-ok, Data, string, array, object, Items, no_items, item, Members, no_members, member, get_member, Container, unit_struct, newtype_struct, tuple_struct, field_struct, enumeration, Field, Payload, newtype, tuple, Choice, Entries, container_at, choice_called, choice_numbered, content, content_at, choice_at, payload_shape, field_shapes, Shape, Shapes, no_shapes, shape, fits, all_fit, each_fits, pairs_fit, are_bytes, Tree, Trees, no_trees, tree, Pairs, no_pairs, pair, count, IsHexOf, ByteTextSpells, is_byte, byte_trees, JsonContent, of, fields, one_of, nothing, json_content, json_content_at, payload_content, SpelledFits, IfString, IfArray, IfStringOrArray, IfObject, IfTwo, IfOne, IfWordOrOne, IfThere, without, Spells, AllSpell, EachSpells, PairsSpell, FieldsSpell, IsWordOf}
 use Rattle.bcs_registry_model.specs.Container as container
 use Rattle.bcs_registry_model.specs.Shape as shape
@@ -6,7 +6,7 @@ use Rattle.bcs_value_model.specs.Tree as tree
 use Rattle.bcs_json_spec.proofs.Unnamed.{unnamed, unnamed_at, unnamed_payload}
 use Rattle.bcs_json_spec.proofs.Numbering.{numbers_differ, numbers_fit, has_numbering, orderly_numbering}
 
--- ---- both of two tests
+-- ---- two conditions
 
 pub and_left : (a b : Bool) → (a && b) ≡ true → a ≡ true
 and_left true b h = refl
@@ -16,9 +16,9 @@ pub and_right : (a b : Bool) → (a && b) ≡ true → b ≡ true
 and_right true b h = h
 and_right false b h = cc
 
--- ---- looking at JSON
+-- ---- the kind of JSON
 
--- the JSON spells t as the payload of this variant, which has the number n
+-- the JSON spells `t` as the payload of variant `c`, which has the number `n`
 abbrev pub Part : Entries → ℕ → Tree → Data → Choice → Type 0
 Part registry n t d c = (c.0 ≡ n) × Spells registry t (payload_content c.1.1) d
 
@@ -75,7 +75,7 @@ module _ (registry : Entries) where
   text_fits s true r ts h w = ap (λ us. all_fit false registry us s) w.2 ∙ bytes_fit s w.0 h (decode_of-ok r w.0 w.1).3
   text_fits s false r ts h w = absurd w
 
--- ---- what stands in containers and variants
+-- ---- contents of containers and variants
 
 pub payload_numbering : (p : Payload) → has_numbering (payload_content p) ≡ true
 payload_numbering container.unit = refl
@@ -93,7 +93,7 @@ numbering_at name [] h = refl
 numbering_at name (e ∷ es) h =
     numbering_or (bytes_eq name e.0) e.1 (container_at name es) (and_left (has_numbering (json_content e.1)) _ h) (numbering_at name es (and_right (has_numbering (json_content e.1)) _ h))
 
--- the variant that is called so is among those of its number
+-- the variant with this name is among those with its number
 among_at : (word : List ℕ) (m : ℕ) (d : Choice) (ds : List Choice) (c : Choice) (b : Bool) → cond b (Some d) (choice_called word ds) ≡ Some c → (m == c.0) ≡ true
     → (choice_called word ds ≡ Some c → list_any (λ x. m == x.0) ds ≡ true) → list_any (λ x. m == x.0) (d ∷ ds) ≡ true
 among_at word m d ds c true g is later = or_left (m == d.0) _ (ap (λ (x : Choice). m == x.0) (same_Some d c g) ∙ is)
@@ -116,7 +116,7 @@ numbered_at : (word : List ℕ) (d : Choice) (ds : List Choice) (c : Choice) (b 
 numbered_at word d ds c true g differ later = subst (λ (x : Choice). choice_numbered x.0 (d ∷ ds) ≡ Some x.1) (same_Some d c g) (own_number d ds)
 numbered_at word d ds c false g differ later = other_number d ds c (d.0 == c.0) refl (and_left _ _ differ) (among word d.0 ds c g) (later g)
 
--- the variant that is called so is the one of its number
+-- the variant with this name is the one with its number
 pub called_numbered : (word : List ℕ) (cs : List Choice) (c : Choice) → numbers_differ cs ≡ true → choice_called word cs ≡ Some c → choice_numbered c.0 cs ≡ Some c.1
 called_numbered word [] c differ h = cc
 called_numbered word (d ∷ ds) c differ h = numbered_at word d ds c (bytes_eq d.1.0 word) h differ (called_numbered word ds c (and_right _ _ differ))
@@ -126,7 +126,7 @@ fits_at : (word : List ℕ) (d : Choice) (ds : List Choice) (c : Choice) (b : Bo
 fits_at word d ds c true g here later = subst (λ (x : Choice). nat_lt x.0 (2 ^ 32) ≡ true) (same_Some d c g) here
 fits_at word d ds c false g here later = later g
 
--- the variant that is called so has a number of 32 bits
+-- the variant with this name has a number of 32 bits
 called_fits : (word : List ℕ) (cs : List Choice) (c : Choice) → numbers_fit cs ≡ true → choice_called word cs ≡ Some c → nat_lt c.0 (2 ^ 32) ≡ true
 called_fits word [] c fit h = cc
 called_fits word (d ∷ ds) c fit h = fits_at word d ds c (bytes_eq d.1.0 word) h (and_left (nat_lt d.0 (2 ^ 32)) _ fit) (called_fits word ds c (and_right (nat_lt d.0 (2 ^ 32)) _ fit))
@@ -137,7 +137,7 @@ choice_is n cs p h = ap (λ (o : Option (List ℕ × Payload)). option_map_or (�
 -- ---- trees
 
 module _ (registry : Entries) (numbering : list_all (λ e. has_numbering (json_content e.1)) registry ≡ true) where
-  -- the part of the variant that is called so, at its number
+  -- the payload of the variant with this name, at its number
   in_choice : (t : Tree) (word : List ℕ) (cs : List Choice) (c : Choice) (n : ℕ) → has_numbering (one_of cs) ≡ true → choice_called word cs ≡ Some c → c.0 ≡ n
       → fits false registry t (unnamed (payload_content c.1.1)) ≡ true → fits false registry (tree.variant n t) (container.one_of cs) ≡ true
   in_choice t word cs c n numbered h is w =
@@ -151,7 +151,7 @@ module _ (registry : Entries) (numbering : list_all (λ e. has_numbering (json_c
   unit_in_choice t word cs c n numbered h is empty e =
       in_choice t word cs c n numbered h is (ap (λ (p : Payload). fits false registry t (unnamed (payload_content p))) empty ∙ ap (λ u. fits false registry u (container.of shape.unit)) e)
 
-  -- a list by its text, or by its elements
+  -- a list, as a string or as an array
   fits_list : (ts : Trees) (s : Shape) (j : Data) → IfStringOrArray (λ r. ByteTextSpells (is_byte s) r ts) (AllSpell registry ts s) j
       → ((ds : Items) → AllSpell registry ts s ds → all_fit false registry ts s ≡ true) → all_fit false registry ts s ≡ true
   fits_list ts s j w each = elim (text_or_items (λ r. ByteTextSpells (is_byte s) r ts) (AllSpell registry ts s) j w) [

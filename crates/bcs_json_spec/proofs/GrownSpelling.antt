@@ -1,4 +1,4 @@
--- What is spelled at a registry is spelled at one that it grew to.
+-- What JSON spells in a registry, it spells in every registry that this one grows to.
 use Rattle.bcs_json_spec.proofs.Prelude.{◌≡◌, inl, inr, ℕ, List, [], ◌∷◌, codes, sym, subst, Data, Items, no_items, item, Members, no_members, get_member, Shape, Shapes, no_shapes, shape, Field, Choice, Entries, choice_called, Grows, IsWellFormed, Tree, Trees, no_trees, tree, Pairs, no_pairs, pair, keeps_soundness, ByteTextSpells, is_byte, JsonContent, of, fields, one_of, nothing, json_content_at, payload_content, GrowthKeepsSpelling, GrowthKeepsDenoting, IfThere, without, Spells, AllSpell, EachSpells, PairsSpell, FieldsSpell, IsWordOf}
 use Rattle.bcs_registry_model.specs.Shape as shape
 use Rattle.bcs_registry_model.specs.Container as container
@@ -12,7 +12,7 @@ module _ (registry : Entries) where
   spells_nothing tree.unit j w = w
   spells_nothing _ j w = w
 
-  -- what is found under a name is found under it in what has each of the variants
+  -- what is found by a name is found in the larger enum
   still_there : (P : Choice → Type 0) (word : List ℕ) (cs ds : List Choice) → HasNames cs ds → IfThere P (choice_called word cs) → IfThere P (choice_called word ds)
   still_there P word cs ds has w = let c = there P (choice_called word cs) w in subst (IfThere P) (sym (has word c.0 c.1)) c.2
 

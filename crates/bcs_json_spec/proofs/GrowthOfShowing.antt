@@ -1,4 +1,4 @@
--- What is shown of a value stays in a registry that the older one grows to.
+-- A value is printed the same in every registry that its registry grows to.
 use Rattle.bcs_json_spec.proofs.Prelude.{◌≡◌, ◌∙◌, ℕ, ◌^◌, nat_lt, List, ◌∷◌, codes, ◌==◌, ◌&&◌, Option, Some, None, true, false, if◌then◌else◌, refl, ap, ap₂, sym, subst, false≢true, option_map_or, encode_lower, Data, string, array, object, Items, no_items, item, Members, put, Container, unit_struct, newtype_struct, tuple_struct, field_struct, enumeration, Field, Payload, newtype, tuple, Choice, Entries, container_at, choice_numbered, choice_at, payload_shape, field_shapes, GrowsTo, Grows, Shape, Shapes, shape, HasChoices, has_choices, container_at-grows, single, fits, all_fit, each_fits, pairs_fit, Tree, Trees, no_trees, tree, Pairs, no_pairs, pair, count, is_byte, trees_bytes, JsonContent, of, fields, one_of, nothing, json_content, json_content_at, payload_content, GrowthKeepsShowing, shown, shown_all, shown_each, shown_pairs, shown_fields, shown_choice}
 use Rattle.bcs_registry_model.specs.Container as container
 use Rattle.bcs_registry_model.specs.Shape as shape
@@ -6,9 +6,9 @@ use Rattle.bcs_value_model.specs.Tree as tree
 use Rattle.bcs_json_spec.proofs.Unnamed.{unnamed, unnamed_at, unnamed_payload}
 use Rattle.bcs_json_spec.proofs.Fitting.{and_left, and_right}
 
--- ---- what stands in a registry that grew
+-- ---- contents in a registry that grew
 
--- what stood at a place of the older registry, and what stands there in the newer one
+-- an older content and the newer one
 abbrev pub StaysNamed : JsonContent → JsonContent → Type 0
 StaysNamed (of s) (of u) = s ≡ u
 StaysNamed (fields fs) (fields gs) = fs ≡ gs
@@ -31,19 +31,19 @@ looked_up_stays (Some c) p h =
     let there = h c refl in
     subst (λ q. StaysNamed (json_content c) (option_map_or json_content q nothing)) (sym there.1) (content_stays c there.0 there.2)
 
--- what stands in a container stays, with its names
+-- the content of a container stays, with its names
 pub json_content_at-grows : (older newer : Entries) → Grows older newer → (n : List ℕ) → StaysNamed (json_content_at n older) (json_content_at n newer)
 json_content_at-grows older newer grows n = looked_up_stays (container_at n older) (container_at n newer) (container_at-grows older newer grows n)
 
--- ---- at what stays
+-- ---- contents that stay
 
--- the variant that a tree has is the one that it had
+-- the variant of a tree is the same as before
 pub same_variant : (registry : Entries) (t : Tree) (o p : Option (List ℕ × Payload)) → ((v : List ℕ × Payload) → o ≡ Some v → p ≡ Some v)
     → fits false registry t (option_map_or (λ c. container.of (payload_shape c.1)) o container.nothing) ≡ true → p ≡ o
 same_variant registry t None p h fit = absurd (false≢true fit)
 same_variant registry t (Some v) p h fit = h v refl
 
--- what fits is shown the same at content that stays
+-- a fitting tree is printed the same for a content that stays
 shown_stays : (older registry : Entries) (t : Tree) (f g : JsonContent) → StaysNamed f g → fits false older t (unnamed f) ≡ true → shown registry t g ≡ shown registry t f
 shown_stays older registry t (of s) (of u) e h = ap (λ (x : Shape). shown registry t (of x)) (sym e)
 shown_stays older registry t (fields fs) (fields gs) e h = ap (λ (x : List Field). shown registry t (fields x)) (sym e)
@@ -63,7 +63,7 @@ choice_same show other (Some (name, newtype s)) h = ap (single name) (h (name, n
 choice_same show other (Some (name, tuple ss)) h = ap (single name) (h (name, tuple ss) refl)
 choice_same show other (Some (name, container.fields fs)) h = ap (single name) (h (name, container.fields fs) refl)
 
--- the payload of the variant that is there fits
+-- the payload of an existing variant fits
 fit_payload : (registry : Entries) (n : ℕ) (t : Tree) (cs : List Choice) (p : List ℕ × Payload) → fits false registry t (choice_at n cs) ≡ true → choice_numbered n cs ≡ Some p
     → fits false registry t (unnamed (payload_content p.1)) ≡ true
 fit_payload registry n t cs p h found =

@@ -1,4 +1,4 @@
--- Equal values and equal bytes, a stable normal text, and bytes that come back.
+-- Equal values and equal bytes, normal forms that are stable, and bytes that survive a round trip.
 use Rattle.bcs_json_spec.proofs.Prelude.{◌≡◌, ◌∙◌, ℕ, List, sym, ap, subst, compact_text, Entries, Shape, same-refl, Bounds, Tree, bytes_decide_same, forms_same, Encodes, IsForm, accepted_is_encoded_is, of, HasBytes, EqualValuesEqualBytes, NormalTextIsStable, ShownBytesComeBack, shown, Denotes}
 use Rattle.bcs_registry_model.specs.Container as container
 use Rattle.bcs_json_spec.proofs.TextLaws.{denotes_once}

@@ -1,4 +1,4 @@
--- Values with no parts.
+-- Values without parts.
 use Rattle.bcs_json_spec.proofs.Prelude.{◌≡◌, ◌∙◌, ℕ, ℤ, pos, negsuc, ◌≤◌, ◌^◌, List, [], ◌∷◌, Ok, Err, Result, Bool, true, false, IsTrue, if◌then◌else◌, refl, ap, sym, subst, arith, Width, is_utf8, Decides-ltb, max-le, bits, hbits, decode_of, FromHexError, Data, null, boolean, string, bits_most, half_most, Entries, Shape, Tree, Trees, trees_depth, IsHexOf, ByteTextSpells, byte_trees, of, IsNull, IfString, is_unsigned_of, is_signed_of, read_unit, read_truth, size_of, read_unsigned, read_signed, read_text, hex_or_fault, read_hex, read_bytes, read_byte_text, UnitRefuses, TruthRefuses, WholeRefuses, TextRefuses, IsNoHex, BytesRefuse, ByteTextRefuses, SpellsWithin, BadHex, BadShape}
 use Rattle.bcs_registry_model.specs.Shape as shape
 use Rattle.bcs_registry_model.specs.Shape.{Unsupported}
@@ -79,7 +79,7 @@ module _ (registry : Entries) (n : ℕ) where
   unfolding read_signed
   exact_signed w j = made tree.signed (exact_whole (is_signed_of w) (signed_small w) j) (λ z s. (s, omega arith)) (signed_is w j)
 
-  -- words that no value has
+  -- formats that have no values
   none_is : (u : Unsupported) (j : Data) (t : Tree) → Within (shape.unsupported u) j t → ⊥
   none_is u j tree.unit s = s.0
   none_is u j _ s = s.0

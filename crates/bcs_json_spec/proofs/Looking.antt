@@ -1,4 +1,4 @@
--- Looking at JSON for one thing finds what follows from it.
+-- If JSON has one thing, it has what follows from it.
 use Rattle.bcs_json_spec.proofs.Prelude.{ℕ, List, Option, Some, None, Data, string, array, object, Items, no_items, item, Members, no_members, member, IfArray, IfStringOrArray, IfObject, IfTwo, IfOne, IfWordOrOne, IfThere}
 
 pub in_one : (P Q : List ℕ → Data → Type 0) → ((k : List ℕ) (d : Data) → P k d → Q k d) → (j : Data) → IfOne P j → IfOne Q j
@@ -13,7 +13,7 @@ pub in_array : (P Q : Items → Type 0) → ((ds : Items) → P ds → Q ds) →
 in_array P Q h (array ds) w = h ds w
 in_array P Q h _ w = absurd w
 
--- where text may stand too, an array may
+-- an array is allowed where a string or an array is
 pub in_array_alone : (T : List ℕ → Type 0) (P Q : Items → Type 0) → ((ds : Items) → P ds → Q ds) → (j : Data) → IfArray P j → IfStringOrArray T Q j
 in_array_alone T P Q h (array ds) w = h ds w
 in_array_alone T P Q h _ w = absurd w

@@ -1,4 +1,4 @@
--- What is shown of a tree nests no deeper than any spelling of it.
+-- The JSON that a tree is printed as nests no deeper than any JSON that spells it.
 use Rattle.bcs_json_spec.proofs.Prelude.{◌≡◌, ◌∙◌, inl, inr, ℕ, suc, ◌≤◌, max, List, [], ◌∷◌, codes, Option, Some, Bool, true, false, cond, if◌then◌else◌, bytes_eq, Ordering, Less, Equal, Greater, refl, ap, sym, subst, arith, max-le, le-max_left, le-max_right, slice_cmp, signed_decimal, list_all, match_ordering, encode_lower, Data, number, whole, string, array, Items, no_items, item, Members, no_members, member, put, depth, items_depth, members_depth, get_member, of_integer, Field, Payload, newtype, tuple, Choice, Entries, choice_called, choice_numbered, Shape, Shapes, no_shapes, shape, Tree, Trees, no_trees, tree, Pairs, no_pairs, pair, ByteTextSpells, is_byte, trees_bytes, JsonContent, of, fields, one_of, json_content, json_content_at, payload_content, ShownIsLowest, IfStringOrArray, IfThere, without, shown, shown_all, shown_each, shown_pairs, shown_fields, shown_choice, is_wide, Spells, AllSpell, EachSpells, PairsSpell, FieldsSpell, IsWordOf}
 use Rattle.std.specs.Fmt.{decimal}
 use Rattle.std.specs.Ordering.{nat_cmp}
@@ -22,7 +22,7 @@ put_depth_at Greater k l d e ms h =
     let both : max (depth d) (members_depth ms) ≤ max (depth d) (max (depth e) (members_depth ms)) = max-le front (omega (arith, rest, others)) in
     max-le (omega (arith, rest, own)) (omega (arith, h, both))
 
--- a member that is put is no deeper than it is, beside the others
+-- adding a member nests no deeper than this member and the others
 pub put_depth : (k : List ℕ) (d : Data) (ms : Members) → members_depth (put k d ms) ≤ max (depth d) (members_depth ms)
 put_depth k d no_members = omega arith
 put_depth k d (member l e ms) = put_depth_at (slice_cmp nat_cmp k l) k l d e ms (put_depth k d ms)
@@ -47,7 +47,7 @@ pub without_depth : (k : List ℕ) (ms : Members) → members_depth (without k m
 without_depth k no_members = omega arith
 without_depth k (member l e ms) = without_depth_at (bytes_eq k l) l e ms (without k ms) (without_depth k ms)
 
--- ---- values with no parts
+-- ---- values without parts
 
 number_depth : (b : Bool) (s : List ℕ) (d : Data) → depth d ≤ 0 → depth (if b then string s else d) ≤ 0
 number_depth true s d h = omega arith
@@ -84,12 +84,12 @@ unit_depth show (n, (name, newtype s)) e = cc
 unit_depth show (n, (name, tuple ss)) e = cc
 unit_depth show (n, (name, container.fields fs)) e = cc
 
--- ---- parts in a row
+-- ---- sequences of parts
 
 each_under : (x d : Data) (xs ds : Items) → depth x ≤ depth d → items_depth xs ≤ items_depth ds → max (depth x) (items_depth xs) ≤ max (depth d) (items_depth ds)
 each_under x d xs ds h g = under (depth x) (items_depth xs) (max (depth d) (items_depth ds)) (omega (arith, h, le-max_left (depth d) (items_depth ds))) (omega (arith, g, le-max_right (depth d) (items_depth ds)))
 
--- an entry
+-- a map entry
 pub pair_under : (x y a b : Data) → depth x ≤ depth a → depth y ≤ depth b → depth (array (item x (item y no_items))) ≤ depth (array (item a (item b no_items)))
 pair_under x y a b h g = omega (arith, each_under x a (item y no_items) (item b no_items) h (each_under y b no_items no_items g (omega arith)))
 
@@ -109,7 +109,7 @@ module _ (registry : Entries) (numbering : list_all (λ e. has_numbering (json_c
   choice_shown t word cs c n differ h is =
       ap (λ m. shown_choice (shown registry t) (choice_numbered m cs)) (sym is) ∙ ap (shown_choice (shown registry t)) (called_numbered word cs c differ h)
 
-  -- a list by its text, or by its elements
+  -- a list, as a string or as an array
   lowest_list : (ts : Trees) (s : Shape) (j : Data) → IfStringOrArray (λ r. ByteTextSpells (is_byte s) r ts) (AllSpell registry ts s) j
       → ((ds : Items) → AllSpell registry ts s ds → items_depth (shown_all registry ts s) ≤ items_depth ds)
       → depth (if is_byte s then string (encode_lower (trees_bytes ts)) else array (shown_all registry ts s)) ≤ depth j

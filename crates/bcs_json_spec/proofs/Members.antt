@@ -1,4 +1,4 @@
--- Members that are put in are found again by their names, and taken away again.
+-- A member that was added is found by its name, and can be removed again.
 use Rattle.bcs_json_spec.proofs.Prelude.{◌≡◌, ◌∙◌, ℕ, ◌≤◌, List, [], ◌∷◌, map, Some, None, true, false, true≢false, not, cond, bytes_eq, Ordering, Less, Equal, Greater, refl, ap, sym, subst, or_parts, not-true, is_eq-slice_cmp, slice_cmp, list_any, match_ordering, is_eq, Data, Members, no_members, member, put, depth, members_depth, get_member, get_member-put, get_member-put_other, Field, Entries, are_distinct, bytes-refl, Trees, no_trees, tree, of, without, shown, shown_fields}
 use Rattle.std.specs.Ordering.{nat_cmp}
 use Rattle.bcs_json_spec.proofs.Fitting.{and_left, and_right}
@@ -13,16 +13,16 @@ without_put_at Greater k l d e ms is absent later =
     let other : bytes_eq k l ≡ false = sym (is_eq-slice_cmp k l) ∙ ap is_eq is in
     ap (λ b. cond b (put k d ms) (member l e (without k (put k d ms)))) other ∙ ap (member l e) (later absent)
 
--- what was put at a new name is taken away again
+-- removing a member that was added with a new name
 pub without_put : (k : List ℕ) (d : Data) (ms : Members) → get_member k ms ≡ None → without k (put k d ms) ≡ ms
 without_put k d no_members absent = ap (λ b. cond b no_members (member k d no_members)) (bytes-refl k)
 without_put k d (member l e ms) absent = without_put_at (slice_cmp nat_cmp k l) k l d e ms refl absent (without_put k d ms)
 
--- the member that was put nests no deeper than all of them
+-- the added member nests no deeper than all of them
 pub put_own_depth : (k : List ℕ) (d : Data) (ms : Members) → depth d ≤ members_depth (put k d ms)
 put_own_depth k d ms = found_depth k d (put k d ms) (get_member-put k d ms)
 
--- and so do those that stood there before
+-- and neither do those that were there before
 pub put_others_depth : (k : List ℕ) (d : Data) (ms : Members) → get_member k ms ≡ None → members_depth ms ≤ members_depth (put k d ms)
 put_others_depth k d ms absent = subst (λ ns. members_depth ns ≤ members_depth (put k d ms)) (without_put k d ms absent) (without_depth k (put k d ms))
 

@@ -1,4 +1,4 @@
--- The numbers of an enum's variants differ and fit 32 bits, since a finite map keeps them.
+-- The variants of an enum have different numbers of 32 bits, since they are in a finite map.
 use Rattle.bcs_json_spec.proofs.Prelude.{◌≡◌, ◌^◌, ℕ, List, [], ◌∷◌, Bool, true, false, not, ◌&&◌, ◌==◌, nat_lt, Less, Equal, refl, ap, and_from, Decides-eqb, nat_cmp_is, list_all, list_any, AllByRecursion, IsStrictlySortedBy, keys_of, Choice, Container, unit_struct, newtype_struct, tuple_struct, field_struct, enumeration, Entries, IsInRange, IsOrderly, JsonContent, one_of, json_content}
 use Rattle.std.specs.Ordering.{nat_cmp}
 

@@ -1,8 +1,8 @@
--- Whole numbers: what JSON spells one is read as it, and what is read is spelled.
+-- An integer is read exactly if JSON spells it.
 use Rattle.bcs_json_spec.proofs.Prelude.{◌≡◌, ◌∙◌, ℕ, suc, ℤ, pos, negsuc, ◌<◌, ◌^◌, List, [], ◌∷◌, Ok, Err, Option, Some, None, Bool, true, false, if◌then◌else◌, Decides, bytes_eq, ◌==◌, decimal, refl, ap, sym, subst, arith, digit_value, signed_decimal, AllDigits, digits_value, Decides-eqb, bytes_eq-Decides, decimal_is_IsNumeral_wide, same_Some, Data, number, string, SpellsWhole, negated, worth, whole_of, whole_in, read_whole, WholeRefuses, JsonFault, BadNumber}
 use Rattle.bcs_json_spec.proofs.Exact.{Exact, is_walk_fault, same_ok, not_both, when_true}
 
--- of at most 63 digits
+-- at most 64 digits
 abbrev pub IsSmall : ℤ → Type 0
 IsSmall (pos n) = n < 10 ^ 64
 IsSmall (negsuc n) = suc n < 10 ^ 64
@@ -35,7 +35,7 @@ whole_is (number n) z h = h
 whole_is (string t) z h = text_whole t (worth t) z (bytes_eq t (signed_decimal (worth t))) (bytes_eq-Decides t (signed_decimal (worth t))) h
 whole_is _ z h = cc
 
--- ---- in a range of small numbers
+-- ---- ranges
 
 module _ (range : ℤ → Bool) (small : (z : ℤ) → range z ≡ true → IsSmall z) where
   abbrev pub WholeWithin : Data → ℤ → Type 0

@@ -1,4 +1,4 @@
--- Each text denotes a value or is refused, and for one reason.
+-- Every text either denotes a value or is refused, for exactly one reason.
 use Rattle.bcs_json_spec.proofs.Prelude.{◌≡◌, ◌∙◌, ◌⊎◌, inl, inr, ℕ, ◌≤◌, ◌<◌, List, Option, Some, None, Bool, true, false, refl, sym, subst, arith, is_utf8, cases_Bool, cases_lt, false≢true, none-some, IsUtf8-from_is_utf8, is_utf8-from_IsUtf8, Data, depth, read, Entries, IsOrderly, Shape, IsJson, IsNotJson, Fits, Bounds, distinct, Tree, length_limit, lengths_hold, of, TextDenotesOrIsRefused, Refuses, SpellsWithin, nesting_limit, IsReadAs, Denotes, SpelledBy, Misspells, RefusesText, JsonFault, NotJson, TooNested, TooManyNodes, TooLong, RepeatedKey, OutOfMemory}
 use Rattle.bcs_registry_model.specs.Container as container
 use Rattle.bcs_value_model.specs.Tree as tree
@@ -13,7 +13,7 @@ module _ (registry : Entries) (limits : Bounds) (s : Shape) (text : List ℕ) wh
   abbrev Answer : Type 0
   Answer = ((t : Tree) × Denotes registry limits s text t) ⊎ ((e : JsonFault) × RefusesText registry limits s text e)
 
-  -- ---- some answer
+  -- ---- an answer exists
 
   pub misspelled : (e : JsonFault) → is_walk_fault e ≡ true → Misspells registry limits s text e → RefusesText registry limits s text e
   misspelled NotJson is h = absurd (false≢true is)
@@ -24,7 +24,7 @@ module _ (registry : Entries) (limits : Bounds) (s : Shape) (text : List ℕ) wh
   misspelled OutOfMemory is h = absurd (false≢true is)
   misspelled _ is h = h
 
-  -- what is spelled fits and isn't too deep, so that three tests are left
+  -- what is spelled fits and isn't too deep, so three checks are left
   spelled : IsOrderly registry → (d : Data) → IsReadAs text d → (t : Tree) → SpellsWithin registry limits.depth (of s) d t → Answer
   spelled orderly d is t w =
       let fit : Fits registry s t = spelled_fits registry s d t orderly w.0 in
@@ -54,7 +54,7 @@ module _ (registry : Entries) (limits : Bounds) (s : Shape) (text : List ℕ) wh
   some_answer orderly true utf8 None is = inr (NotJson, λ d h. none-some d (sym is ∙ h.1))
   some_answer orderly true utf8 (Some d) is = read_as orderly d (IsUtf8-from_is_utf8 text utf8, is)
 
-  -- ---- one reason
+  -- ---- at most one reason
 
   -- the value has too many nodes, or a length that is too long, or a repeated key
   abbrev Unsound : Tree → JsonFault → Type 0
@@ -70,7 +70,7 @@ module _ (registry : Entries) (limits : Bounds) (s : Shape) (text : List ℕ) wh
   abbrev Looked : Data → JsonFault → Type 0
   Looked d e = ((nesting_limit < depth d) × (e ≡ TooNested)) ⊎ ((depth d ≤ nesting_limit) × Validated d e)
 
-  -- the text has no reading, or what is read is looked at
+  -- the text isn't JSON, or what is read is checked further
   abbrev Reads : JsonFault → Type 0
   Reads e = (IsNotJson text × (e ≡ NotJson)) ⊎ ((d : Data) × IsJson text d × Looked d e)
 

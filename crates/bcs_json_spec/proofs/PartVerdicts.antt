@@ -1,4 +1,4 @@
--- Values with parts: parts in a row, and what is made of them.
+-- Values with parts: their parts, one after another, and what is built from them.
 use Rattle.bcs_json_spec.proofs.Prelude.{◌≡◌, ◌≢◌, ◌∙◌, ◌⊎◌, inl, inr, ℕ, suc, ◌≤◌, max, codes, ◌==◌, bytes_eq, refl, ap, sym, subst, arith, max-le, Decides-eqb, bytes_eq-Decides, Data, null, string, array, object, Items, no_items, item, no_members, member, Entries, Shape, Shapes, Tree, Trees, no_trees, tree, Pairs, no_pairs, pair, count, trees_depth, pairs_depth, ByteTextSpells, is_byte, of, IsNull, IfStringOrArray, IfArray, IfTwo, IfOne, item_count, shape_count, Read, read_option, read_seq, read_array, sized, read_tuple, read_map, read_all, read_pair, read_pairs, Bad, OptionRefuses, AllRefuse, SeqRefuses, ArrayRefuses, TupleRefuses, PairRefuses, PairsRefuse, MapRefuses, Spells, AllSpell, EachSpells, PairsSpell, JsonFault, BadShape}
 use Rattle.bcs_registry_model.specs.Shape as shape
 use Rattle.bcs_value_model.specs.Tree as tree
@@ -12,7 +12,7 @@ swap (inr b) = inl b
 
 module _ (registry : Entries) (n : ℕ) where
   module _ (f : Shape) (R : Bad) (r : Data → Read Tree) (E : (j : Data) → Exact (Within registry n f j) (R j) (r j)) where
-    -- ---- elements in a row
+    -- ---- sequences of elements
     abbrev AllWithin : Items → Trees → Type 0
     AllWithin ds ts = AllSpell registry ts f ds × (trees_depth ts ≤ n)
 
@@ -85,7 +85,7 @@ module _ (registry : Entries) (n : ℕ) where
     exact_option j = refused BadShape refl (λ t s. elim (option_is j t s) [ inl x ↦ x.0 | inr x ↦ x.1.0 ])
 
   module _ (f g : Shape) (Q R : Bad) (q r : Data → Read Tree) (D : (j : Data) → Exact (Within registry n f j) (Q j) (q j)) (E : (j : Data) → Exact (Within registry n g j) (R j) (r j)) where
-    -- ---- entries in a row
+    -- ---- sequences of entries
     abbrev PairWithin : Data → Tree × Tree → Type 0
     PairWithin j p = IfTwo (λ a b. Within registry n f a p.0 × Within registry n g b p.1) j
 

@@ -1,4 +1,4 @@
--- The first part that is refused is refused with the fault of the whole.
+-- The first part that is refused has the fault of the whole.
 use Rattle.bcs_json_spec.proofs.Prelude.{◌≡◌, ◌≢◌, ◌∙◌, ℕ, zero, suc, List, [], ◌∷◌, ◌++◌, codes, Option, None, Some, Ok, Err, Bool, true, false, ◌==◌, if◌then◌else◌, bytes_eq, All, refl, ap, sym, option_or, option_map_or, result_err, All-head, All-tail, Data, array, object, Items, no_items, Members, no_members, get_member, Shape, Shapes, no_shapes, shape, Field, Payload, Choice, Entries, choice_called, Tree, Trees, is_byte, JsonContent, of, fields, one_of, nothing, json_content_at, payload_content, PlaceIsRefusedAlone, item_count, shape_count, without, PointerStep, Target, value, entry, JsonPart, part, parts, item_parts, each_parts, entry_parts, field_parts, option_parts, seq_parts, map_parts, tuple_parts, array_parts, struct_parts, enum_parts, pair_parts, shape_parts, named_parts, IsGood, IsPlaceAmong, IsRefusedAlone, Read, follow, read_all, read_array, read_choice, read_content, read_data, read_each, read_enum, read_fields, read_map, read_member, read_named, read_option, read_pair, read_pairs, read_part, read_seq, read_struct, read_tuple, JsonFault, BadShape}
 use Rattle.serde_json.specs.Data as json
 use Rattle.bcs_registry_model.specs.Shape as shape
@@ -11,24 +11,24 @@ use Rattle.bcs_json_spec.proofs.Places.{among, Leads}
 no_some : {A P : Type 0} (x : A) → None ≡ Some x → P
 no_some x h = cc
 
--- what goes on without a fault has the faults of its beginning
+-- if the rest can't fail, the faults are those of the beginning
 done : {A B : Type 0} (x : Read A) (f : A → B) → result_err (follow x (λ a. Ok (f a))) ≡ result_err x
 done (Ok a) f = refl
 done (Err e) f = refl
 
--- two in a row
+-- two readings, one after the other
 both : {A B C : Type 0} (x : Read A) (y : Read B) (f : A → B → C) (o : Option JsonFault) (g : JsonFault) → (o ≡ Some g → result_err y ≡ Some g)
     → option_or (result_err x) o ≡ Some g → result_err (follow x (λ a. follow y (λ b. Ok (f a b)))) ≡ Some g
 both (Ok a) y f o g rest h = done y (f a) ∙ rest h
 both (Err e) y f o g rest h = h
 
 module _ (registry : Entries) (g : JsonFault) where
-  -- the first fault of the parts
+  -- the first fault among the parts
   abbrev first : List JsonPart → Option JsonFault
   first [] = None
   first (p ∷ ps) = option_or (fault_at registry p.left p.target p.json) (first ps)
 
-  -- parts whose first fault is the fault of what was read
+  -- the first fault among the parts, if there is one, is the fault of the reading
   abbrev ReportsFirst : {A : Type 0} → List JsonPart → Read A → Type 0
   ReportsFirst ps x = first ps ≡ Some g → result_err x ≡ Some g
 
@@ -124,7 +124,7 @@ module _ (registry : Entries) (g : JsonFault) where
         both (reads k a) (reads v b) (λ s t. (s, t)) (first (part d (item 1) (of v) b ∷ [])) g (one_part (part d (item 1) (of v) b) (reads v b) refl) h
     pair_report k v _ h = no_some g h
 
-    -- a name's, given those of what stands inside
+    -- a named container, given its contents
     module _ (named : (n : List ℕ) (j : Data) → ReportsFirst (named_parts registry d n j) (read_named registry d n j)) where
       shape_report : (s : Shape) (j : Data) → ReportsFirst (shape_parts d (named_parts registry d) s j) (reads s j)
       shape_report (shape.name n) j h = named n j h
@@ -147,7 +147,7 @@ module _ (registry : Entries) (g : JsonFault) where
       onward (parts registry d (value (json_content_at n registry)) j) (read_data registry d (json_content_at n registry) j) tree.named
       (content_report d (named_report d) (json_content_at n registry) j) h
 
-  -- the first fault of the parts is the fault
+  -- the first fault among the parts is the fault
   pub parts_report : (d : ℕ) (t : Target) (j : Data) → first (parts registry d t j) ≡ Some g → fault_at registry d t j ≡ Some g
   parts_report d (value f) j h = content_report d (named_report d) f j h
   parts_report d (entry k v) j h = pair_report d k v j h

@@ -7,7 +7,7 @@ heads x y xs ys h = cc
 tails : {X : Type 0} (x y : X) (xs ys : List X) → x ∷ xs ≡ y ∷ ys → xs ≡ ys
 tails x y xs ys h = cc
 
--- the first element that isn't good is one
+-- the first element that isn't good is unique
 same_first : {X : Type 0} (Good : X → Type 0) (f g : List X) (x y : X) (bs cs : List X) → f ++ x ∷ bs ≡ g ++ y ∷ cs
     → All Good f → ¬ Good x → All Good g → ¬ Good y → x ≡ y
 same_first Good [] [] x y bs cs h fs nx gs ny = heads x y bs cs h
@@ -15,7 +15,7 @@ same_first Good [] (b ∷ g) x y bs cs h fs nx gs ny = absurd (nx (subst Good (s
 same_first Good (a ∷ f) [] x y bs cs h fs nx gs ny = absurd (ny (subst Good (heads a y (f ++ x ∷ bs) cs h) (All-head Good a f fs)))
 same_first Good (a ∷ f) (b ∷ g) x y bs cs h fs nx gs ny = same_first Good f g x y bs cs (tails a b (f ++ x ∷ bs) (g ++ y ∷ cs) h) (All-tail Good a f fs) nx (All-tail Good b g gs) ny
 
--- a first element that isn't good is one of them
+-- the first element that isn't good is one of the elements
 pub among : {X : Type 0} (Good Faulty : X → Type 0) (xs : List X) (h : IsFirst Good Faulty xs) → Contains xs h.one
 among Good Faulty xs h = subst (λ ys. Contains ys h.one) (sym h.split) (Contains-append_right h.front (h.one ∷ h.back) h.one (0, omega arith, refl))
 
@@ -47,7 +47,7 @@ module _ (registry : Entries) where
         faulty = h.faulty;
       }
 
-  -- a way that goes on and one that doesn't
+  -- a path that ends here, and one that goes on
   not_both : (s : PointerStep) (path : List PointerStep) (ps : List JsonPart) → IsPlaceAmong registry [] ps → IsPlaceAmong registry (s ∷ path) ps → ⊥
   not_both s path ps good h = h.faulty.0 (All-contains (IsGood registry) ps h.one good (among (IsGood registry) (Leads s path) ps h))
 

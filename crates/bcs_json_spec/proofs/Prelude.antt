@@ -1,4 +1,4 @@
--- What the proofs use of other crates, and of this crate's definitions.
+-- Names from other crates and from this crate's definitions that the proofs share.
 pub use Rattle.std.proofs.Common.{[], All, ap, append-nil, append_assoc, ap₂, arith, Bool, bytes_eq, codes, cond, Contains, Decides, decimal, drop, Equal, Err, false, Float, get_or, Greater, if◌then◌else◌, inl, inr, IsTrue, IsUtf8, length, length-append, Less, List, map, max, nat_cmp, nat_eq, nat_lt, negsuc, None, not, Ok, Option, option_map, Ordering, pos, refl, Result, rules, Some, subst, suc, sym, take, true, true≢false, zero, ℕ, ℤ, ◌&&◌, ◌*◌, ◌++◌, ◌+◌, ◌-◌, ◌<◌, ◌==◌, ◌^◌, ◌∙◌, ◌∷◌, ◌≡◌, ◌≢◌, ◌≤◌, ◌⊎◌}
 pub use Rattle.std.proofs.Math.Nat.{le-max_left, le-max_right, max-le, pow-le-pow_right}
 pub use Rattle.std.proofs.lemmas.Bool.{and_from, and_parts, cases_Bool, cases_lt, eqb-true, false≢true, ltb-false, not-true, or_cases, or_from, or_left, or_parts, or_right}

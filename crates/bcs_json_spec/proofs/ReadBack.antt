@@ -1,4 +1,4 @@
--- What is shown of a value spells it.
+-- The JSON that a value is printed as spells the value.
 use Rattle.bcs_json_spec.proofs.Prelude.{◌≡◌, ◌∙◌, ℕ, suc, ℤ, pos, negsuc, List, [], ◌∷◌, ◌==◌, ◌&&◌, ◌^◌, nat_lt, Option, Some, None, Bool, true, false, if◌then◌else◌, refl, ap, sym, subst, signed_decimal, w8, option_map_or, false≢true, Decides-eqb, Decides-ltb, IsBytes, encode_lower, decode_of-encode_lower, Data, number, string, array, Members, of_integer, get_member-put, Field, Payload, newtype, tuple, Choice, Entries, choice_numbered, payload_shape, field_shapes, choice_called, Shape, Shapes, no_shapes, shape, IsWellFormed, fits, all_fit, each_fits, pairs_fit, are_bytes, Tree, Trees, no_trees, tree, Pairs, no_pairs, pair, count, ByteTextSpells, is_byte, byte_trees, trees_bytes, JsonContent, of, fields, one_of, json_content_at, payload_content, IfStringOrArray, IfThere, SpellsWhole, shown, shown_all, shown_each, shown_pairs, shown_fields, shown_choice, is_wide, Spells, AllSpell, EachSpells, PairsSpell, FieldsSpell, IsWordOf}
 use Rattle.bcs_registry_model.specs.Container as container
 use Rattle.bcs_registry_model.specs.Shape as shape
@@ -35,7 +35,7 @@ module _ (registry : Entries) where
       let x = bytes_again ts h in (trees_bytes ts, decode_of-encode_lower (trees_bytes ts) (are_bytes_is (trees_bytes ts) x.1), x.0)
   text_back _ ts is h = absurd (false≢true is)
 
-  -- a list by its text, or by its elements
+  -- a list, as a string or as an array
   list_back : (b : Bool) (s : Shape) (ts : Trees) → is_byte s ≡ b → all_fit false registry ts s ≡ true → AllSpell registry ts s (shown_all registry ts s)
       → IfStringOrArray (λ r. ByteTextSpells b r ts) (AllSpell registry ts s) (if b then string (encode_lower (trees_bytes ts)) else array (shown_all registry ts s))
   list_back true s ts is h each = text_back s ts is h
@@ -51,7 +51,7 @@ module _ (registry : Entries) where
   no_variant n t shape.unit h = absurd (false≢true h)
   no_variant n t _ h = absurd (false≢true h)
 
-  -- a variant spells as its payload does
+  -- a variant is spelled if its payload is
   choice_back : (n : ℕ) (t : Tree) (cs : List Choice) (name : List ℕ) (p : Payload) → choice_called name cs ≡ Some (n, (name, p)) → fits false registry t (unnamed (payload_content p)) ≡ true
       → Spells registry t (payload_content p) (shown registry t (payload_content p))
       → Spells registry (tree.variant n t) (one_of cs) (shown_choice (shown registry t) (Some (name, p)))
@@ -75,7 +75,7 @@ module _ (registry : Entries) where
 
   -- ---- structs
 
-  -- the first field's member is found, and what is left spells the others
+  -- the first field's member is found, and the others spell the other fields
   field_back : (t : Tree) (ts : Trees) (f : Field) (fs : List Field) → has_names (fields (f ∷ fs)) ≡ true → Spells registry t (of f.1) (shown registry t (of f.1))
       → FieldsSpell registry ts fs (shown_fields registry ts fs) → FieldsSpell registry (tree t ts) (f ∷ fs) (shown_fields registry (tree t ts) (f ∷ fs))
   field_back t ts f fs names w each =
@@ -133,6 +133,6 @@ module _ (registry : Entries) (well : IsWellFormed registry) where
         (fields_back ts fs (ap (λ b. b && true) (later_names f fs (and_left _ _ names))) (and_right (fits false registry t (container.of f.1)) _ h))
     fields_back _ _ _ h = absurd (false≢true h)
 
--- in a well-formed registry what is shown of a value spells it
+-- in a well-formed registry, the JSON of a value spells it
 pub spelled_back : (registry : Entries) (s : Shape) (t : Tree) → IsWellFormed registry → fits false registry t (container.of s) ≡ true → Spells registry t (of s) (shown registry t (of s))
 spelled_back registry s t well h = back registry well t (of s) refl h

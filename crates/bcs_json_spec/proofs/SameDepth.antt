@@ -1,4 +1,4 @@
--- What is shown of a value nests no deeper than what is shown of any tree that is the same value.
+-- The JSON of a value nests no deeper than the JSON of any equal value.
 use Rattle.bcs_json_spec.proofs.Prelude.{◌≡◌, ℕ, inl, inr, ◌≤◌, max, List, [], ◌∷◌, ◌&&◌, ◌==◌, Option, Some, None, Bool, true, false, if◌then◌else◌, refl, ap, sym, subst, arith, max-le, le-max_left, le-max_right, signed_decimal, false≢true, or_cases, encode_lower, Data, number, whole, string, array, Items, no_items, item, Members, put, depth, items_depth, members_depth, get_member, of_integer, Field, Payload, newtype, tuple, Entries, choice_numbered, Shape, Shapes, no_shapes, shape, IsWellFormed, nat-same, same, all_same, is_within, has_pair, all_pairs, Tree, Trees, no_trees, tree, Pairs, no_pairs, pair, is_byte, trees_bytes, JsonContent, of, fields, one_of, json_content_at, payload_content, ShownIsReadBack, shown, shown_all, shown_each, shown_pairs, shown_fields, shown_choice, is_wide}
 use Rattle.std.specs.Fmt.{decimal}
 use Rattle.bcs_registry_model.specs.Container as container
@@ -10,7 +10,7 @@ use Rattle.bcs_json_spec.proofs.Lowest.{pair_under, put_depth, shown_is_lowest}
 use Rattle.bcs_json_spec.proofs.Members.{put_own_depth, put_others_depth, new_field, later_names}
 use Rattle.bcs_json_spec.proofs.ReadBack.{spelled_back}
 
--- ---- parts in a row
+-- ---- sequences of parts
 
 both_under : (a b c d : ℕ) → a ≤ c → b ≤ d → max a b ≤ max c d
 both_under a b c d h g = max-le (omega (arith, h, le-max_left c d)) (omega (arith, g, le-max_right c d))
@@ -45,7 +45,7 @@ choice_depth show other (Some (name, container.fields fs)) h =
 -- ---- trees
 
 module _ (registry : Entries) (well : IsWellFormed registry) where
-  -- an entry beside those of which one is the same
+  -- an entry, and a list of entries that contains an equal one
   matched : (k v : Shape) (l w : Tree) (ps : Pairs) → ((m : Tree) → same m l ≡ true → depth (shown registry l (of k)) ≤ depth (shown registry m (of k)))
       → ((x : Tree) → same x w ≡ true → depth (shown registry w (of v)) ≤ depth (shown registry x (of v))) → has_pair ps l w ≡ true
       → depth (array (item (shown registry l (of k)) (item (shown registry w (of v)) no_items))) ≤ items_depth (shown_pairs registry ps k v)

@@ -1,5 +1,5 @@
--- What is shown of a value can be written: its compact text is read as just that. Its names and strings are UTF-8, if P
--- and where the registry's names are.
+-- The JSON of a value can be written: its compact text is read as exactly this JSON. If `P` and the names of the
+-- registry are UTF-8, so are its names and strings.
 use Rattle.bcs_json_spec.proofs.Prelude.{◌≡◌, ◌∙◌, ℕ, suc, ℤ, pos, negsuc, ◌^◌, ◌<◌, ◌≤◌, ◌==◌, ◌&&◌, List, [], ◌∷◌, Bool, true, false, cond, if◌then◌else◌, Some, Ok, Ordering, Less, Equal, Greater, IsUtf8, arith, codes, decimal, nat_cmp, nat_lt, refl, ap, sym, subst, pow-le-pow_right, false≢true, ltb-false, Decides-ltb, nat_list_cmp_total, IsAscii-decimal_wide, IsUtf8-append, IsUtf8-from_ascii, IsUtf8-from_is_utf8, IsAscii-from_all, slice_cmp, signed_decimal, Width, w8, byte_len, IsStrictlySortedBy, option_map_or, match_ordering, decode_of, encode_lower, is_hex_digit, decode_of-encode_lower, decode_of-ok, IsUtf8-are_ascii, Data, number, whole, string, Members, no_members, member, put, of_integer, bits, IsSigned, holds_signed, holds_unsigned, width_bytes, bits_most, half_most, holds_signed-is, two_halves, Choice, Entries, Field, Payload, choice_numbered, field_shapes, newtype, payload_shape, tuple, Shape, Shapes, shape, single, NamesRise, names_put, names_of, sorted_inserted, all_fit, are_bytes, each_fits, fits, pairs_fit, Pairs, Tree, Trees, count, no_pairs, no_trees, pair, tree, is_byte, trees_bytes, JsonContent, fields, json_content_at, of, one_of, payload_content, is_wide, shown, shown_all, shown_choice, shown_each, shown_fields, shown_pairs}
 use Rattle.bcs_registry_model.specs.Container as container
 use Rattle.bcs_registry_model.specs.Shape as shape
@@ -21,7 +21,7 @@ digit_is_ascii c h = grind (arith)
 hex_text : (s b : List ℕ) → decode_of s ≡ Ok b → IsUtf8 s
 hex_text s b is = IsUtf8-from_ascii s (IsAscii-from_all s (λ k d within. digit_is_ascii _ ((decode_of-ok s b is).1 k d within)))
 
--- the digits of bytes
+-- hexadecimal digits
 hex_utf8 : (b : List ℕ) → are_bytes b ≡ true → IsUtf8 (encode_lower b)
 hex_utf8 b h = hex_text (encode_lower b) b (decode_of-encode_lower b (are_bytes_is b h))
 
@@ -34,7 +34,7 @@ pub narrow : (w : Width) → is_wide w ≡ false → 2 ^ bits w ≤ 2 ^ 32
 narrow w is = subst (λ n. n ≤ 2 ^ 32) (sym (width_bytes w)) (pow-le-pow_right {n = 256} (omega arith) {i = byte_len w} {j = 4} (ltb-false 4 (byte_len w) is))
 
 module _ (P : Type 0) where
-  -- a number of a width, or its text
+  -- an integer, as a number or as a string
   unsigned_at : (b : Bool) (w : Width) (n : ℕ) → is_wide w ≡ b → n < 2 ^ bits w → IsWritable P (if b then string (decimal n) else number (whole n))
   unsigned_at true w n is h = λ p. digits_utf8 n (omega (arith, h, bits_most w))
   unsigned_at false w n is h = omega (arith, h, narrow w is)
@@ -79,7 +79,7 @@ module _ (P : Type 0) where
 
   -- ---- variants
 
-  -- a variant's name alone, or an object with what it carries
+  -- the name of a variant, alone or with its payload
   choice_writable : (show : JsonContent → Data) (name : List ℕ) (q : Payload) → (P → IsUtf8 name) → IsWritable P (show (payload_content q)) → IsWritable P (shown_choice show (Some (name, q)))
   choice_writable show name container.unit h k = h
   choice_writable show name (newtype s) h k = single_writable name (show (of s)) h k
@@ -149,6 +149,6 @@ module _ (P : Type 0) where
           (fields_writable ts fs (λ p. (n p).1) (and_right (fits false registry t (container.of f.1)) _ h))
       fields_writable _ _ n h = no_names
 
-    -- what is shown of a value of the format
+    -- the JSON of a value of the format
     pub shown_writable : (s : Shape) (t : Tree) → fits false registry t (container.of s) ≡ true → IsWritable P (shown registry t (of s))
     shown_writable s t h = writable t (of s) (λ p. tt) h

@@ -1,4 +1,4 @@
--- JSON has a place, since each part nests less deep than it does.
+-- Refused JSON has a place, since each part nests less deep than the whole.
 use Rattle.bcs_json_spec.proofs.Prelude.{◌≡◌, ◌∙◌, ℕ, zero, suc, ◌<◌, ◌≤◌, max, List, [], ◌∷◌, codes, Option, None, Some, Bool, true, false, ◌==◌, if◌then◌else◌, bytes_eq, All, refl, sym, arith, le-max_left, le-max_right, option_map_or, All-nil, All-cons, All-head, All-tail, none-some, Data, array, object, Items, no_items, Members, no_members, depth, items_depth, members_depth, get_member, Shape, Shapes, no_shapes, shape, Field, Choice, Entries, choice_called, JsonContent, of, fields, one_of, nothing, json_content_at, payload_content, SomePlace, item_count, shape_count, without, PointerStep, Target, value, entry, JsonPart, part, parts, item_parts, each_parts, entry_parts, field_parts, option_parts, seq_parts, map_parts, tuple_parts, array_parts, struct_parts, enum_parts, pair_parts, named_parts, IsPlaceAmong}
 use Rattle.serde_json.specs.Data as json
 use Rattle.bcs_registry_model.specs.Shape as shape
@@ -16,7 +16,7 @@ below_right a b h = omega (arith, le-max_right a b, h)
 abbrev IsUnder : ℕ → JsonPart → Type 0
 IsUnder n p = depth p.json < n
 
--- each nests less deep than so
+-- all parts nest less deep than `n`
 abbrev Under : ℕ → List JsonPart → Type 0
 Under n = All (IsUnder n)
 

@@ -1,4 +1,4 @@
--- What texts denote, and that it is not refused.
+-- What texts denote; and that such texts aren't refused.
 use Rattle.bcs_json_spec.proofs.Prelude.{◌≡◌, ◌∙◌, ℕ, ◌≤◌, List, sym, subst, arith, same_Some, Data, depth, Entries, IsJson, Shape, Bounds, Tree, LengthsHold, HasDistinctKeys, of, DenotesOnce, DenotedIsNotRefused, Refuses, Spells, nesting_limit, Denotes, SpelledBy, Misspells, JsonFault, NotJson, TooNested, TooManyNodes, TooLong, RepeatedKey, OutOfMemory}
 use Rattle.bcs_value_model.specs.Tree as tree
 use Rattle.bcs_json_spec.proofs.Verdict.{one_tree, one_verdict}

@@ -1,4 +1,4 @@
--- The content at a place in JSON as a `Content`, which has no names of fields. Proofs use it to get from JSON to bytes.
+-- A `JsonContent` as a `Content`, which has no names of fields. Proofs use it to get from JSON to bytes.
 use Rattle.bcs_json_spec.proofs.Prelude.{◌≡◌, List, ℕ, Option, Some, None, refl, option_map_or, tuple_shape, Payload, newtype, tuple, payload_shape, Container, unit_struct, newtype_struct, tuple_struct, field_struct, enumeration, Entries, Content, content, container_at, content_at, field_shapes, JsonContent, of, fields, one_of, nothing, json_content, json_content_at, payload_content}
 use Rattle.bcs_registry_model.specs.Container as container
 

@@ -1,4 +1,4 @@
--- What a string of a UTF-8 text stands for is UTF-8.
+-- The strings in a UTF-8 text are UTF-8, once escapes are decoded.
 use Rattle.bcs_json_spec.proofs.Prelude.{◌≡◌, ◌∙◌, ℕ, ◌+◌, ◌*◌, ◌<◌, ◌==◌, ◌&&◌, nat_lt, cond, Bool, true, false, List, [], ◌∷◌, ◌++◌, length, drop, get_or, Option, Some, None, IsUtf8, append_assoc, append-nil, length-append, arith, refl, sym, ap, subst, and_parts, eqb-true, drop_at, take_at, IsCharBoundary-after_ascii, IsCharBoundary-before_ascii, IsUtf8-append, IsUtf8-drop, IsUtf8-encode, IsUtf8-from_ascii, IsUtf8-take, IsAscii-cons, IsAscii-nil, IsScalar, digit_value, encode_utf8, is_digit, option_and_then, after_backslash, after_high, after_u, code_unit, is_high_surrogate, is_low_surrogate, plain, prepend, short_escape, surrogate_pair}
 use Rattle.json.specs.Text.{content}
 
@@ -12,13 +12,13 @@ module _ (p : List ℕ) (x : ℕ) (xs : List ℕ) (small : x < 128) (utf8 : IsUt
   within : length p < length (p ++ x ∷ xs)
   within = omega (arith, length-append p (x ∷ xs))
 
-  -- what stands before it is UTF-8
+  -- the bytes before it are UTF-8
   pub utf8_before : IsUtf8 p
   utf8_before =
       subst IsUtf8 (take_at p (x ∷ xs) (length p) refl)
       (IsUtf8-take (p ++ x ∷ xs) (length p) utf8 (IsCharBoundary-before_ascii (p ++ x ∷ xs) (length p) within (omega (arith, small, at_seam p))))
 
-  -- and so is what stands after it
+  -- and so are the bytes after it
   pub utf8_after : IsUtf8 xs
   utf8_after =
       let whole : drop (length p + 1) (p ++ x ∷ xs) ≡ xs =
@@ -30,7 +30,7 @@ one_ascii c small = IsUtf8-from_ascii (c ∷ []) (IsAscii-cons c [] small IsAsci
 
 -- ---- escapes
 
--- a short escape is an ASCII byte that stands for one
+-- a short escape is an ASCII character that represents another
 short_is_ascii : (x c : ℕ) → short_escape x ≡ Some c → (x < 128) × (c < 128)
 unfolding short_escape
 short_is_ascii x c h = grind (arith)
@@ -38,7 +38,7 @@ short_is_ascii x c h = grind (arith)
 digit_is_ascii : (a : ℕ) → is_digit a 16 ≡ true → (a < 128) × (digit_value a < 16)
 digit_is_ascii a h = grind (arith)
 
--- four hexadecimal digits, and the number that they write
+-- four hexadecimal digits, and their value
 record IsUnit (a b c d u : ℕ) : Type 0 where
   first : a < 128
   second : b < 128
@@ -64,7 +64,7 @@ unit_is a b c d u h = at (is_digit a 16 && is_digit b 16 && is_digit c 16 && is_
         let s = digit_is_ascii d l.1 in
         record { first = p.0; second = q.0; third = r.0; fourth = s.0; small = omega (arith, value, p.1, q.1, r.1, s.1) }
 
--- what is no half of a pair is a character, and so is a pair
+-- a unit that isn't a surrogate is a character, and so is a pair of surrogates
 lone_is_scalar : (u : ℕ) → u < 65536 → is_high_surrogate u ≡ false → is_low_surrogate u ≡ false → IsScalar u
 lone_is_scalar u small high low = grind (arith)
 
@@ -73,7 +73,7 @@ pair_is_scalar h l high low = grind (arith)
 
 -- ---- the content
 
--- after p, what was read is UTF-8
+-- what was read after `p` is UTF-8
 abbrev Utf8After : List ℕ → Option (List ℕ) → Type 0
 Utf8After p None = Unit {0}
 Utf8After p (Some s) = IsUtf8 (p ++ s)
@@ -111,7 +111,7 @@ pair_step : (p : List ℕ) (h l : ℕ) (b : Bool) (rest : Option (List ℕ)) →
 pair_step p h l true rest u high low more = appended p (encode_utf8 (surrogate_pair h l)) rest u (IsUtf8-encode (surrogate_pair h l) (pair_is_scalar h l high low)) more
 pair_step p h l false rest u high low more = tt
 
--- what follows two such units, where they are
+-- what follows a unit, if there is one
 after_unit : (p : List ℕ) (o : Option ℕ) (f : ℕ → Option (List ℕ)) → ((u : ℕ) → o ≡ Some u → Utf8After p (f u)) → Utf8After p (option_and_then f o)
 after_unit p None f h = tt
 after_unit p (Some u) f h = h u refl
@@ -120,7 +120,7 @@ where_true : (p : List ℕ) (b : Bool) (o : Option (List ℕ)) → (b ≡ true �
 where_true p true o h = h refl
 where_true p false o h = tt
 
--- four ASCII bytes at the front
+-- removes four ASCII bytes from the front
 four_gone : (a b c d : ℕ) (xs : List ℕ) → a < 128 → b < 128 → c < 128 → d < 128 → IsUtf8 (a ∷ b ∷ c ∷ d ∷ xs) → IsUtf8 xs
 four_gone a b c d xs h i j k utf8 = utf8_after [] d xs k (utf8_after [] c (d ∷ xs) j (utf8_after [] b (c ∷ d ∷ xs) i (utf8_after [] a (b ∷ c ∷ d ∷ xs) h utf8)))
 
@@ -174,6 +174,6 @@ mutual
       pair_step p h l (is_low_surrogate l) (content plain xs) before high refl
       (plain_utf8 [] xs (four_gone a b c d xs unit.first unit.second unit.third unit.fourth digits))))
 
--- the content of what follows a quotation mark
+-- the content of a string, after its quotation mark
 pub content_utf8 : (xs s : List ℕ) → IsUtf8 xs → content plain xs ≡ Some s → IsUtf8 s
 content_utf8 xs s utf8 is = subst (Utf8After []) is (plain_utf8 [] xs utf8)

@@ -1,4 +1,4 @@
--- The names of fields and variants are UTF-8 in a registry that a text writes down.
+-- In a registry that was read from a text, the names of fields and variants are UTF-8.
 use Rattle.bcs_json_spec.proofs.Prelude.{◌≡◌, ◌∙◌, ◌^◌, ℕ, ◌<◌, List, [], ◌∷◌, Bool, true, false, bytes_eq, cond, Some, None, Ordering, Less, Equal, Greater, IsUtf8, decimal, nat_cmp, nat_lt, refl, subst, Decides-ltb, nat_cmp_is, slice_cmp, AllByRecursion, list_all, IsStrictlySortedBy, keys_of, option_map_or, match_ordering, Data, Members, no_members, member, put, get_member, get_member-put, get_member-put_other, Choice, Container, Entries, Field, Payload, container_at, enumeration, field_struct, newtype_struct, tuple_struct, unit_struct, IsInRange, shown_choices, shown_container, shown_containers, shown_struct, shown_payload, single, WritesRegistry, texts_differ, JsonContent, fields, json_content, json_content_at, nothing, one_of, payload_content, without}
 use Rattle.bcs_registry_model.specs.Container as container
 use Rattle.bcs_json_spec.proofs.Fitting.{and_left, and_right}
@@ -19,7 +19,7 @@ abbrev pub ChoiceNames : List Choice → Type 0
 ChoiceNames [] = Unit {0}
 ChoiceNames (c ∷ cs) = IsUtf8 c.1.0 × PayloadNames c.1.1 × ChoiceNames cs
 
--- the names of what stands at a place are UTF-8
+-- the names in a content are UTF-8
 abbrev pub HasNames : JsonContent → Type 0
 HasNames (fields fs) = FieldNames fs
 HasNames (one_of cs) = ChoiceNames cs
@@ -39,7 +39,7 @@ found_names name (e ∷ es) h = at (bytes_eq name e.0) (found_names name es h.1)
     at true later = h.0
     at false later = later
 
--- what stands under a name
+-- the content of a container
 pub content_names : (name : List ℕ) (registry : Entries) → EachHasNames registry → HasNames (json_content_at name registry)
 content_names name registry h = found_names name registry h
 
@@ -49,7 +49,7 @@ payload_names (container.newtype s) h = tt
 payload_names (container.tuple ss) h = tt
 payload_names (container.fields fs) h = h
 
--- ---- read in a text
+-- ---- reading a text
 
 fields_read : (fs : List Field) → ItemsHaveUtf8 (shown_struct fs) → FieldNames fs
 fields_read [] h = tt
@@ -114,6 +114,6 @@ containers_read : (registry : Entries) → AllByRecursion (λ e. IsInRange e.1) 
 containers_read [] ranges h = tt
 containers_read (e ∷ es) ranges h = (container_read e.1 ranges.0 h.1, containers_read es ranges.1 h.2)
 
--- the names of a registry that a text writes down
+-- the names in a registry that was read from a text
 pub written_names : (text : List ℕ) (registry : Entries) → WritesRegistry text registry → EachHasNames registry
 written_names text registry w = containers_read registry w.2.orderly.containers (subst HasUtf8 w.2.is (read_utf8 text w.0 w.1))

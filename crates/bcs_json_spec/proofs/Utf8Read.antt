@@ -1,4 +1,4 @@
--- The names and strings of what serde_json reads in a UTF-8 text are UTF-8.
+-- The names and strings that serde_json reads from a UTF-8 text are UTF-8.
 use Rattle.bcs_json_spec.proofs.Prelude.{◌≡◌, ℕ, zero, suc, ◌-◌, ◌==◌, ◌&&◌, cond, Bool, true, false, List, [], ◌∷◌, ◌++◌, drop, length, take, nat_eq, Option, Some, None, Ordering, Less, Equal, Greater, IsUtf8, append_assoc, nat_cmp, arith, option_map, refl, sym, subst, eqb-true, slice_cmp, match_ordering, option_and_then, starts_with, Json, Parse, parse_map, after_end_array, read_key, items_step, members_step, value_with, Class, Lexeme, Mode, Place, after_comma, after_key, after_value, backslash, begins_colon, between, class, colon, comma, fresh, if_allowed, in_escape, in_string, in_word, lex, lex_byte, may_begin, may_close, operator, operator_lexeme, other, place_token, punctuate, quote, space, string_token, token, tokens, plain, Token, after_number, ends_word, head, is_operator, is_space, literal, number_before, word, Data, number, string, array, object, Items, no_items, item, Members, no_members, member, put, max_depth, number_of, of_items, of_json, of_members, IsJson}
 use Rattle.json.specs.Ascii as ascii
 use Rattle.json.specs.Json as json
@@ -7,7 +7,7 @@ use Rattle.bcs_json_spec.proofs.Utf8Contents.{content_utf8, utf8_after}
 
 -- ---- tokens
 
--- a key's or a string's bytes are UTF-8
+-- the bytes of a key or a string are UTF-8
 abbrev IsToken : Token → Type 0
 IsToken (Token.key s) = IsUtf8 s
 IsToken (Token.string s) = IsUtf8 s
@@ -37,7 +37,7 @@ number_token t (Some rest) = either_token (ends_word rest) (Token.number (take (
 literal_token : (name : List ℕ) (u : Token) (t : List ℕ) → IsToken u → IsToken (literal name u t)
 literal_token name u t h = either_token (starts_with nat_eq t name && ends_word (drop (length name) t)) u Token.bad h tt
 
--- a word is no string
+-- a literal isn't a string
 word_token : (t : List ℕ) → IsToken (word t)
 unfolding word
 word_token t =
@@ -73,7 +73,7 @@ class_is_quote false false true e h = absurd cc
 class_is_quote false false false true h = absurd cc
 class_is_quote false false false false h = absurd cc
 
--- a byte, before whose rest every mode's lexemes are good
+-- one byte, if the lexemes of the rest are good in every mode
 byte_lexemes : (m : Mode) (c : Class) (x : ℕ) (xs : List ℕ) (k : Mode → List Lexeme) → ((n : Mode) → AreLexemes (k n)) → (c ≡ quote → IsUtf8 xs) → AreLexemes (lex_byte m c x xs k)
 byte_lexemes between quote x xs k rest utf8 = (string_read xs (content plain xs) refl (utf8 refl), rest in_string)
 byte_lexemes between backslash x xs k rest utf8 = (tt, rest in_word)
@@ -92,7 +92,7 @@ byte_lexemes in_string space x xs k rest utf8 = rest in_string
 byte_lexemes in_string other x xs k rest utf8 = rest in_string
 byte_lexemes in_escape c x xs k rest utf8 = rest in_string
 
--- the lexemes of what follows p in a UTF-8 text
+-- the lexemes after `p` in a UTF-8 text
 lexemes : (p xs : List ℕ) → IsUtf8 (p ++ xs) → (m : Mode) → AreLexemes (lex m xs)
 unfolding lex
 lexemes p [] utf8 m = tt
@@ -157,7 +157,7 @@ abbrev mutual
   MembersGood json.no_members = Unit {0}
   MembersGood (json.member k j ms) = IsUtf8 k × IsGood j × MembersGood ms
 
--- what was parsed is good, and so are the tokens that are left
+-- what was parsed is good, and so are the remaining tokens
 abbrev Parsed : {A : Type 0} → (A → Type 0) → Option (A × List Token) → Type 0
 Parsed P None = Unit {0}
 Parsed P (Some x) = P x.0 × AreTokens x.1
@@ -169,7 +169,7 @@ parsed_map : {A B : Type 0} (P : A → Type 0) (Q : B → Type 0) (f : A → B) 
 parsed_map P Q f h None k = tt
 parsed_map P Q f h (Some x) k = (h x.0 k.0, k.1)
 
--- a value, and then more
+-- a value, followed by more
 then_more : {B : Type 0} (Q : B → Type 0) (f : Json → B → B) → ((j : Json) (b : B) → IsGood j → Q b → Q (f j b)) → (more : Parse B) → Parses Q more
     → (o : Option (Json × List Token)) → Parsed IsGood o → Parsed Q (option_and_then (λ x. parse_map (f x.0) (more x.1)) o)
 then_more Q f h more rest None k = tt
@@ -193,7 +193,7 @@ after_end (Token.boolean b ∷ ts) h = tt
 after_end (Token.null ∷ ts) h = tt
 after_end (Token.bad ∷ ts) h = tt
 
--- a key, where one stands
+-- a key, if there is one
 abbrev IsKey : Option (List ℕ) → Type 0
 IsKey None = Unit {0}
 IsKey (Some k) = IsUtf8 k
@@ -251,7 +251,7 @@ value_good (suc d) =
     one_level (λ ts. json.items (json.value d) (length ts) ts) (λ ts. json.members (json.value d) (length ts) ts)
     (λ ts. items_good (json.value d) (value_good d) (length ts) ts) (λ ts. members_good (json.value d) (value_good d) (length ts) ts)
 
--- ---- what is made of it
+-- ---- conversion to data
 
 abbrev mutual
   -- names and strings are UTF-8
@@ -319,7 +319,7 @@ last_good None h = tt
 last_good (Some (j, [])) h = h.0
 last_good (Some (j, t ∷ ts)) h = tt
 
--- the names and strings that are read in a text are UTF-8
+-- the names and strings that are read from a text are UTF-8
 pub read_utf8 : (text : List ℕ) (d : Data) → IsJson text d → HasUtf8 d
 read_utf8 text d is =
     subst (MayHave HasUtf8) is.1

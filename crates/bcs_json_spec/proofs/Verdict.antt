@@ -1,4 +1,4 @@
--- What is read is what is spelled, and what is refused is refused: at each format, and within so many containers.
+-- JSON is read exactly if it is spelled, and refused exactly if it is refused, for each format and limit of containers.
 use Rattle.bcs_json_spec.proofs.Prelude.{◌≡◌, ◌∙◌, ◌⊎◌, inl, inr, ℕ, zero, suc, ◌≤◌, max, List, [], ◌∷◌, true, Ok, Err, Option, Some, None, refl, ap, subst, arith, max-le, le-max_left, le-max_right, Data, string, object, Items, no_items, item, Members, no_members, member, get_member, Field, Choice, Payload, newtype, tuple, Entries, choice_called, Shape, Shapes, no_shapes, shape, Tree, Trees, no_trees, tree, trees_depth, JsonContent, of, fields, one_of, nothing, json_content_at, payload_content, OneTree, OneVerdict, IfObject, IfWordOrOne, IfThere, item_count, shape_count, without, Read, read_shape, read_each, read_member, read_fields, read_struct, read_part, read_word, read_choice, read_enum, read_content, read_named, read_data, Bad, ShapeRefuses, EachRefuses, MemberRefuses, FieldsRefuse, StructRefuses, PartRefuses, WordRefuses, ChoiceRefuses, EnumRefuses, ContentRefuses, NameRefuses, Refuses, Spells, FieldsSpell, SpellsWithin, IsWordOf, JsonFault, BadShape, UnknownField, MissingField, UnknownVariant, TooDeep}
 use Rattle.bcs_registry_model.specs.Container as container
 use Rattle.bcs_registry_model.specs.Shape as shape
@@ -49,7 +49,7 @@ module _ (registry : Entries) (n : ℕ) where
   struct_is fs j (tree.items ts) s = (ts, s, refl)
   struct_is fs j _ s = absurd s.0
 
-  -- a variant's name alone, or with what it carries
+  -- the name of a variant, alone or with its payload
   abbrev WordWithin : Option Choice → Tree → Type 0
   WordWithin o t = (m : ℕ) × (u : Tree) × (IfThere (IsWordOf m u) o × (depth u ≤ n)) × (tree.variant m u ≡ t)
 
@@ -72,7 +72,7 @@ module _ (registry : Entries) (n : ℕ) where
   exact_word (Some (m, (r, tuple fs))) = refuses (refused BadShape refl (λ t w. let other = w.2.0.1 in cc)) (λ e x. ((λ p. cc), x)) (λ e x. x.1)
   exact_word (Some (m, (r, container.fields fs))) = refuses (refused BadShape refl (λ t w. let other = w.2.0.1 in cc)) (λ e x. ((λ p. cc), x)) (λ e x. x.1)
 
-  -- named reads what a name stands for, N is what a name refuses with
+  -- `named` reads a named container, and `N` is how it is refused
   module _ (named : List ℕ → Data → Read Tree) (N : List ℕ → Bad) (H : (m : List ℕ) (j : Data) → Exact (Within registry n (shape.name m) j) (N m j) (named m j)) where
     -- ---- formats
     mutual
@@ -91,7 +91,7 @@ module _ (registry : Entries) (n : ℕ) where
       exact_shape (shape.tuple fs) = exact_tuple registry n fs (EachRefuses In N fs) (read_each named fs) (exact_each fs)
       exact_shape (shape.array f m) = exact_array registry n f (ShapeRefuses In N f) (read_shape named f) (exact_shape f) m
 
-      -- so many items as formats
+      -- as many items as formats
       exact_each : (fs : Shapes) (ds : Items) → item_count ds ≡ shape_count fs → Exact (EachWithin registry n fs ds) (EachRefuses In N fs ds) (read_each named fs ds)
       exact_each no_shapes no_items c = done no_trees (tt, omega arith) each_none
       exact_each no_shapes (item d ds) c = absurd (omega (arith, c))
@@ -160,7 +160,7 @@ module _ (registry : Entries) where
 pub exact_data : (registry : Entries) (n : ℕ) (f : JsonContent) (j : Data) → Exact (SpellsWithin registry n f j) (Refuses registry n f j) (read_data registry n f j)
 exact_data registry n f = exact_content registry n (read_named registry n) (NameRefuses registry n) (exact_named registry n) f
 
--- what spells no tree is refused for what it is alone: never for its text, for its nesting, or for the value
+-- JSON that spells no tree is refused for its content, and not for its syntax, its nesting, or the value
 pub walk_fault : (registry : Entries) (d : ℕ) (f : JsonContent) (j : Data) (e : JsonFault) → Refuses registry d f j e → is_walk_fault e ≡ true
 walk_fault registry d f j = (exact_data registry d f j).walks
 

@@ -1,4 +1,4 @@
--- What the definitions say of some texts, by computation.
+-- Examples: the definitions, evaluated on some JSON.
 use Rattle.bcs_json_spec.proofs.Prelude.{◌≡◌, ℕ, negsuc, [], ◌∷◌, codes, Ok, Err, true, Float, refl, rules, w8, w16, w128, IsUtf8-from_ascii, is_utf8-from_IsUtf8, is_utf8, hex_on_literals, Data, whole, negative, float, null, boolean, number, string, array, object, no_items, item, Members, no_members, member, newtype, newtype_struct, Shape, no_shapes, shape, float64, Tree, unit, truth, signed, text, bytes, absent, present, items, variant, pairs, no_trees, tree, no_pairs, pair, JsonContent, of, fields, one_of, Read, read_data, read_unsigned, read_signed, read_hex, shown, Unsupported, BadShape, BadNumber, BadHex, UnknownField, MissingField, UnknownVariant, TooDeep}
 use Rattle.bcs_registry_model.specs.Container as container
 use Rattle.bcs_registry_model.specs.Shape as shape
@@ -19,7 +19,7 @@ list1 a = array (item a no_items)
 abbrev list2 : Data → Data → Data
 list2 a b = array (item a (item b no_items))
 
--- ---- whole numbers
+-- ---- integers
 
 negative_number : at (of (shape.signed w16)) (number (negative (negsuc 4659))) ≡ Ok (signed (negsuc 4659))
 unfolding read_signed
@@ -29,7 +29,7 @@ above_the_range : at (of u8) (n 256) ≡ Err BadNumber
 unfolding read_unsigned
 above_the_range = refl
 
--- a number of more than 64 bits is held as a float
+-- a number of more than 64 bits is represented as a float
 held_as_float : (x : Float) → at (of (shape.unsigned w128)) (number (float x)) ≡ Err BadNumber
 unfolding read_unsigned
 held_as_float x = refl
@@ -41,7 +41,7 @@ no_number = refl
 whatever_stands_there : at (of (shape.unsupported float64)) (n 0) ≡ Err Unsupported
 whatever_stands_there = refl
 
--- ---- options in one another
+-- ---- nested options
 
 abbrev option2 : JsonContent
 option2 = of (shape.option (shape.option shape.truth))
@@ -114,7 +114,7 @@ odd_hex : at struct (object (members (string (codes "c0d")))) ≡ Err BadHex
 unfolding hex_on_literals read_hex
 odd_hex = refl
 
--- the first field decides, though others are missing
+-- the first field decides, although others are missing
 first_field_decides : at struct (object (member (codes "boolean") (n 1) no_members)) ≡ Err BadShape
 first_field_decides = refl
 
@@ -165,7 +165,7 @@ lists_shown = refl
 tuple_is_no_list : at (of (shape.tuple (shape u8 (shape u8 no_shapes)))) (string (codes "0102")) ≡ Err BadShape
 tuple_is_no_list = refl
 
--- ---- maps: the pairs as they stand
+-- ---- maps: pairs in the order given
 
 map_in_a_key : at (of (shape.map (shape.map u8 u8) u8)) (list1 (list2 (list2 (list2 (n 3) (n 4)) (list2 (n 1) (n 2))) (n 9)))
     ≡ Ok (pairs (pair (pairs (pair (unsigned 3) (unsigned 4) (pair (unsigned 1) (unsigned 2) no_pairs))) (unsigned 9) no_pairs))

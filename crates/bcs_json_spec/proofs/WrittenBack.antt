@@ -1,4 +1,4 @@
--- serde_json reads its compact text of a value back as that value. Where names and strings needn't be UTF-8, P is ⊥.
+-- serde_json reads its compact text of a value back as that value. If names and strings needn't be UTF-8, `P` is ⊥.
 use Rattle.bcs_json_spec.proofs.Prelude.{⊤, ◌≡◌, ◌∙◌, ℕ, pos, negsuc, ◌^◌, ◌<◌, ◌≤◌, List, [], ◌∷◌, ◌++◌, Bool, true, false, Some, Ordering, Less, Greater, IsUtf8, append-nil, nat_cmp, arith, option_map, refl, sym, ap, or_from, nat_list_cmp_total, IsAscii-decimal, IsAscii-signed, IsUtf8-append, IsUtf8-from_ascii, slice_cmp, AllByRecursion, IsStrictlySortedBy, match_ordering, ordering_reverse, option_and_then, tokens, IsNumber, quoted, HasNumbers, ItemsHaveNumbers, MembersHaveNumbers, json_tokens, IsNumber-decimal, IsNumber-signed_decimal, tokens-print, ArePrintable-json_tokens, value-json_tokens, IsUtf8-are_ascii, IsUtf8-boolean, IsUtf8-quoted, Num, unsigned, negative, float, Data, null, boolean, number, string, array, object, Items, no_items, item, Members, no_members, member, put, depth, items_depth, members_depth, max_depth, number_of, of_items, of_json, of_members, read, comma_if, compact_text, has_float, items_have_float, items_outline, items_text, members_have_float, members_outline, members_text, number_text, outline, number_of-decimal, number_of-negative, print-outline, IsJson, NamesRise, names_of}
 use Rattle.json.specs.Json as json
 use Rattle.json.specs.Tree as tree
@@ -14,7 +14,7 @@ IsNum (float x) = ⊥
 
 module _ (P : Type 0) where
   abbrev mutual
-    -- numbers are whole ones of 64 bits, the names of each object rise, and if P names and strings are UTF-8
+    -- numbers are integers of 64 bits, and the names of each object ascend; if `P`, names and strings are UTF-8
     pub IsWritable : Data → Type 0
     IsWritable (number n) = IsNum n
     IsWritable (string s) = P → IsUtf8 s
@@ -79,17 +79,17 @@ mutual
   members_outline_depth no_members = omega arith
   members_outline_depth (member k d ms) = omega (arith, outline_depth d, members_outline_depth ms)
 
--- ---- members that are put in again
+-- ---- adding members again
 
 abbrev cmp : List ℕ → List ℕ → Ordering
 cmp = slice_cmp nat_cmp
 
--- the members, put in one after another
+-- adds members one after another
 abbrev put_all : Members → Members → Members
 put_all no_members found = found
 put_all (member k d ms) found = put_all ms (put k d found)
 
--- what is below them all stays before them
+-- a member below all others stays first
 stays_first : (l : List ℕ) (e : Data) (ms found : Members) → AllByRecursion (λ k. cmp l k ≡ Less) (names_of ms) → put_all ms (member l e found) ≡ member l e (put_all ms found)
 stays_first l e no_members found above = refl
 stays_first l e (member k d ms) found above =
@@ -97,7 +97,7 @@ stays_first l e (member k d ms) found above =
     ap (λ r. put_all ms (match_ordering r (member k d (member l e found)) (member l d found) (member l e (put k d found)))) later
     ∙ stays_first l e ms (put k d found) above.1
 
--- members whose names rise are the same again
+-- adding members in ascending order gives the same members
 put_again : (ms : Members) → NamesRise ms → put_all ms no_members ≡ ms
 unfolding IsStrictlySortedBy
 put_again no_members h = refl
@@ -189,6 +189,6 @@ mutual
       let rest = IsUtf8-append (compact_text d) (members_text true ms) (text_utf8 d h.1) (members_utf8 true ms h.2) in
       comma_utf8 later _ (IsUtf8-append (quoted k) _ (IsUtf8-quoted k (h.0 tt)) (one_byte 58 _ (IsUtf8-are_ascii (58 ∷ []) refl) rest))
 
--- the compact text of what can be written is JSON, and is read as just that
+-- the compact text of writable JSON is JSON, and is read as exactly that
 pub text_is_json : (d : Data) → IsWritable ⊤ d → depth d ≤ max_depth → IsJson (compact_text d) d
 text_is_json d h shallow = (text_utf8 d h, read_back ⊤ d h shallow)

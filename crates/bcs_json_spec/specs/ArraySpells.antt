@@ -1,5 +1,4 @@
--- Which JSON spells which tree in the older reading, in which lists and arrays of `U8` have no text: as `Spells`, but arrays
--- alone stand there.
+-- The older definition of spelling, in which hexadecimal digits aren't allowed for lists and arrays of `U8`.
 use Rattle.std.specs.Prelude.{◌≡◌, List, [], ◌∷◌, codes}
 use Rattle.serde_json.specs.Data.{Data, Items, no_items, item, Members, no_members, member}
 use Rattle.serde_json.specs.Find.{get_member}
@@ -27,7 +26,7 @@ module _ (registry : Entries) where
         (λ word d. IfThere (λ c. (c.0 ≡ n) × ArraySpells t (payload_content c.1.1) d) (choice_called word cs))
         j
     ArraySpells (tree.named t) (of (shape.name n)) j = ArraySpells t (json_content_at n registry) j
-    -- what has no parts is spelled alike
+    -- values without parts are spelled as in `Spells`
     ArraySpells t f j = Spells registry t f j
 
     pub AllArraySpell : Trees → Shape → Items → Type 0

@@ -1,4 +1,4 @@
--- What a fault of reading a text, or of encoding what it spells, is called as a fault of JSON.
+-- Faults of reading a text, or of encoding the value that it spells, as faults of JSON.
 use Rattle.bcs_registry_json.specs.declared.json_reading.TextFault.{TextFault}
 use Rattle.bcs_registry_json.specs.declared.json_reading.TextFault.TheVariants as text
 use Rattle.bcs_encode_spec.specs.declared.fault.EncodeFault.{EncodeFault}
@@ -10,7 +10,7 @@ abbrev pub fault_of_text : TextFault → JsonFault
 fault_of_text text.NotJson = NotJson
 fault_of_text text.OutOfMemory = OutOfMemory
 
--- what is spelled at a format is a value of it, so the first never comes
+-- what JSON spells fits the format, so the first case never occurs
 abbrev pub fault_of_value : EncodeFault → JsonFault
 fault_of_value encode.NotOfFormat = BadShape
 fault_of_value encode.Unsupported = Unsupported

@@ -1,4 +1,4 @@
--- What the calls over texts and bytes answer: a normal text, a text's bytes beside another's, the text of bytes.
+-- What the calls on texts and bytes return: bytes, a comparison, a normal form, a text.
 use Rattle.std.specs.Prelude.{◌≡◌, ◌↔◌, ℕ, List, length, Bool, IsTrue}
 use Rattle.bcs_registry_model.specs.Container.{Entries}
 use Rattle.bcs_registry_model.specs.Container as container
@@ -16,7 +16,7 @@ pub record HasBytes (registry : Entries) (limits : Bounds) (s : Shape) (text byt
   pub denoted : Denotes registry limits s text value
   pub encoded : Encodes registry limits s value bytes
 
--- the texts denote values; the answer is whether these are the same, and whether their bytes are equal
+-- both texts denote values; the answer is whether these are the same, and whether their bytes are equal
 pub record Compares (registry : Entries) (limits : Bounds) (s : Shape) (first second : List ℕ) (answer : Bool) : Type 0 where
   pub one : Tree
   pub one_denoted : Denotes registry limits s first one
@@ -29,7 +29,7 @@ pub record Compares (registry : Entries) (limits : Bounds) (s : Shape) (first se
   pub other_encoded : Encodes registry limits s other other_bytes
   pub equal : IsTrue answer ↔ (one_bytes ≡ other_bytes)
 
--- out is the text of the canonical form of what the text denotes, and denotes this form
+-- `out` is the text of the canonical form of the value that `text` denotes, and denotes this form
 pub record Normalises (registry : Entries) (limits : Bounds) (s : Shape) (text out : List ℕ) : Type 0 where
   pub value : Tree
   pub denoted : Denotes registry limits s text value
@@ -38,7 +38,7 @@ pub record Normalises (registry : Entries) (limits : Bounds) (s : Shape) (text o
   pub is : IsTextOf registry s form out
   pub again : Denotes registry limits s out form
 
--- the text is that of the one value whose bytes are the whole input, and denotes it
+-- the text is that of the one value that all the bytes encode, and denotes it
 pub record ShowsBytes (registry : Entries) (limits : Bounds) (s : Shape) (bytes text : List ℕ) : Type 0 where
   pub value : Tree
   pub accepted : Accepts registry limits s bytes (length bytes) value

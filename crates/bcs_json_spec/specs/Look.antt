@@ -1,4 +1,4 @@
--- Looking at JSON: its kind and its parts.
+-- The kind of some JSON, and its parts.
 use Rattle.std.specs.Prelude.{ℕ, suc, List, Option, Some, None, cond}
 use Rattle.std.specs.Str.{bytes_eq}
 use Rattle.bcs_registry_model.specs.Shape.{Shapes, no_shapes, shape}
@@ -25,17 +25,17 @@ abbrev pub IfObject : (Members → Type 0) → Data → Type 0
 IfObject P (object ms) = P ms
 IfObject P _ = ⊥
 
--- an array of exactly two
+-- an array of exactly two items
 abbrev pub IfTwo : (Data → Data → Type 0) → Data → Type 0
 IfTwo P (array (item a (item b no_items))) = P a b
 IfTwo P _ = ⊥
 
--- an object of exactly one member
+-- an object with exactly one member
 abbrev pub IfOne : (List ℕ → Data → Type 0) → Data → Type 0
 IfOne P (object (member k d no_members)) = P k d
 IfOne P _ = ⊥
 
--- a string, or an object of exactly one member
+-- a string, or an object with exactly one member
 abbrev pub IfWordOrOne : (List ℕ → Type 0) → (List ℕ → Data → Type 0) → Data → Type 0
 IfWordOrOne P Q (string s) = P s
 IfWordOrOne P Q (object (member k d no_members)) = Q k d
@@ -53,7 +53,7 @@ abbrev pub shape_count : Shapes → ℕ
 shape_count no_shapes = 0
 shape_count (shape s ss) = suc (shape_count ss)
 
--- the members but the one of this name
+-- the members except the one with this name
 abbrev pub without : List ℕ → Members → Members
 without name no_members = no_members
 without name (member k d ms) = cond (bytes_eq name k) ms (member k d (without name ms))

@@ -1,4 +1,4 @@
--- Where JSON is refused: the way down to it, as a JSON Pointer has it (RFC 6901).
+-- Where JSON is refused, as the steps of a JSON Pointer (RFC 6901).
 use Rattle.std.specs.Prelude.{◌≡◌, ℕ, zero, suc, List, [], ◌∷◌, codes, Option, All, Contains, string_bytes, ◌==◌, if◌then◌else◌}
 use Rattle.std.specs.Option.{option_map_or}
 use Rattle.std.specs.Str.{bytes_eq}
@@ -17,7 +17,7 @@ use Rattle.bcs_json_spec.specs.declared.json_fault.JsonFault.{JsonFault}
 use Rattle.bcs_json_spec.specs.declared.json_step.JsonStep.{JsonStep}
 use Rattle.bcs_json_spec.specs.declared.json_step.JsonStep.TheVariants.{Item, Member}
 
--- to an item by its number, from 0, or to a member by its name
+-- to an item of an array by its index, from 0, or to a member of an object by its name
 pub data PointerStep : Type 0 where
   item : ℕ → PointerStep
   member : List ℕ → PointerStep
@@ -26,26 +26,25 @@ abbrev pub pointer_step_of : JsonStep → PointerStep
 pointer_step_of (Item n) = item n
 pointer_step_of (Member name) = member (string_bytes name)
 
--- what JSON is to be: a value of what stands there, or a map's entry, which is an array of a key and its value
+-- what JSON should be: a value of a content, or a map entry, which is an array of a key and its value
 pub data Target : Type 0 where
   value : JsonContent → Target
   entry : Shape → Shape → Target
 
--- JSON right inside other JSON: the step to it, how many containers may still open in it, what it is to be, and the JSON
+-- a direct part of some JSON: the step to it, how many containers may open in it, what it should be, and the JSON
 pub record JsonPart : Type 0 where
   pub step : PointerStep
   pub left : ℕ
   pub target : Target
   pub json : Data
 
--- ---- the parts that are looked into, in their order, where all before them are good. JSON that is refused for its own
--- kind has none
+-- ---- the parts of JSON, in the order in which they are read; JSON of the wrong kind has none
 
 module _ (left : ℕ) where
   abbrev pub part : PointerStep → JsonContent → Data → JsonPart
   part s f j = record { step = s; left = left; target = value f; json = j }
 
-  -- the items from the one of this number on
+  -- the items of an array, with indices from `i` on
   abbrev pub item_parts : Shape → ℕ → Items → List JsonPart
   item_parts s i no_items = []
   item_parts s i (json.item d ds) = part (item i) (of s) d ∷ item_parts s (suc i) ds
@@ -59,7 +58,7 @@ module _ (left : ℕ) where
   entry_parts k v i no_items = []
   entry_parts k v i (json.item d ds) = record { step = item i; left = left; target = entry k v; json = d } ∷ entry_parts k v (suc i) ds
 
-  -- the fields' members in the registry's order, up to the first field that has none
+  -- the members of the fields, in the registry's order, up to the first field without one
   abbrev pub field_parts : List Field → Members → List JsonPart
   field_parts [] ms = []
   field_parts (f ∷ fs) ms = option_map_or (λ d. part (member f.0) (of f.1) d ∷ field_parts fs (without f.0 ms)) (get_member f.0 ms) []
@@ -88,17 +87,17 @@ module _ (left : ℕ) where
   struct_parts fs (object ms) = field_parts fs ms
   struct_parts fs _ = []
 
-  -- what the variant of this name carries
+  -- the payload of a variant
   abbrev pub enum_parts : List Choice → Data → List JsonPart
   enum_parts cs (object (json.member word d no_members)) = option_map_or (λ c. part (member word) (payload_content c.1.1) d ∷ []) (choice_called word cs) []
   enum_parts cs _ = []
 
-  -- the key and the value
+  -- the key and the value of a map entry
   abbrev pub pair_parts : Shape → Shape → Data → List JsonPart
   pair_parts k v (array (json.item a (json.item b no_items))) = part (item 0) (of k) a ∷ part (item 1) (of v) b ∷ []
   pair_parts k v _ = []
 
-  -- a name has no step of its own: it has the parts of what stands inside
+  -- a name is no step of its own: its parts are those of the container's content
   module _ (named : List ℕ → Data → List JsonPart) where
     abbrev pub shape_parts : Shape → Data → List JsonPart
     shape_parts (shape.name n) = named n
@@ -116,7 +115,7 @@ module _ (left : ℕ) where
     content_parts nothing = λ j. []
 
 module _ (registry : Entries) where
-  -- what stands under a name, in which one container less may open
+  -- the content of a container, in which one container fewer may open
   abbrev pub named_parts : ℕ → List ℕ → Data → List JsonPart
   named_parts zero n j = []
   named_parts (suc d) n j = content_parts d (named_parts d) (json_content_at n registry) j
@@ -135,8 +134,7 @@ module _ (registry : Entries) where
   abbrev pub IsGood : JsonPart → Type 0
   IsGood p = (e : JsonFault) → ¬ IsRefusedWith p.left p.target p.json e
 
-  -- the way leads to the first of the parts that is refused, on to the first of its own parts that is, and so on, until
-  -- none is
+  -- the path leads to the first part that is refused, then to the first of its own parts that is, until none is
   abbrev pub IsPlaceAmong : List PointerStep → List JsonPart → Type 0
   IsPlaceAmong [] ps = All IsGood ps
   IsPlaceAmong (s ∷ path) ps = IsFirst IsGood (λ p. ¬ IsGood p × (p.step ≡ s) × IsPlaceAmong path (parts p.left p.target p.json)) ps
@@ -144,12 +142,11 @@ module _ (registry : Entries) where
   abbrev pub IsPlaceOf : ℕ → Target → Data → List PointerStep → Type 0
   IsPlaceOf d t j path = IsPlaceAmong path (parts d t j)
 
-  -- the JSON is refused with this fault, where at most so many containers may be open at once, and this way leads to
-  -- where it is
+  -- the JSON is refused with this fault, if at most `d` containers may be open at once, and the path leads to its place
   abbrev pub RefusesAt : ℕ → JsonContent → Data → List PointerStep → JsonFault → Type 0
   RefusesAt d f j path e = Refuses registry d f j e × IsPlaceOf d (value f) j path
 
-  -- at the end of the way the JSON is refused with this fault, and no part of it is refused
+  -- at the end of the path, the JSON is refused with this fault, and none of its parts is refused
   abbrev pub IsRefusedAlone : JsonFault → List PointerStep → ℕ → Target → Data → Type 0
   IsRefusedAlone e [] d t j = IsRefusedWith d t j e × All IsGood (parts d t j)
   IsRefusedAlone e (s ∷ path) d t j = (p : JsonPart) × Contains (parts d t j) p × (p.step ≡ s) × IsRefusedAlone e path p.left p.target p.json

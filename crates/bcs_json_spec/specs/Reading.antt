@@ -1,5 +1,5 @@
--- The tree that JSON spells, or the first fault, as a function. It carries the proofs; the law `Exact` ties it to `Spells`
--- and `Refuses`, which the contracts name.
+-- The tree that JSON spells, or the first fault, as a function. It carries the proofs; the law `Exact` ties it to
+-- `Spells` and `Refuses`, which the contracts name.
 use Rattle.std.specs.Prelude.{◌≡◌, ◌≢◌, ℕ, zero, suc, ℤ, pos, negsuc, List, [], ◌∷◌, codes, Bool, true, false, Option, Some, None, Result, Ok, Err, ◌==◌, if◌then◌else◌}
 use Rattle.std.specs.Int.{Width}
 use Rattle.std.specs.Str.{bytes_eq, is_utf8}
@@ -27,12 +27,12 @@ abbrev pub follow : {A B : Type 0} → Read A → (A → Read B) → Read B
 follow (Ok x) k = k x
 follow (Err e) k = Err e
 
--- what was returned, seen by view, is what was to be read, unless memory ran out
+-- the result, mapped by `view`, is that of the reading, unless memory ran out
 abbrev pub Reports : {X A : Type 0} → (X → A) → Result X JsonFault → Read A → Type 0
 Reports view (Ok x) r = r ≡ Ok (view x)
 Reports view (Err e) r = e ≢ OutOfMemory → r ≡ Err e
 
--- ---- values with no parts
+-- ---- values without parts
 
 abbrev pub read_unit : Data → Read Tree
 read_unit null = Ok tree.unit
@@ -87,7 +87,7 @@ abbrev pub read_all : (Data → Read Tree) → Items → Read Trees
 read_all r no_items = Ok no_trees
 read_all r (item d ds) = follow (r d) (λ t. follow (read_all r ds) (λ ts. Ok (tree t ts)))
 
--- text where a list stands: of bytes it is hexadecimal
+-- a string instead of a list: hexadecimal digits, if its elements are bytes
 abbrev pub read_byte_text : Bool → List ℕ → Read Trees
 read_byte_text true s = follow (read_hex s) (λ b. Ok (byte_trees b))
 read_byte_text false s = Err BadShape
@@ -97,12 +97,12 @@ read_seq bytes r (array ds) = follow (read_all r ds) (λ ts. Ok (tree.items ts))
 read_seq bytes r (string s) = follow (read_byte_text bytes s) (λ ts. Ok (tree.items ts))
 read_seq bytes r _ = Err BadShape
 
--- exactly so many items
+-- an array of exactly `n` items
 abbrev pub read_tuple : ℕ → (Items → Read Trees) → Data → Read Tree
 read_tuple n r (array ds) = if item_count ds == n then follow (r ds) (λ ts. Ok (tree.items ts)) else Err BadShape
 read_tuple n r _ = Err BadShape
 
--- exactly so many elements
+-- exactly `n` elements
 abbrev pub sized : ℕ → Trees → Read Tree
 sized n ts = if count ts == n then Ok (tree.items ts) else Err BadShape
 
@@ -123,12 +123,12 @@ abbrev pub read_map : (Data → Read Tree) → (Data → Read Tree) → Data →
 read_map k v (array ds) = follow (read_pairs k v ds) (λ ps. Ok (tree.pairs ps))
 read_map k v _ = Err BadShape
 
--- a member that has to be there
+-- a member that must exist
 abbrev pub read_member : (Data → Read Tree) → Option Data → Read Tree
 read_member r None = Err MissingField
 read_member r (Some d) = r d
 
--- nothing is left
+-- no member is left
 abbrev pub read_end : Members → Read Trees
 read_end no_members = Ok no_trees
 read_end (member k d ms) = Err UnknownField
@@ -137,12 +137,12 @@ abbrev pub unit_variant : Choice → Read Tree
 unit_variant (n, (s, container.unit)) = Ok (tree.variant n tree.unit)
 unit_variant (n, (s, _)) = Err BadShape
 
--- a string that names a unit variant
+-- a string that is the name of a unit variant
 abbrev pub read_word : Option Choice → Read Tree
 read_word None = Err UnknownVariant
 read_word (Some c) = unit_variant c
 
--- named reads what a name stands for
+-- `named` reads a named container
 module _ (named : List ℕ → Data → Read Tree) where
   abbrev mutual
     pub read_shape : Shape → Data → Read Tree
@@ -165,7 +165,7 @@ module _ (named : List ℕ → Data → Read Tree) where
     read_each (shape s ss) no_items = Err BadShape
     read_each no_shapes ds = Ok no_trees
 
-  -- each field's member is taken away in turn, and no other is left
+  -- removes the member of each field in turn; no other may be left
   abbrev pub read_fields : List Field → Members → Read Trees
   read_fields [] ms = read_end ms
   read_fields (f ∷ fs) ms =
@@ -175,7 +175,7 @@ module _ (named : List ℕ → Data → Read Tree) where
   read_struct fs (object ms) = follow (read_fields fs ms) (λ ts. Ok (tree.items ts))
   read_struct fs _ = Err BadShape
 
-  -- what stands in a variant
+  -- the content of a variant
   abbrev pub read_part : JsonContent → Data → Read Tree
   read_part (of s) = read_shape s
   read_part (fields fs) = read_struct fs
@@ -196,7 +196,7 @@ module _ (named : List ℕ → Data → Read Tree) where
   read_content (one_of cs) = read_enum cs
   read_content nothing = λ j. Err BadShape
 
--- with so many containers left
+-- a named container, if at most `d` containers may open
 abbrev pub read_named : Entries → ℕ → List ℕ → Data → Read Tree
 read_named registry zero n j = Err TooDeep
 read_named registry (suc d) n j = follow (read_content (read_named registry d) (json_content_at n registry) j) (λ t. Ok (tree.named t))

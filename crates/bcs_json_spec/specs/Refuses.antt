@@ -1,5 +1,5 @@
--- Which JSON spells no tree, and why: the first test that fails, front to back. A test that looks into no part comes
--- first, then the parts in order, each of which spells a tree unless it is the one that is refused.
+-- Which JSON spells no tree, and why: the first check that fails. Checks of the JSON itself come first, and then its
+-- parts in order; all parts before the refused one spell trees.
 use Rattle.std.specs.Prelude.{◌≡◌, ◌≢◌, ◌⊎◌, ℕ, zero, suc, ℤ, List, [], ◌∷◌, codes, true, false, Bool, Option, Some, None}
 use Rattle.std.specs.Str.{is_utf8}
 use Rattle.serde_json.specs.Data.{Data, null, boolean, number, string, array, object, Items, no_items, item, Members, no_members, member}
@@ -17,14 +17,14 @@ use Rattle.bcs_json_spec.specs.Spells.{SpellsWithin}
 use Rattle.bcs_json_spec.specs.declared.json_fault.JsonFault.{JsonFault}
 use Rattle.bcs_json_spec.specs.declared.json_fault.JsonFault.TheVariants.{Unsupported, BadShape, BadNumber, BadHex, UnknownField, MissingField, UnknownVariant, TooDeep}
 
--- what JSON spells, and what it is refused with
+-- the relations between JSON and what it spells, and between JSON and its fault
 abbrev pub Good : Type 1
 Good = Data → Tree → Type 0
 
 abbrev pub Bad : Type 1
 Bad = Data → JsonFault → Type 0
 
--- ---- values with no parts
+-- ---- values without parts
 
 abbrev pub UnitRefuses : Bad
 UnitRefuses null e = ⊥
@@ -34,13 +34,13 @@ abbrev pub TruthRefuses : Bad
 TruthRefuses (boolean b) e = ⊥
 TruthRefuses _ e = e ≡ BadShape
 
--- a number or a string that is no whole number in the range, or another kind
+-- a number or a string that isn't an integer in the range, or JSON of another kind
 abbrev pub WholeRefuses : (ℤ → Bool) → Bad
 WholeRefuses range (number n) e = ((z : ℤ) → SpellsWhole (number n) z → range z ≡ false) × (e ≡ BadNumber)
 WholeRefuses range (string s) e = ((z : ℤ) → SpellsWhole (string s) z → range z ≡ false) × (e ≡ BadNumber)
 WholeRefuses range _ e = e ≡ BadShape
 
--- a string that is no UTF-8, which `serde_json` gives nowhere, or another kind
+-- a string that isn't UTF-8, which `serde_json` never returns, or JSON of another kind
 abbrev pub TextRefuses : Bad
 TextRefuses (string s) e = (is_utf8 s ≡ false) × (e ≡ BadShape)
 TextRefuses _ e = e ≡ BadShape
@@ -54,7 +54,7 @@ BytesRefuse _ e = e ≡ BadShape
 
 -- ---- values with parts
 
--- null is done; an object with exactly one member named `some` goes on with it
+-- `null` is never refused; an object with the only member `some` is refused like this member
 abbrev pub OptionRefuses : Bad → Bad
 OptionRefuses R null e = ⊥
 OptionRefuses R (object (member k d no_members)) e = ((k ≡ codes "some") × R d e) ⊎ ((k ≢ codes "some") × (e ≡ BadShape))
@@ -65,7 +65,7 @@ abbrev pub AllRefuse : Good → Bad → Items → JsonFault → Type 0
 AllRefuse S R no_items e = ⊥
 AllRefuse S R (item d ds) e = R d e ⊎ ((t : Tree) × S d t × AllRefuse S R ds e)
 
--- text where a list stands: of bytes it is hexadecimal
+-- a string instead of a list: hexadecimal digits, if its elements are bytes
 abbrev pub ByteTextRefuses : Bool → List ℕ → JsonFault → Type 0
 ByteTextRefuses true s e = IsNoHex s × (e ≡ BadHex)
 ByteTextRefuses false s e = e ≡ BadShape
@@ -75,19 +75,19 @@ SeqRefuses bytes S R (array ds) e = AllRefuse S R ds e
 SeqRefuses bytes S R (string s) e = ByteTextRefuses bytes s e
 SeqRefuses bytes S R _ e = e ≡ BadShape
 
--- exactly so many items
+-- an array of exactly `n` items
 abbrev pub TupleRefuses : ℕ → (Items → JsonFault → Type 0) → Bad
 TupleRefuses n R (array ds) e = ((item_count ds ≢ n) × (e ≡ BadShape)) ⊎ ((item_count ds ≡ n) × R ds e)
 TupleRefuses n R _ e = e ≡ BadShape
 
--- exactly so many elements, or hexadecimal text of so many bytes
+-- an array of exactly `n` elements, or hexadecimal digits for `n` bytes
 abbrev pub ArrayRefuses : Bool → ℕ → Good → Bad → Bad
 ArrayRefuses bytes n S R (array ds) e = ((item_count ds ≢ n) × (e ≡ BadShape)) ⊎ ((item_count ds ≡ n) × AllRefuse S R ds e)
 ArrayRefuses bytes n S R (string s) e =
     ByteTextRefuses bytes s e ⊎ ((ts : Trees) × ByteTextSpells bytes s ts × (count ts ≢ n) × (e ≡ BadShape))
 ArrayRefuses bytes n S R _ e = e ≡ BadShape
 
--- an array of exactly two: the key, then the value
+-- an array of exactly two items: the key, then the value
 abbrev pub PairRefuses : Good → Bad → Bad → Bad
 PairRefuses K Q R (array (item a (item b no_items))) e = Q a e ⊎ ((k : Tree) × K a k × R b e)
 PairRefuses K Q R _ e = e ≡ BadShape
@@ -102,19 +102,19 @@ abbrev pub MapRefuses : Good → Bad → Good → Bad → Bad
 MapRefuses K Q V R (array ds) e = PairsRefuse K Q V R ds e
 MapRefuses K Q V R _ e = e ≡ BadShape
 
--- a member that isn't there, or is refused
+-- a member that doesn't exist, or is refused
 abbrev pub MemberRefuses : Bad → Option Data → JsonFault → Type 0
 MemberRefuses R None e = e ≡ MissingField
 MemberRefuses R (Some d) e = R d e
 
--- a string that names no variant, or one that isn't a unit variant
+-- a string that is no variant's name, or the name of a variant with a payload
 abbrev pub WordRefuses : Option Choice → JsonFault → Type 0
 WordRefuses None e = e ≡ UnknownVariant
 WordRefuses (Some c) e = (c.1.1 ≢ container.unit) × (e ≡ BadShape)
 
 -- ---- formats
 
--- S is what spells a tree with so many containers left, and N how names are refused there
+-- `S` is what JSON spells if at most so many containers may open, and `N` is how a named container is refused then
 module _ (S : JsonContent → Good) (N : List ℕ → Bad) where
   abbrev mutual
     pub ShapeRefuses : Shape → Bad
@@ -136,7 +136,7 @@ module _ (S : JsonContent → Good) (N : List ℕ → Bad) where
     EachRefuses (shape s ss) (item d ds) e = ShapeRefuses s d e ⊎ ((t : Tree) × S (of s) d t × EachRefuses ss ds e)
     EachRefuses _ _ e = ⊥
 
-  -- each field in the registry's order: its member isn't there, or is refused; and after all of them, another is left
+  -- each field in the registry's order: its member doesn't exist, or is refused; after all fields, a member is left
   abbrev pub FieldsRefuse : List Field → Members → JsonFault → Type 0
   FieldsRefuse [] no_members e = ⊥
   FieldsRefuse [] (member k d ms) e = e ≡ UnknownField
@@ -148,7 +148,7 @@ module _ (S : JsonContent → Good) (N : List ℕ → Bad) where
   StructRefuses fs (object ms) e = FieldsRefuse fs ms e
   StructRefuses fs _ e = e ≡ BadShape
 
-  -- what stands in a variant: no enum
+  -- the content of a variant, which is never an enum
   abbrev pub PartRefuses : JsonContent → Bad
   PartRefuses (of s) = ShapeRefuses s
   PartRefuses (fields fs) = StructRefuses fs
@@ -163,7 +163,7 @@ module _ (S : JsonContent → Good) (N : List ℕ → Bad) where
   EnumRefuses cs (object (member word d no_members)) e = ChoiceRefuses (choice_called word cs) d e
   EnumRefuses cs _ e = e ≡ BadShape
 
-  -- no registry admits a name without a container, and no JSON spells a value of one
+  -- no JSON spells a value of a missing container; a registry that admits a format has all its containers
   abbrev pub ContentRefuses : JsonContent → Bad
   ContentRefuses (of s) = ShapeRefuses s
   ContentRefuses (fields fs) = StructRefuses fs
@@ -171,11 +171,11 @@ module _ (S : JsonContent → Good) (N : List ℕ → Bad) where
   ContentRefuses nothing = λ j e. e ≡ BadShape
 
 module _ (registry : Entries) where
-  -- a name, with so many containers left
+  -- a named container, if at most `d` containers may open
   abbrev pub NameRefuses : ℕ → List ℕ → Bad
   NameRefuses zero n j e = e ≡ TooDeep
   NameRefuses (suc d) n j e = ContentRefuses (SpellsWithin registry d) (NameRefuses d) (json_content_at n registry) j e
 
-  -- the JSON is refused with this fault, where at most so many containers may be open at once
+  -- the JSON is refused with this fault, if at most `d` containers may be open at once
   abbrev pub Refuses : ℕ → JsonContent → Bad
   Refuses d f = ContentRefuses (SpellsWithin registry d) (NameRefuses d) f

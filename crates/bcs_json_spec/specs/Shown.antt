@@ -1,4 +1,4 @@
--- The JSON that a tree is printed as: the column "Printed" of the formats.
+-- The JSON that a tree is printed as: the column "Printed" in docs/FORMAT.md.
 use Rattle.std.specs.Prelude.{ℕ, List, ◌∷◌, codes, decimal, Option, Some, None, Bool, nat_lt, if◌then◌else◌}
 use Rattle.std.specs.Fmt.{signed_decimal}
 use Rattle.std.specs.Int.{Width, byte_len}
@@ -15,11 +15,11 @@ use Rattle.bcs_value_model.specs.Tree.{Tree, Trees, no_trees, tree, Pairs, no_pa
 use Rattle.bcs_json_spec.specs.Bytes.{is_byte, trees_bytes}
 use Rattle.bcs_json_spec.specs.JsonContent.{JsonContent, of, fields, one_of, json_content_at, payload_content}
 
--- of more than 32 bits
+-- more than 32 bits
 abbrev pub is_wide : Width → Bool
 is_wide w = nat_lt 4 (byte_len w)
 
--- a variant's name alone, or its name and what it carries
+-- the name of a variant, alone or with its payload
 abbrev pub shown_choice : (JsonContent → Data) → Option (List ℕ × Payload) → Data
 shown_choice show None = null
 shown_choice show (Some (name, container.unit)) = string name
@@ -55,7 +55,7 @@ module _ (registry : Entries) where
     shown_pairs no_pairs k v = no_items
     shown_pairs (pair l w ps) k v = item (array (item (shown l (of k)) (item (shown w (of v)) no_items))) (shown_pairs ps k v)
 
-    -- each member stands where the bytes of its name belong
+    -- adds the member of each field, in the order of names
     pub shown_fields : Trees → List Field → Members
     shown_fields (tree t ts) (f ∷ fs) = put f.0 (shown t (of f.1)) (shown_fields ts fs)
     shown_fields _ _ = no_members

@@ -1,4 +1,4 @@
--- Which JSON spells which tree: the column "Read" of the formats, the pairs of a map as they stand.
+-- Which JSON spells which tree: the column "Read" in docs/FORMAT.md. The pairs of a map are in the order given.
 use Rattle.std.specs.Prelude.{◌≡◌, ◌≤◌, IsTrue, ℕ, pos, List, [], ◌∷◌, codes}
 use Rattle.std.specs.Str.{is_utf8}
 use Rattle.serde_json.specs.Data.{Data, boolean, Items, no_items, item, Members, no_members, member}
@@ -14,7 +14,7 @@ use Rattle.bcs_json_spec.specs.JsonContent.{JsonContent, of, fields, one_of, jso
 use Rattle.bcs_json_spec.specs.Look.{IsNull, IfString, IfArray, IfStringOrArray, IfObject, IfTwo, IfOne, IfWordOrOne, IfThere, without}
 use Rattle.bcs_json_spec.specs.Numbers.{SpellsWhole, is_unsigned_of, is_signed_of}
 
--- the name alone of a unit variant
+-- the name of a unit variant
 abbrev pub IsWordOf : ℕ → Tree → Choice → Type 0
 IsWordOf n t c = (c.0 ≡ n) × (c.1.1 ≡ container.unit) × (t ≡ tree.unit)
 
@@ -25,7 +25,7 @@ module _ (registry : Entries) where
     Spells (tree.truth b) (of shape.truth) j = j ≡ boolean b
     Spells (tree.unsigned n) (of (shape.unsigned w)) j = SpellsWhole j (pos n) × IsTrue (is_unsigned_of w (pos n))
     Spells (tree.signed z) (of (shape.signed w)) j = SpellsWhole j z × IsTrue (is_signed_of w z)
-    -- `serde_json` gives strings of UTF-8 alone
+    -- strings that `serde_json` returns are always UTF-8
     Spells (tree.text s) (of shape.text) j = IfString (λ r. (r ≡ s) × IsTrue (is_utf8 r)) j
     Spells (tree.bytes b) (of shape.bytes) j = IfString (λ r. IsHexOf r b) j
     Spells tree.absent (of (shape.option s)) j = IsNull j
@@ -43,14 +43,14 @@ module _ (registry : Entries) where
     Spells (tree.named t) (of (shape.name n)) j = Spells t (json_content_at n registry) j
     Spells _ _ _ = ⊥
 
-    -- as many items as trees, each a tree of the one format
+    -- as many items as trees, all of one format
     pub AllSpell : Trees → Shape → Items → Type 0
     AllSpell no_trees s no_items = Unit {0}
     AllSpell (tree t ts) s (item d ds) = Spells t (of s) d × AllSpell ts s ds
     AllSpell no_trees s (item d ds) = ⊥
     AllSpell (tree t ts) s no_items = ⊥
 
-    -- as many items as formats, each a tree of its own
+    -- as many items as formats, each tree with its own
     pub EachSpells : Trees → Shapes → Items → Type 0
     EachSpells no_trees no_shapes no_items = Unit {0}
     EachSpells (tree t ts) (shape s ss) (item d ds) = Spells t (of s) d × EachSpells ts ss ds
@@ -63,7 +63,7 @@ module _ (registry : Entries) where
     PairsSpell no_pairs k v (item d ds) = ⊥
     PairsSpell (pair l w ps) k v no_items = ⊥
 
-    -- exactly the fields: each one's member is taken away in turn, and no other is left
+    -- exactly the fields: the member of each field is removed in turn, and no other is left
     pub FieldsSpell : Trees → List Field → Members → Type 0
     FieldsSpell no_trees [] no_members = Unit {0}
     FieldsSpell (tree t ts) (f ∷ fs) ms = IfThere (Spells t (of f.1)) (get_member f.0 ms) × FieldsSpell ts fs (without f.0 ms)
@@ -71,6 +71,6 @@ module _ (registry : Entries) where
     FieldsSpell no_trees (f ∷ fs) ms = ⊥
     FieldsSpell (tree t ts) [] ms = ⊥
 
-  -- the JSON spells the tree, in which at most n containers are open at once
+  -- the JSON spells the tree, and at most `n` containers are open at once
   abbrev pub SpellsWithin : ℕ → JsonContent → Data → Tree → Type 0
   SpellsWithin n f j t = Spells t f j × (depth t ≤ n)

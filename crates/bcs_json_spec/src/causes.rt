@@ -1,4 +1,4 @@
-//! Faults of reading a text, and of encoding what it spells, are faults of JSON.
+//! Converts faults of reading a text, and of encoding the value that it spells, to faults of JSON.
 
 use crate::json_fault::JsonFault;
 use bcs_encode_spec::EncodeFault;
@@ -26,7 +26,7 @@ impl From<EncodeFault> for JsonFault {
 
     fn from(fault: EncodeFault) -> JsonFault {
         match fault {
-            // What is spelled at a format is a value of it, so this never comes.
+            // JSON that spells a value spells one of the format, so this never occurs.
             EncodeFault::NotOfFormat => JsonFault::BadShape,
             EncodeFault::Unsupported => JsonFault::Unsupported,
             EncodeFault::TooDeep => JsonFault::TooDeep,

@@ -1,10 +1,10 @@
 //! Steps into JSON.
 
-/// A step into JSON, as a JSON Pointer has it (RFC 6901).
+/// A step into JSON, one reference token of a JSON Pointer (RFC 6901).
 #[derive(Debug, Drop, PartialEq, Eq)]
 pub enum JsonStep {
-    /// To the item of this number in an array, counted from 0.
+    /// To the item of an array with this index, from 0.
     Item(u64),
-    /// To the member of this name in an object.
+    /// To the member of an object with this name.
     Member(String),
 }

@@ -1,4 +1,4 @@
-//! What JSON texts mean, why a text denotes no value, and what holds of that: definitions and laws.
+//! What JSON texts mean, and why a text denotes no value: definitions and laws.
 #![tactic(auto)]
 
 mod causes;

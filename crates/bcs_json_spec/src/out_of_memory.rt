@@ -1,4 +1,4 @@
-//! A refused growth is a fault of reading.
+//! Converts failed allocations to faults of JSON.
 
 use crate::json_fault::JsonFault;
 use std::alloc::{AllocError, AllocFailed};

@@ -1,4 +1,4 @@
--- What the proofs use of other crates, and of this crate's definitions.
+-- Names from other crates and from this crate's definitions that the proofs share.
 pub use Rattle.std.proofs.Common.{[], ap, arith, Bool, codes, cond, decimal, drop, Equal, Err, false, get_or, Global, Greater, IfOk, IsUtf8, length, Less, List, map, max, nat_cmp, negsuc, None, not, Ok, Option, option_and_then, option_map, Ordering, pos, refl, replicate, Result, rules, set, slice_get, Some, string_bytes, subst, suc, sym, true, Vec, zero, ℕ, ℤ, ◌*◌, ◌++◌, ◌+◌, ◌-◌, ◌<◌, ◌==◌, ◌^◌, ◌∙◌, ◌∷◌, ◌≡◌, ◌≤◌}
 pub use Rattle.std.proofs.lemmas.Bool.{and_parts, not-true, or_parts}
 pub use Rattle.std.proofs.lemmas.Bool.Decides.{Decides-eqb}

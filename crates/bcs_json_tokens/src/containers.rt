@@ -1,4 +1,4 @@
-//! The walk: the contents of containers.
+//! Reads the contents of containers.
 ghost use Rattle.std.specs.Prelude.{◌≡◌, Some, IfOk, map, true};
 ghost use Rattle.std.specs.List.{list_all};
 ghost use Rattle.bcs_registry_model.specs.Container.{container_at, enumeration};
@@ -24,7 +24,7 @@ use json::{Reader, Token};
 use std::alloc::Global;
 use std::collections::BTreeMap;
 
-/// A value of the container with this name.
+/// Reads a value of the container `name`.
 #[cycle(walk)]
 pub(crate) fn next_named(
     alloc: Global,
@@ -41,7 +41,7 @@ pub(crate) fn next_named(
     Ok(Value::Named(Box::new(alloc, value)?))
 }
 
-/// The content of a value of the container with this name.
+/// Reads the contents of a value of the container `name`.
 #[cycle(walk)]
 fn next_content(
     alloc: Global,
@@ -71,7 +71,7 @@ fn next_content(
     }
 }
 
-/// An object with exactly one member for each field, in any order.
+/// Reads an object with exactly one member for each field, in any order.
 #[cycle(walk)]
 fn next_struct(
     alloc: Global,
@@ -91,7 +91,7 @@ fn next_struct(
     Ok(Value::Items(next_fields(alloc, registry, fields, left, inner, reader)?))
 }
 
-/// The name of a unit variant, or an object whose one member is the variant's name with its payload.
+/// Reads an enum: the name of a unit variant, or an object whose only member is the variant's name with its payload.
 #[cycle(walk)]
 fn next_enum(
     alloc: Global,
@@ -126,7 +126,7 @@ fn next_enum(
     }
 }
 
-/// The payload of a variant.
+/// Reads the payload of a variant.
 #[cycle(walk)]
 fn next_payload(
     alloc: Global,

@@ -1,4 +1,4 @@
-//! The field that a member's name belongs to.
+//! Finds the field that a member's name belongs to.
 ghost use Rattle.std.specs.Prelude.{◌≡◌, ◌<◌, IfOk, Some, length, option_map, slice_get, string_bytes};
 ghost use Rattle.std.specs.Bool.{OnTrue};
 
@@ -7,11 +7,11 @@ use bcs_registry::{Format, Named};
 use std::alloc::{AllocError, Global};
 use std::collections::BTreeMap;
 
-/// The largest number of fields that are searched one by one. A struct with more gets a map from names to places.
+/// Structs with more fields than this get a map from names to indices. In others, names are compared one by one.
 const MOST_SEARCHED: usize = 128;
 
-/// The place of the field with this name. The field at `next` is checked first, since members often come in the order of
-/// the fields. `places` keeps the map of a struct with many fields from one call to the next.
+/// The index of the field `name`. Checks the field at `next` first, since members often come in the order of the
+/// fields. `places` caches the map of a struct with many fields.
 #[inline(always)]
 pub(crate) fn place_of<'a>(
     alloc: Global,
@@ -33,7 +33,7 @@ pub(crate) fn place_of<'a>(
     }
 }
 
-// Whether there is a field at this place, and it has this name.
+// Whether the field at this index exists and has this name.
 #[inline(always)]
 fn is_named(fields: &[Named<Format>], place: usize, name: &str) -> bool
     ensures within { OnTrue result (place < length fields.now) }
@@ -42,7 +42,7 @@ fn is_named(fields: &[Named<Format>], place: usize, name: &str) -> bool
     place < fields.len() && fields[place].name.as_str() == name
 }
 
-// The place of the field with this name, found by comparing one name after another.
+// Finds the index of a field by comparing its name with each.
 #[inline(never)]
 fn searched_place(fields: &[Named<Format>], name: &str) -> Result<usize, GivenUp>
     ensures within { IfOk result (λ place. place < length fields.now) }
@@ -56,8 +56,8 @@ fn searched_place(fields: &[Named<Format>], name: &str) -> Result<usize, GivenUp
     Err(GivenUp::Unusual)
 }
 
-// The place of the field with this name, found by the map, which the first call makes. The name is compared once more,
-// so no clause has to say what the map contains.
+// Finds the index of a field in the map, which the first call builds. Compares the name again, so that no contract has
+// to say what the map contains.
 #[inline(never)]
 fn mapped_place<'a>(
     alloc: Global,
@@ -79,7 +79,6 @@ fn mapped_place<'a>(
     }
 }
 
-// The place that the map has for a name.
 fn known_place(places: &Option<BTreeMap<&str, usize>>, name: &str) -> Option<usize> {
     match places {
         Some(places) => places.get(name).copied(),
@@ -87,7 +86,7 @@ fn known_place(places: &Option<BTreeMap<&str, usize>>, name: &str) -> Option<usi
     }
 }
 
-// The place of each field by its name.
+// The index of each field by its name.
 fn places_by_name<'a>(
     alloc: Global,
     fields: &'a [Named<Format>],

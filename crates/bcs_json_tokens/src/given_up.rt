@@ -1,10 +1,10 @@
 //! Why the reader gave up.
 use std::alloc::{AllocError, AllocFailed};
 
-/// Why the reader returned no value. This says nothing about whether the text represents one.
+/// Why the reader returned no value. This doesn't mean that the JSON is invalid.
 #[derive(Clone, Copy, Drop)]
 pub enum GivenUp {
-    /// The text contains something that this reader leaves to the other one.
+    /// The JSON contains something that only the other reader supports.
     Unusual,
     /// An allocation failed.
     OutOfMemory,

@@ -1,4 +1,4 @@
-//! Values without parts, and bytes as hexadecimal digits.
+//! Reads values without parts, and bytes as hexadecimal digits.
 ghost use Rattle.std.specs.Prelude.{◌≡◌, IfOk, Ok};
 ghost use Rattle.json.specs.Reads.{token_of};
 ghost use Rattle.bcs_registry_model.specs.Kind.{scalar_shape};
@@ -17,7 +17,7 @@ use hex::FromHexError;
 use json::Token;
 use std::alloc::Global;
 
-/// The value of a format without parts that a token spells.
+/// The value of a scalar format that a token represents.
 #[inline(always)]
 pub fn scalar_of_token(alloc: Global, scalar: Scalar, token: Token<'_>) -> Result<Value, GivenUp>
     ensures { IfOk result (λ v. IsToken (leaf.read_leaf (scalar_shape scalar)) (token_of token.entry) (tree_of v)) }
@@ -72,7 +72,7 @@ fn bytes_of_token(alloc: Global, token: Token<'_>) -> Result<Value, GivenUp>
     }
 }
 
-/// The elements of a list that is written as a string. This is for lists of `U8` alone, as hexadecimal digits.
+/// The elements of a list that is given as a string: hexadecimal digits, only for lists of `U8`.
 #[inline(never)]
 pub fn byte_items(alloc: Global, element: &Format, text: &str) -> Result<Vec<Value>, GivenUp>
     ensures { IfOk result (λ v. spec.read_byte_text (is_byte (shape_of element.now)) text.now ≡ Ok (items_trees v.items)) }
@@ -84,7 +84,7 @@ pub fn byte_items(alloc: Global, element: &Format, text: &str) -> Result<Vec<Val
     byte_values(alloc, bytes.as_slice())
 }
 
-// Each byte as a number.
+// Each byte as an integer value.
 fn byte_values(alloc: Global, bytes: &[u8]) -> Result<Vec<Value>, GivenUp>
     ensures { IfOk result (λ v. items_trees v.items ≡ byte_trees bytes.now) }
 {

@@ -1,5 +1,5 @@
-//! Reads a value directly from the tokens of its JSON text, without building a JSON tree. It gives up on a text that
-//! is unusual anywhere. The caller then reads the text by way of `serde_json`'s tree, and that reading decides.
+//! Reads a value directly from the tokens of its JSON, without building a JSON tree. It gives up on anything unusual;
+//! the caller then uses `bcs_json_reader`, which decides.
 #![tactic(auto)]
 
 mod containers;

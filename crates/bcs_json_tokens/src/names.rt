@@ -1,4 +1,4 @@
-//! Names: of a container, of a variant, and how many containers may open.
+//! Looks up containers and variants, and counts open containers.
 ghost use Rattle.std.specs.Prelude.{◌≡◌, IfOk, Some, OnOk, map, option_map, suc};
 ghost use Rattle.bcs_registry_model.specs.Container.{container_at, enumeration, choice_called};
 ghost use Rattle.bcs_registry_model.specs.Container as container;
@@ -10,7 +10,7 @@ use crate::given_up::GivenUp;
 use bcs_registry::{Container, Named, Registry, VariantFormat};
 use std::collections::BTreeMap;
 
-/// The container with this name.
+/// The container `name`.
 #[inline(never)]
 pub fn container_called<'a>(registry: &'a Registry, name: &str) -> Result<&'a Container, GivenUp>
     ensures ok { IfOk result (λ c. container_at name.now registry.now ≡ Some (container_of c.now)) }
@@ -20,7 +20,7 @@ pub fn container_called<'a>(registry: &'a Registry, name: &str) -> Result<&'a Co
     registry.container(name).ok_or(GivenUp::Unusual)
 }
 
-/// The variant with the name `word`, and its number, in the enum `name`.
+/// The variant `word` of the enum `name`, and its number.
 #[inline(never)]
 pub fn variant_called<'a>(
     registry: &Registry,
@@ -35,7 +35,7 @@ pub fn variant_called<'a>(
     find_variant(registry, name, variants, word).ok_or(GivenUp::Unusual)
 }
 
-// First the number of the variant by its name, then the variant with this number.
+// Finds the number by the name, and then the variant by the number.
 fn find_variant<'a>(
     registry: &Registry,
     name: &str,
@@ -63,7 +63,7 @@ pub fn without_payload(payload: &VariantFormat) -> Result<(), GivenUp>
     }
 }
 
-/// How many containers may open inside the next one, if `left` may open here.
+/// How many containers may still open inside a container, if `left` may open including it.
 #[inline(always)]
 pub fn open_container(left: u32) -> Result<u32, GivenUp>
     ensures ok { IfOk result (λ inside. left ≡ suc inside) }

@@ -1,4 +1,4 @@
-//! Whole numbers, and lists of them, which are read in one loop outside of the walk.
+//! Reads integers, and lists of them in one loop outside the recursion.
 ghost use Rattle.std.specs.Prelude.{◌≡◌, pos, Some, IfOk};
 ghost use Rattle.json.specs.Reads.{token_of};
 ghost use Rattle.json.specs.Token.{number};
@@ -18,7 +18,7 @@ use bcs_value_model::Value;
 use json::{Reader, Token};
 use std::alloc::Global;
 
-/// An array's items, all of one number format, up to the end of the array.
+/// Reads the items of an array of integers, up to its end.
 #[inline(never)]
 pub fn next_numbers(
     alloc: Global,
@@ -37,7 +37,7 @@ pub fn next_numbers(
     Ok(found)
 }
 
-/// The whole number of the format that a token spells.
+/// The integer that a token represents.
 #[inline(always)]
 pub fn number_of_token(format: IntegerKind, token: Token<'_>) -> Result<Value, GivenUp>
     ensures { IfOk result (λ v. IsToken (leaf.read_leaf (whole_shape format)) (token_of token.entry) (tree_of v)) }
@@ -64,7 +64,7 @@ fn signed_of_token(width: Width, token: Token<'_>) -> Result<Value, GivenUp>
     Ok(Value::Signed(number))
 }
 
-// The unsigned number that a token spells: decimal digits in a string, or a number.
+// An unsigned integer, as a JSON number or as a string of decimal digits.
 #[inline(always)]
 fn unsigned_in(width: Width, token: Token<'_>) -> Result<u128, GivenUp>
     ensures { IfOk result (λ n. (d : Data) × (alone (token_of token.entry) ≡ Some d) × SpellsWhole d (pos n) × IsUnsigned (width_of width) n) }
@@ -79,7 +79,7 @@ fn unsigned_in(width: Width, token: Token<'_>) -> Result<u128, GivenUp>
     }
 }
 
-// The unsigned number that is written as a JSON number. `serde_json` keeps whole numbers only in 64 bits.
+// An unsigned integer as a JSON number. `serde_json` represents integers as such only up to 64 bits.
 #[inline(always)]
 fn held_unsigned(width: Width, text: &str) -> Result<u128, GivenUp>
     ensures { IfOk result (λ n. (alone (number text.now) ≡ Some (held (unsigned n))) × IsUnsigned (width_of width) n) }
@@ -94,7 +94,7 @@ fn held_unsigned(width: Width, text: &str) -> Result<u128, GivenUp>
     }
 }
 
-// The signed number that a token spells: decimal digits in a string, or a number.
+// A signed integer, as a JSON number or as a string of decimal digits.
 #[inline(always)]
 fn signed_in(width: Width, token: Token<'_>) -> Result<i128, GivenUp>
     ensures { IfOk result (λ z. (d : Data) × (alone (token_of token.entry) ≡ Some d) × SpellsWhole d z × IsSigned (width_of width) z) }
@@ -109,7 +109,7 @@ fn signed_in(width: Width, token: Token<'_>) -> Result<i128, GivenUp>
     }
 }
 
-// The signed number that is written as a JSON number, if it is one of 64 bits.
+// A signed integer as a JSON number, if it has at most 64 bits.
 #[inline(always)]
 fn held_signed(width: Width, text: &str) -> Result<i128, GivenUp>
     ensures { IfOk result (λ z. (d : Data) × (alone (number text.now) ≡ Some d) × SpellsWhole d z × IsSigned (width_of width) z) }

@@ -1,4 +1,4 @@
-//! The walk: the parts of a value, up to the end of their array or object.
+//! Reads the parts of a value, up to the end of their array or object.
 ghost use Rattle.std.specs.Prelude.{◌≡◌, IfOk, map, true};
 ghost use Rattle.bcs_registry_model.specs.View.{field_of, formats_shapes, shape_of};
 ghost use Rattle.bcs_registry_model.specs.WellFormed.{are_distinct};
@@ -20,7 +20,7 @@ use bcs_value_model::Value;
 use json::{Reader, Token};
 use std::alloc::Global;
 
-/// An array's items, all of one format, up to the end of the array.
+/// Reads items of one format, up to the end of the array.
 #[cycle(walk)]
 pub(crate) fn next_items(
     alloc: Global,
@@ -43,7 +43,7 @@ pub(crate) fn next_items(
     Ok(found)
 }
 
-/// An array's items, one of each format in turn, up to the end of the array.
+/// Reads one item of each format, up to the end of the array.
 #[cycle(walk)]
 pub(crate) fn next_each(
     alloc: Global,
@@ -64,7 +64,7 @@ pub(crate) fn next_each(
     Ok(found)
 }
 
-/// A map's entries, up to the end of its array.
+/// Reads the entries of a map, up to the end of the array.
 #[cycle(walk)]
 pub(crate) fn next_pairs(
     alloc: Global,
@@ -85,7 +85,7 @@ pub(crate) fn next_pairs(
     Ok(found)
 }
 
-/// An array with a key and its value.
+/// Reads an array with a key and its value.
 #[cycle(walk)]
 fn next_entry(
     alloc: Global,
@@ -108,7 +108,7 @@ fn next_entry(
     Ok((name, value))
 }
 
-/// One member for each field, in any order, up to the end of the object.
+/// Reads one member for each field, in any order, up to the end of the object.
 #[cycle(walk)]
 pub(crate) fn next_fields(
     alloc: Global,

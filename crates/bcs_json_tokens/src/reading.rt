@@ -1,4 +1,4 @@
-//! The walk: the value that the next tokens spell at a format.
+//! Reads the value that the next tokens spell.
 ghost use Rattle.std.specs.Prelude.{◌≡◌, IfOk};
 ghost use Rattle.bcs_registry_model.specs.Shape.{tuple as tuple_shape};
 ghost use Rattle.bcs_registry_model.specs.View.{formats_shapes, shape_of};
@@ -20,8 +20,7 @@ use bcs_value_model::Value;
 use json::{Reader, Token};
 use std::alloc::Global;
 
-/// The next value of a format. At most `left` containers may open in it, and arrays and objects may nest at most `depth`
-/// deep.
+/// Reads one value of `format`. At most `left` containers may open in it, and its JSON may nest at most `depth` deep.
 #[cycle(walk)]
 pub(crate) fn next_value(
     alloc: Global,
@@ -49,7 +48,7 @@ pub(crate) fn next_value(
     }
 }
 
-/// `null`, or an object with the one member `some`.
+/// Reads an option: `null`, or an object with the single member `some`.
 #[cycle(walk)]
 fn next_option(
     alloc: Global,
@@ -75,7 +74,7 @@ fn next_option(
     }
 }
 
-/// An array, or a string of hexadecimal digits if the elements are bytes.
+/// Reads a list: an array or, for bytes, a string of hexadecimal digits.
 #[cycle(walk)]
 fn next_list(
     alloc: Global,
@@ -98,7 +97,7 @@ fn next_list(
     }
 }
 
-/// An array of `size` elements, or a string of hexadecimal digits for as many bytes.
+/// Reads an array of `size` elements or, for bytes, a string of `2 * size` hexadecimal digits.
 #[cycle(walk)]
 fn next_array(
     alloc: Global,
@@ -128,7 +127,7 @@ fn next_array(
     }
 }
 
-/// An array with one value of each format.
+/// Reads an array with one item of each format.
 #[cycle(walk)]
 pub(crate) fn next_tuple(
     alloc: Global,
@@ -147,7 +146,7 @@ pub(crate) fn next_tuple(
     Ok(Value::Items(next_each(alloc, registry, formats, left, inner, reader)?))
 }
 
-/// An array of entries, each a key with its value.
+/// Reads a map: an array of entries, each an array of a key and its value.
 #[cycle(walk)]
 fn next_map(
     alloc: Global,

@@ -1,11 +1,11 @@
-//! A slot for each field of a struct. The members fill the slots in any order.
+//! One slot for each field of a struct, which its member fills. Members may come in any order.
 ghost use Rattle.std.specs.Prelude.{◌≡◌, ◌<◌, IfOk, OnOk, Some, None, map, replicate, slice_get, slice_set, vec_len};
 
 use crate::given_up::GivenUp;
 use bcs_value_model::Value;
 use std::alloc::Global;
 
-/// A number of slots, all empty.
+/// `count` empty slots.
 pub(crate) fn empty_slots(alloc: Global, count: usize) -> Result<Vec<Option<Value>>, GivenUp>
     ensures { IfOk result (λ slots. slots.items ≡ replicate count None) }
 {
@@ -16,7 +16,7 @@ pub(crate) fn empty_slots(alloc: Global, count: usize) -> Result<Vec<Option<Valu
     Ok(slots)
 }
 
-/// Fills a slot, which has to be empty.
+/// Fills a slot, unless it is full already.
 #[inline(always)]
 pub(crate) fn fill(
     slots: &mut Vec<Option<Value>>,
@@ -34,7 +34,7 @@ pub(crate) fn fill(
     Ok(())
 }
 
-/// The values in the slots, none of which may be empty.
+/// The values in the slots, unless one is empty.
 pub(crate) fn filled(alloc: Global, slots: Vec<Option<Value>>) -> Result<Vec<Value>, GivenUp>
     ensures { IfOk result (λ found. map Some found.items ≡ slots.items) }
 {

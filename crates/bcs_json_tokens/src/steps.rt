@@ -1,4 +1,4 @@
-//! Steps of the walk that don't depend on a format.
+//! Reading steps that don't depend on a format.
 ghost use Rattle.std.specs.Prelude.{◌≡◌, Some, None, suc, option_map, IfOk};
 ghost use Rattle.json.specs.Json.{after_end_array, read_key};
 
@@ -28,7 +28,7 @@ pub(crate) fn next_member<'a>(reader: &mut Reader<'a>) -> Result<Option<&'a str>
     }
 }
 
-/// The name of an object's next member, which has to be there.
+/// The name of an object's next member. Gives up if there is none.
 #[inline(always)]
 pub fn next_name<'a>(reader: &mut Reader<'a>) -> Result<&'a str, GivenUp>
     ensures { IfOk result (λ name. read_key reader.old ≡ Some (Some name.now, reader.new)) }
@@ -39,7 +39,7 @@ pub fn next_name<'a>(reader: &mut Reader<'a>) -> Result<&'a str, GivenUp>
     }
 }
 
-/// Skips the name of an object's next member, which has to be this one.
+/// Skips the name of an object's next member. Gives up unless it is `wanted`.
 #[inline(always)]
 pub fn pass_name(reader: &mut Reader<'_>, wanted: &str) -> Result<(), GivenUp>
     ensures { IfOk result (λ _. read_key reader.old ≡ Some (Some wanted.now, reader.new)) }
@@ -75,7 +75,7 @@ pub fn pass_end_array(reader: &mut Reader<'_>) -> Result<(), GivenUp>
     }
 }
 
-/// Checks a number of items.
+/// Checks the number of items.
 #[inline(always)]
 pub fn exactly(found: usize, wanted: u64) -> Result<(), GivenUp>
     ensures { IfOk result (λ _. found ≡ wanted) }

@@ -1,4 +1,4 @@
-//! The public call: the value that a text spells.
+//! Reads a value from JSON.
 ghost use Rattle.std.specs.Prelude.{IfOk};
 ghost use Rattle.bcs_registry_model.specs.View.{shape_of};
 ghost use Rattle.bcs_value_model.specs.View.{tree_of};
@@ -12,7 +12,8 @@ use bcs_value::{Limits, Value};
 use json::{Reader, Scratch};
 use std::alloc::Global;
 
-/// The value that a text spells, read from its tokens. If it gives up, the text may still spell a value.
+/// Reads the value that `text` spells, which is UTF-8 JSON (RFC 8259) as defined in docs/FORMAT.md, from its tokens. If
+/// this gives up, the JSON may still be valid; `bcs_json_reader` decides.
 pub fn value_of_text(
     alloc: Global,
     registry: &Registry,

@@ -1,4 +1,4 @@
--- The test for neighbours with one key, and entries that rise.
+-- The test for neighbours with the same key, and ascending entries.
 use Rattle.std.proofs.Common.{◌≡◌, ℕ, ◌≤◌, true, false, List, [], ◌∷◌, length, refl, sym, subst, arith, rules, inl, inr}
 use Rattle.std.specs.Cmp.Rules.{comparing}
 use Rattle.std.specs.Str.{bytes_eq}

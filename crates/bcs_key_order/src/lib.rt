@@ -1,4 +1,4 @@
-//! The order of a map's keys: whether one may follow another, and entries brought into it.
+//! The order of the keys of a map: checking it while reading, and sorting entries for writing.
 #![tactic(auto)]
 
 pub mod following;

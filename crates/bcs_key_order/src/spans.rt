@@ -1,4 +1,4 @@
-//! The entries of a map in one buffer: where they stand, and the order of their keys' bytes.
+//! The entries of a map in a buffer, and sorting them by the bytes of their keys.
 ghost use Rattle.std.specs.Prelude.{◌≡◌, map};
 ghost use Rattle.std.specs.List.Sorted.{IsPermutation, IsSortedByKey};
 ghost use Rattle.std.specs.Ordering.{nat_cmp};
@@ -6,7 +6,7 @@ ghost use Rattle.std.specs.Cmp.Lexicographic.{slice_cmp};
 ghost use Rattle.bcs_key_order.specs.Order.{has_equal_neighbours, is_below, keys_rise};
 ghost use Rattle.bcs_key_order.specs.Spans.{Ordered, lone_key_at, part as spec_part};
 
-/// The places of a key's bytes, from `start` to `end`, and the place where its value ends, which begins where the key ends.
+/// An entry in a buffer, as byte offsets: its key is from `start` to `end`, and its value from `end` to `value`.
 #[derive(Clone, Copy)]
 pub struct Span {
     pub start: usize,
@@ -14,7 +14,7 @@ pub struct Span {
     pub value: usize,
 }
 
-/// The bytes from one place to another, or none where there is no such part.
+/// The bytes from `from` to `to`, or none if they aren't a valid range.
 pub fn part(bytes: &[u8], from: usize, to: usize) -> &[u8]
     ensures { result.now ≡ spec_part bytes.now from to }
 {
@@ -25,8 +25,7 @@ pub fn part(bytes: &[u8], from: usize, to: usize) -> &[u8]
     }
 }
 
-/// Whether the keys' bytes rise from each span to the next. Then entries stay where they are, so that maps nested in
-/// canonical values aren't copied once a level.
+/// Whether the keys ascend. If so, entries aren't copied; for nested maps that would cost a copy at each level.
 pub fn rise(spans: &[Span], bytes: &[u8]) -> bool
     ensures { result ≡ keys_rise (map (lone_key_at bytes.now) spans.now) }
 {
@@ -38,7 +37,7 @@ pub fn rise(spans: &[Span], bytes: &[u8]) -> bool
     true
 }
 
-/// Whether an entry's key is above that of the entry before.
+/// Whether the key of `entry` is above that of `before`.
 pub fn rises(before: Span, entry: Span, bytes: &[u8]) -> bool
     ensures { result ≡ is_below (spec_part bytes.now before.start before.end) (spec_part bytes.now entry.start entry.end) }
 {
@@ -46,7 +45,7 @@ pub fn rises(before: Span, entry: Span, bytes: &[u8]) -> bool
     part(bytes, before.start, before.end).cmp(key).is_lt()
 }
 
-/// Brings the spans into the order of their keys' bytes, and says whether these differ.
+/// Sorts the spans by the bytes of their keys, and returns whether all keys are distinct.
 pub fn sort(spans: &mut [Span], bytes: &[u8]) -> bool
     ensures moved { IsPermutation spans.old spans.new }
     ensures order { Ordered result bytes.now spans.new }
@@ -62,7 +61,7 @@ fn sort_by_keys(spans: &mut [Span], bytes: &[u8])
     spans.sort_unstable_by(|a, b| { part(bytes, a.start, a.end).cmp(part(bytes, b.start, b.end)) });
 }
 
-/// Whether two keys that stand next to each other are the same.
+/// Whether two neighbours have the same key.
 fn have_equal_neighbours(spans: &[Span], bytes: &[u8]) -> bool
     ensures { result ≡ has_equal_neighbours (map (lone_key_at bytes.now) spans.now) }
 {

@@ -1,4 +1,4 @@
--- Laws of plain decimal texts of numbers of up to 128 bits, and of the digits that they are read by.
+-- Laws of the plain decimal strings of numbers of up to 128 bits, and of reading their digits.
 use Rattle.bcs_num.proofs.Prelude.{◌≡◌, ℕ, zero, suc, ◌+◌, ◌-◌, ◌*◌, ◌/◌, ◌%◌, ◌^◌, ◌<◌, ◌≤◌, List, [], ◌∷◌, ◌++◌, length, take, drop, get_or, refl, sym, ap, subst, ◌∙◌, arith, length-take, length-drop, get_or-drop, length-append, append_assoc, decimal, inl, inr, Option, Some, None, ℤ, pos, negsuc, IfSome, SomeIff, digit_value, signed_decimal, AllDigits, digits_value, digits_value_after, pow-le-pow_right, get_or-append, cases_lt, decimal_digit, decimal_step_wide, decimal_by_steps_wide, decimal_is_IsNumeral_wide, digits_value-lt, digits_more, digits_value_more, append-nil, take_all, digit_value_digit, digit_at, digit_from_value, digits_value-take-le, hbits, IsSigned}
 use Rattle.std.specs.Int as int
 use Rattle.bcs_num.proofs.Ranges.{half_most}
@@ -10,7 +10,7 @@ all_digits_at [] i digits h = absurd (omega arith)
 all_digits_at (c ∷ cs) zero digits h = digits.0
 all_digits_at (c ∷ cs) (suc i) digits h = all_digits_at cs i digits.1 (omega arith)
 
--- nineteen digits never go past 64 bits
+-- nineteen digits always fit into 64 bits
 pub short_fits : (ds : List ℕ) (i n : ℕ) → i < length ds → length ds ≤ 19 → AllDigits 10 (take i ds) → n ≡ digits_value 10 (take i ds) → n < 10 ^ 18
 short_fits ds i n h short digits is =
     let long : length (take i ds) ≡ i = omega (arith, length-take i ds) in
@@ -18,7 +18,7 @@ short_fits ds i n h short digits is =
     let most : 10 ^ i ≤ 10 ^ 18 = pow-le-pow_right {n = 10} (omega arith) {i = i} {j = 18} (omega arith) in
     omega (arith, is, below, most)
 
--- the loop of `number`, where rest is what stands after the first m digits
+-- the loop of `number`, where rest is what follows the first m digits
 module _ (ds rest : List ℕ) (m i n : ℕ) (back : rest ≡ drop m ds) (within : i < length rest) (is : n ≡ digits_value 10 (take (m + i) ds)) where
   in_all : m + i < length ds
   in_all = omega (arith, within, ap length back, length-drop m ds)
@@ -42,9 +42,9 @@ module _ (ds rest : List ℕ) (m i n : ℕ) (back : rest ≡ drop m ds) (within 
   pub too_large : 2 ^ 128 ≤ n * 10 + digit_value (get_or rest i 0) → ¬ (AllDigits 10 ds × (digits_value 10 ds < 2 ^ 128))
   too_large large all = omega (arith, all.1, next_value, digits_value-take-le 10 ds (m + (i + 1)) (omega arith))
 
--- ---- the text of a number
+-- ---- the decimal string of a number
 
--- it is a 0 alone, or begins with another digit
+-- it is a single 0, or starts with another digit
 pub decimal_begins : (n : ℕ) → 0 < n → n < 10 ^ 64 → 48 < get_or (decimal n) 0 0
 decimal_begins n some small = (decimal_by_steps_wide (λ m ds. (0 < length ds) × (0 < m → 48 < get_or ds 0 0))
     (λ m low. (omega arith, λ some. omega arith))
@@ -66,7 +66,7 @@ decimal-value_after n (c ∷ cs) some digits small =
     ∙ ap (λ x. x ++ cs) (decimal_step_wide m (omega arith) (omega (arith, value_after-ge m cs)) ∙ (λ i. decimal (front i) ++ (end i ∷ [])))
     ∙ append_assoc (decimal n) (c ∷ []) cs
 
--- no empty text, and no zero before another digit
+-- not empty, and no zero before another digit
 pub record IsPlain (ds : List ℕ) : Type 0 where
   pub some : 0 < length ds
   pub zero_alone : get_or ds 0 0 ≡ 48 → length ds ≡ 1
@@ -80,7 +80,7 @@ decimal_is_plain n small = record {
   ];
 }
 
--- plain digits are the text of what they are worth
+-- plain digits are the decimal string of their value
 pub decimal-digits_value : (ds : List ℕ) → AllDigits 10 ds → IsPlain ds → digits_value 10 ds < 10 ^ 64 → decimal (digits_value 10 ds) ≡ ds
 decimal-digits_value [] digits plain small = absurd (omega (arith, plain.some))
 decimal-digits_value (c ∷ []) digits plain small =
@@ -93,7 +93,7 @@ decimal-digits_value (c ∷ e ∷ cs) digits plain small =
     decimal-value_after (0 * 10 + digit_value c) (e ∷ cs) (omega arith) digits.1 small
     ∙ ap (λ x. x ++ (e ∷ cs)) (decimal_digit (0 * 10 + digit_value c) (omega (arith, digits.0)) ∙ ap (λ x. x ∷ []) is)
 
--- so a number that is read from plain digits is the one whose text they are
+-- so if a number was read from plain digits, these are its decimal string
 pub plain_found : (ds : List ℕ) (r : Option ℕ) → IsPlain ds → SomeIff r (AllDigits 10 ds × (digits_value 10 ds < 2 ^ 128)) (digits_value 10 ds) → IfSome r (λ n. (n < 2 ^ 128) × (ds ≡ decimal n))
 plain_found ds None plain h = tt
 plain_found ds (Some n) plain h = (omega (arith, h.0.1, h.1), sym (ap decimal h.1 ∙ decimal-digits_value ds h.0.0 plain (omega (arith, h.0.1))))
@@ -117,7 +117,7 @@ no_minus n small minus =
     let first = digit_at (decimal n) 0 numeral.0.1 numeral.0.0 in
     omega (arith, first.0, minus)
 
--- a text that begins with `-` is that of a number below 0, -(k + 1), and the bytes after it are digits
+-- a string that starts with `-` is that of a negative number, -(k + 1), and the rest are digits
 pub minus_text : (w : int.Width) (z : ℤ) (text bytes : List ℕ) → IsSigned w z → get_or text 0 0 ≡ 45 → text ≡ signed_decimal z → bytes ≡ text
     → (k : ℕ) × (z ≡ negsuc k) × (k < 2 ^ 127) × (k < 2 ^ hbits w) × (take (length bytes - 1) (drop 1 bytes) ≡ decimal (suc k))
 minus_text w (pos n) text bytes fits minus is same =

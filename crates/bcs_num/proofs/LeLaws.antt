@@ -1,8 +1,8 @@
--- Laws of little-endian numbers. Nothing outside of this file looks into `le`.
+-- Laws of little-endian integers. No other file unfolds `le`.
 use Rattle.bcs_num.proofs.Prelude.{◌≡◌, ℕ, zero, suc, ◌*◌, ◌/◌, ◌%◌, ◌^◌, ◌<◌, ℤ, List, [], ◌∷◌, ◌++◌, length, refl, sym, ap, subst, ◌∙◌, arith, w8, w16, w32, w64, w128, byte_len, byte_at, bytes_low_first, to_le_bytes, cast_unsigned, cast_signed, All, Fits-of_z, pow-suc, div-div-eq-div-mul, div-one, to_z-of_z, All-nil, All-cons, bits, IsUnsigned, IsSigned, low_bytes, le, le_signed}
 use Rattle.std.specs.Int as int
 
--- ---- how many bytes, and which
+-- ---- how many bytes, and which ones
 
 length-low_bytes : (k n : ℕ) → length (low_bytes k n) ≡ k
 length-low_bytes zero n = refl
@@ -20,12 +20,12 @@ pub All-le : (w : int.Width) (n : ℕ) → All (λ byte. byte < 256) (le w n)
 unfolding le
 All-le w n = All-low_byte (byte_len w) n
 
--- a number of one byte is its byte
+-- a one-byte integer is encoded as itself
 pub le-w8 : (n : ℕ) → n < 256 → le w8 n ≡ n ∷ []
 unfolding le
 le-w8 n small = let low : n % 256 ≡ n = omega arith in rw low refl
 
--- ---- no number's bytes begin another's
+-- ---- no encoding is a prefix of another
 
 pub width_bytes : (w : int.Width) → 2 ^ bits w ≡ 256 ^ byte_len w
 width_bytes w8 = refl
@@ -47,7 +47,7 @@ pub le_prefix_free : (w : int.Width) (m n : ℕ) (r s : List ℕ) → IsUnsigned
 unfolding le
 le_prefix_free w m n r s h g e = low_bytes-free (byte_len w) m n r s (subst (λ (x : ℕ). m < x) (width_bytes w) h) (subst (λ (x : ℕ). n < x) (width_bytes w) g) e
 
--- the two's complement of a signed number is a number of the width
+-- the two's complement of a signed integer is in the unsigned range of its width
 pub cast_in_range : (w : int.Width) (z : ℤ) → IsSigned w z → IsUnsigned w (cast_unsigned w z)
 cast_in_range w z h = (Fits-of_z h).fits
 
@@ -56,7 +56,7 @@ le_signed_prefix_free w y z r s h g e =
     let i = le_prefix_free w (cast_unsigned w y) (cast_unsigned w z) r s (cast_in_range w y h) (cast_in_range w z g) e in
     (sym (to_z-of_z w y h) ∙ ap (cast_signed w) i.0 ∙ to_z-of_z w z g, i.1)
 
--- ---- std's words
+-- ---- in std's terms
 
 byte_at-pow : (i n : ℕ) → byte_at i n ≡ n / 256 ^ i % 256
 byte_at-pow zero n = ap (λ (x : ℕ). x % 256) (sym (div-one n))

@@ -1,9 +1,9 @@
--- What the calls on little-endian numbers read and write, by std's words.
+-- What the functions on little-endian integers read and write, in std's terms.
 use Rattle.bcs_num.proofs.Prelude.{◌≡◌, ℕ, zero, suc, ◌+◌, ◌-◌, ◌*◌, ◌/◌, ◌%◌, ◌^◌, ◌<◌, ◌≤◌, ℤ, pos, negsuc, List, [], ◌∷◌, ◌++◌, length, take, drop, get_or, refl, sym, ap, subst, ◌∙◌, arith, length-take, length-take-le, Option, Some, None, Ok, IfOk, IfSome, ok_or, EndOfInput, w8, w16, w32, w64, w128, byte_len, byte_worth, sum_through, to_le_bytes, from_le_bytes, cast_unsigned, cast_signed, bit_and, All, Fits-of_lt, sfits_to_z, pow-suc, mod-eq_of_lt, to_z-of_z, of_z-to_z, and_mask, take_at, drop_at, All-head, All-tail, All-take, bits, IsUnsigned, IsSigned, low_bytes, le, le_signed}
 use Rattle.std.specs.Int as int
 use Rattle.bcs_num.proofs.LeLaws.{width_bytes, cast_in_range, All-le, length-le, le_prefix_free, to_le_bytes-le}
 
--- the number that bytes write, the lowest first
+-- the little-endian value of bytes
 number_of : List ℕ → ℕ
 number_of [] = 0
 number_of (b ∷ bytes) = b + number_of bytes * 256
@@ -25,7 +25,7 @@ low_bytes-number_of (b ∷ bytes) h =
     let up : (b + number_of bytes * 256) / 256 ≡ number_of bytes = omega arith in
     rw (low, up, low_bytes-number_of bytes (All-tail (λ byte. byte < 256) b bytes h)) refl
 
--- what the bytes through the one at k are worth
+-- the value of the bytes up to the one at index k, inclusive
 worth_through : List ℕ → ℕ → ℕ
 worth_through bytes k = sum_through (λ i. byte_worth i (get_or bytes i 0)) k
 
@@ -57,7 +57,7 @@ from_le_bytes-number_of w (b ∷ bytes) long =
     let last : byte_len w - 1 ≡ length bytes = omega (arith, long) in
     ap (worth_through (b ∷ bytes)) last ∙ worth_through-all b bytes
 
--- so many bytes are those of their number, which is in range; and a number is that of its bytes
+-- byte_len bytes are the encoding of the number that std reads from them, which is in range
 pub unsigned_read : (w : int.Width) (s : List ℕ) → All (λ byte. byte < 256) s → length s ≡ byte_len w → IsUnsigned w (from_le_bytes w s) × (s ≡ le w (from_le_bytes w s))
 unfolding le
 unsigned_read w s byte long =
@@ -72,7 +72,7 @@ unsigned_written w n h =
     let k = unsigned_read w (le w n) (All-le w n) (length-le w n) in
     (All-le w n, length-le w n, (le_prefix_free w (from_le_bytes w (le w n)) n [] [] k.0 h (ap (λ (x : List ℕ). x ++ []) (sym k.1))).0)
 
--- the same of signed numbers
+-- the same for signed integers
 abbrev pub signed_number : int.Width → List ℕ → ℤ
 signed_number w s = cast_signed w (from_le_bytes w s)
 
@@ -86,7 +86,7 @@ signed_written w z h =
     let k = unsigned_written w (cast_unsigned w z) (cast_in_range w z h) in
     (k.0, k.1, ap (cast_signed w) k.2 ∙ to_z-of_z w z h)
 
--- what `take_le` and `take_le_signed` take
+-- what `take_le` and `take_le_signed` return
 module _ {A : Type 0} (w : int.Width) (number : List ℕ → A) (Is : A → Type 0) (bytes_of : A → List ℕ) (bytes : List ℕ) where
   abbrev Front : Option A → Type 0
   Front r = IfSome r (λ n. (byte_len w ≤ length bytes) × (n ≡ number (take (byte_len w) bytes)))
@@ -101,7 +101,7 @@ module _ {A : Type 0} (w : int.Width) (number : List ℕ → A) (Is : A → Type
   front_only (Some m) (enough, is) none back n fits first = ap (λ (x : A). Ok x) (is ∙ ap number first ∙ (back n fits).2)
   front_only None h none back n fits first = absurd (omega (arith, none refl, ap length first, (back n fits).1, length-take (byte_len w) bytes))
 
--- the lowest bits of a number of the width are its two's complement
+-- the lowest bits of the 128-bit two's complement are the two's complement of the width
 low_bits : (w : int.Width) (z : ℤ) → IsSigned w z → cast_unsigned w128 z % 2 ^ bits w ≡ cast_unsigned w z
 low_bits w (pos n) h = mod-eq_of_lt (cast_in_range w (pos n) h)
 low_bits w8 (negsuc n) h = omega (arith, h.sfits)
@@ -113,7 +113,7 @@ low_bits w128 (negsuc n) h = omega (arith, h.sfits)
 pub masked : (w : int.Width) (z : ℤ) (n mask : ℕ) → IsSigned w z → n ≡ cast_unsigned w128 z → mask + 1 ≡ 2 ^ bits w → bit_and n mask ≡ cast_unsigned w z
 masked w z n mask h is ones = let all : mask ≡ 2 ^ bits w - 1 = omega (arith, ones) in rw (all, is) (and_mask (cast_unsigned w128 z) (bits w) ∙ low_bits w z h)
 
--- the clauses of `put_le`, by what `put_front` leaves
+-- the clauses of `put_le`, from the contract of `put_front`
 pub put_is : (w : int.Width) (n k : ℕ) (s old new : List ℕ) → k ≡ byte_len w → s ≡ to_le_bytes w n → new ≡ s ++ drop (byte_len w) old
     → record { len : k ≡ byte_len w; room : k ≤ 16; bytes : take k new ≡ le w n; rest : drop k new ≡ drop k old }
 put_is w n k s old new size is after =
@@ -126,6 +126,6 @@ put_is w n k s old new size is after =
       rest = ap (drop k) after ∙ drop_at s (drop (byte_len w) old) k long ∙ ap (λ i. drop i old) (sym size);
     }
 
--- a byte is its only byte
+-- a number below 256 has one byte, itself
 pub byte_low_first : (n : ℕ) → n < 256 → n ∷ [] ≡ to_le_bytes w8 n
 byte_low_first n small = let low : n ≡ n % 256 = omega arith in ap (λ (x : ℕ). x ∷ []) low

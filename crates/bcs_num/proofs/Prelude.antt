@@ -1,4 +1,4 @@
--- What the proofs use of other crates, and of this crate's definitions.
+-- What the proofs use from other crates, and from this crate's definitions.
 pub use Rattle.std.proofs.Common.{[], add-one, ap, append_assoc, arith, decimal, drop, Err, false, get_or, get_or-drop, if◌then◌else◌, inl, inr, length, length-append, length-drop, length-take, length-take-le, List, min, nat_lt, negsuc, None, Ok, Option, pos, refl, Result, rules, set, Some, subst, suc, sym, take, true, zero, ℕ, ℤ, ◌%◌, ◌&&◌, ◌*◌, ◌++◌, ◌+◌, ◌-◌, ◌/◌, ◌<◌, ◌==◌, ◌^◌, ◌∙◌, ◌∷◌, ◌≡◌, ◌≤◌}
 pub use Rattle.std.proofs.Math.Facts.{Fits-of_lt, Fits-of_z, sfits_to_z}
 pub use Rattle.std.proofs.Math.ListN.{get_or-append}

@@ -1,4 +1,4 @@
--- The ranges of a width as tests and as statements, and how large they are.
+-- The range of a width as a test and as a statement, and its size.
 use Rattle.bcs_num.proofs.Prelude.{◌≡◌, ℤ, pos, negsuc, ◌+◌, ◌^◌, ◌≤◌, true, refl, arith, ltb-true, lt-ltb, Width, w8, w16, w32, w64, w128, bits, hbits, IsSigned, holds_signed}
 
 pub holds_signed-is : (w : Width) (z : ℤ) → holds_signed w z ≡ true → IsSigned w z
@@ -17,7 +17,7 @@ bits_most w32 = omega arith
 bits_most w64 = omega arith
 bits_most w128 = omega arith
 
--- below 0 stand as many numbers as from 0 on
+-- there are as many negative numbers as others
 pub two_halves : (w : Width) → 2 ^ bits w ≡ 2 ^ hbits w + 2 ^ hbits w
 two_halves w8 = refl
 two_halves w16 = refl

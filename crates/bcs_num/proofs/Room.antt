@@ -1,7 +1,7 @@
--- What is left of a 32-bit number after some of its groups.
+-- What remains of a 32-bit number after some of its groups of seven bits.
 use Rattle.bcs_num.proofs.Prelude.{◌≡◌, ℕ, zero, suc, ◌+◌, ◌-◌, ◌*◌, ◌/◌, ◌<◌, ◌≤◌, false, ◌&&◌, ◌==◌, nat_lt, refl, arith, nat_tests}
 
--- after i groups, it is below this
+-- an upper bound for the remaining number after i groups
 abbrev pub room : ℕ → ℕ
 room zero = 4294967296
 room (suc zero) = 33554432
@@ -18,7 +18,7 @@ room_few (suc (suc (suc zero))) left fits = omega arith
 room_few (suc (suc (suc (suc zero)))) left fits = omega arith
 room_few (suc (suc (suc (suc (suc k))))) left fits = absurd (omega arith)
 
--- one group is taken off
+-- removing one group
 pub room_next : (i left : ℕ) → 128 ≤ left → left < room i → (i < 4) × (left / 128 < room (suc i))
 room_next zero left high fits = (omega arith, omega arith)
 room_next (suc zero) left high fits = (omega arith, omega arith)
@@ -27,7 +27,7 @@ room_next (suc (suc (suc zero))) left high fits = (omega arith, omega arith)
 room_next (suc (suc (suc (suc zero)))) left high fits = absurd (omega arith)
 room_next (suc (suc (suc (suc (suc k))))) left high fits = absurd (omega arith)
 
--- one group is put before
+-- prepending one group
 pub room_step : (i b left : ℕ) → i < 4 → b < 256 → left < room (suc i) → (b - 128) + left * 128 < room i
 room_step zero b left before low fits = omega arith
 room_step (suc zero) b left before low fits = omega arith
@@ -35,7 +35,7 @@ room_step (suc (suc zero)) b left before low fits = omega arith
 room_step (suc (suc (suc zero))) b left before low fits = omega arith
 room_step (suc (suc (suc (suc k)))) b left before low fits = absurd (omega arith)
 
--- the last group fits unless it is the fifth and above 15
+-- the last group fits, unless it is the fifth and above 15
 pub room_last : (i b : ℕ) → i ≤ 4 → b < 128 → ((i == 4) && nat_lt 15 b) ≡ false → b < room i
 room_last zero b few low small = omega arith
 room_last (suc zero) b few low small = omega arith

@@ -1,4 +1,4 @@
--- Laws of ULEB128. Nothing but the first two looks into `uleb`.
+-- Laws of ULEB128. Only the first two unfold `uleb`.
 use Rattle.bcs_num.proofs.Prelude.{◌≡◌, ℕ, zero, suc, ◌+◌, ◌/◌, ◌%◌, ◌<◌, ◌≤◌, List, [], ◌∷◌, ◌++◌, refl, sym, ap, ◌∙◌, arith, inl, inr, cases_lt, le-ltb, lt-ltb, groups, uleb}
 
 groups_low : (k n : ℕ) → n < 128 → groups k n ≡ n ∷ []
@@ -8,7 +8,7 @@ groups_low (suc k) n h = rw (lt-ltb n 128 h) refl
 groups_more : (k n : ℕ) → 128 ≤ n → groups (suc k) n ≡ (128 + n % 128) ∷ groups k (n / 128)
 groups_more k n h = rw (le-ltb n 128 h) refl
 
--- a bound that suffices makes no difference
+-- every sufficient bound gives the same bytes
 groups_alike : (k m n : ℕ) → n ≤ k → n ≤ m → groups k n ≡ groups m n
 groups_alike zero m n h g = groups_low zero n (omega arith) ∙ sym (groups_low m n (omega arith))
 groups_alike (suc k) zero n h g = groups_low (suc k) n (omega arith) ∙ sym (groups_low zero n (omega arith))
@@ -29,7 +29,7 @@ uleb-more zero h = absurd (omega arith)
 uleb-more (suc n) h = groups_more n (suc n) h
     ∙ ap (λ (x : List ℕ). (128 + suc n % 128) ∷ x) (groups_alike n (suc n / 128) (suc n / 128) (omega arith) (omega arith))
 
--- to prove a law of each number: prove it below 128, and from 128 on from the rest of the groups
+-- induction over groups: prove a law for numbers below 128, and for larger n from the law for n / 128
 pub uleb_by_groups : (P : ℕ → Type 0) → ((n : ℕ) → n < 128 → P n) → ((n : ℕ) → 128 ≤ n → P (n / 128) → P n) → (n : ℕ) → P n
 uleb_by_groups P one more n = within n n (omega arith)
   where
@@ -40,7 +40,7 @@ uleb_by_groups P one more n = within n n (omega arith)
       | inr high ↦ more n high (within k (n / 128) (omega arith))
     ]
 
--- ---- no number's bytes begin another's
+-- ---- no encoding is a prefix of another
 
 low_head : (m n : ℕ) (r s : List ℕ) → m < 128 → 128 ≤ n → uleb m ++ r ≡ uleb n ++ s → ⊥
 low_head m n r s low high e =

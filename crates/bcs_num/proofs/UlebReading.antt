@@ -1,15 +1,15 @@
--- What stands at the front of bytes, as one function: a number and its length, or the fault. It holds of the bytes
--- (`reports_number_at`), and nothing else does (`number_at_only`), so that each case excludes the others.
+-- Reading a number from the start of bytes, as one function: the number and its length, or the fault. Its result meets
+-- the specification (`reports_number_at`), and no other does (`number_at_only`), so the cases exclude each other.
 use Rattle.bcs_num.proofs.Prelude.{◌≡◌, ℕ, suc, ◌+◌, ◌-◌, ◌*◌, ◌/◌, ◌%◌, ◌^◌, ◌<◌, ◌≤◌, false, ◌&&◌, ◌==◌, nat_lt, if◌then◌else◌, List, [], ◌∷◌, ◌++◌, length, take, drop, Result, Ok, Err, refl, sym, ap, subst, ◌∙◌, arith, inl, inr, length-append, length-take, get_or, IfOk, IsErrOf, ◌↔◌, take_at, take-append-drop, drop_more, All, cases_lt, cases_eq, le-ltb, lt-ltb, nat_tests, All-nil, All-cons, All-head, All-tail, NumFault, EndOfInput, LongForm, NumberTooLarge, uleb, HasHighBit, IsUnended, IsLongForm, IsTooLarge}
 use Rattle.bcs_num.proofs.Room.{room, room_next, room_step, room_last, room_small}
 use Rattle.bcs_num.proofs.UlebLaws.{uleb-low, uleb-more, uleb_by_groups}
 
--- the number with so much less, and its length with so many bytes more
+-- puts len bytes in front of a result: the value is scaled by worth, low is added, and the length grows
 abbrev pub shifted : ℕ → ℕ → ℕ → Result (ℕ × ℕ) NumFault → Result (ℕ × ℕ) NumFault
 shifted low worth len (Ok x) = Ok (low + x.0 * worth, len + x.1)
 shifted low worth len (Err e) = Err e
 
--- what the bytes from place i of a number on say
+-- reads the rest of a number, from the byte at index i on
 abbrev pub number_from : ℕ → List ℕ → Result (ℕ × ℕ) NumFault
 number_from i [] = Err EndOfInput
 number_from i (b ∷ bytes) =
@@ -17,7 +17,7 @@ number_from i (b ∷ bytes) =
     else (if nat_lt b 128 then (if (b == 0) && nat_lt 0 i then Err LongForm else Ok (b, 1))
     else shifted (b - 128) 128 1 (number_from (suc i) bytes))
 
--- which of four a byte at a place is
+-- the four cases of a byte at index i
 pub data ByteKind (i b : ℕ) : Type 0 where
   large : i ≡ 4 → 15 < b → ByteKind i b
   zero_last : b ≡ 0 → 0 < i → ByteKind i b
@@ -61,7 +61,7 @@ at_more i b bytes high before =
     let small : ((i == 4) && nat_lt 15 b) ≡ false = grind (arith, nat_tests) in
     rw (small, le-ltb b 128 high) refl
 
--- ---- what is said from place i on
+-- ---- specification of the bytes from index i on
 
 pub record NumberFrom (i : ℕ) (bytes : List ℕ) (n len : ℕ) : Type 0 where
   pub rest : List ℕ
@@ -100,7 +100,7 @@ abbrev pub ReportsFrom : ℕ → List ℕ → Result (ℕ × ℕ) NumFault → T
 ReportsFrom i bytes (Ok x) = NumberFrom i bytes x.0 x.1
 ReportsFrom i bytes (Err e) = FaultFrom i bytes e
 
--- ---- it is so
+-- ---- the result meets it
 
 number_more : (i b : ℕ) (bytes : List ℕ) (n len : ℕ) → i < 4 → 128 ≤ b → b < 256 → NumberFrom (suc i) bytes n len → NumberFrom i (b ∷ bytes) ((b - 128) + n * 128) (1 + len)
 number_more i b bytes n len before high byte t =
@@ -152,7 +152,7 @@ reports_number_from i (b ∷ bytes) few byte = elim (byte_kind i b few) [
   | more high before ↦ rw (at_more i b bytes high before) (reports_more i b bytes (number_from (suc i) bytes) before high (All-head (λ x. x < 256) b bytes byte) (reports_number_from (suc i) bytes (omega arith) (All-tail (λ x. x < 256) b bytes byte)))
 ]
 
--- ---- and nothing else is
+-- ---- and no other result does
 
 abbrev ReadAgain : ℕ → Type 0
 ReadAgain n = (i : ℕ) (rest : List ℕ) → i ≤ 4 → (0 < i → 0 < n) → n < room i → number_from i (uleb n ++ rest) ≡ Ok (n, length (uleb n))
@@ -183,7 +183,7 @@ unended_only i (b ∷ bytes) short high =
     high_step i b bytes EndOfInput (omega arith) (All-head HasHighBit b bytes high)
     (unended_only (suc i) bytes (omega arith) (All-tail HasHighBit b bytes high))
 
--- bytes with the high bit go before what stands at place 4 or earlier
+-- prepending bytes with the high bit keeps a fault at index 4 or earlier
 after_high : (front : List ℕ) (i j : ℕ) (bytes : List ℕ) (e : NumFault) → All HasHighBit front → i + length front ≡ j → j ≤ 4 → number_from j bytes ≡ Err e → number_from i (front ++ bytes) ≡ Err e
 after_high [] i j bytes e high at' few is = let same : i ≡ j = omega arith in rw same is
 after_high (b ∷ front) i j bytes e high at' few is =
@@ -203,9 +203,9 @@ number_from_only : (i : ℕ) (bytes : List ℕ) (r : Result (ℕ × ℕ) NumFaul
 number_from_only i bytes (Ok x) few t = ap (number_from i) t.is ∙ number_again x.0 i t.rest few t.shortest t.fits ∙ ap (λ (len : ℕ). Ok (x.0, len)) (sym t.long)
 number_from_only i bytes (Err e) few t = fault_only i bytes e t
 
--- ---- from the first place on: the words of the specification
+-- ---- from index 0 on: the definitions of the specification
 
--- what the bytes say of a number at their front
+-- what reading from the start of bytes returns
 abbrev pub number_at : List ℕ → Result (ℕ × ℕ) NumFault
 number_at bytes = number_from 0 bytes
 
@@ -279,9 +279,9 @@ verdict bytes r byte e = record {
   large = (λ h. number_at_is_fault bytes NumberTooLarge byte (e ∙ h), λ t. sym e ∙ number_at_fault bytes NumberTooLarge t);
 }
 
--- ---- the loop of `take_uleb`, which has gone past i bytes
+-- ---- the loop of `take_uleb`, after i bytes
 
--- the byte at i decides
+-- the byte at index i ends the loop
 pub decided : (bytes : List ℕ) (i low worth : ℕ) (r : Result (ℕ × ℕ) NumFault) → i < length bytes
     → number_at bytes ≡ shifted low worth i (number_from i (drop i bytes))
     → number_from i (get_or bytes i 0 ∷ drop (i + 1) bytes) ≡ r

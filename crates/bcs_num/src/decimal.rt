@@ -1,5 +1,4 @@
-//! Plain decimal texts of whole numbers: `0`, or digits without a leading zero, and `-` before a
-//! number below 0.
+//! Plain decimal strings of integers: `0`, or digits without a leading zero, preceded by `-` if the number is negative.
 ghost use Rattle.std.specs.Prelude.{◌≡◌, ℕ, ℤ, ◌+◌, ◌^◌, ◌<◌, ◌≤◌, Some, length, IfSome, SomeIff, decimal};
 ghost use Rattle.std.specs.Char.{digit_value};
 ghost use Rattle.std.specs.Fmt.{signed_decimal};
@@ -8,8 +7,8 @@ ghost use Rattle.bcs_num.specs.Le.{width_of, IsUnsigned, IsSigned};
 
 use crate::width::Width;
 
-/// The unsigned number of the width whose plain decimal text this is. `None`: there is none, as of
-/// `+1`, `007` and an empty text, or it is above the greatest of the width.
+/// Parses a plain decimal string as an unsigned integer of `width`. Returns `None` if the string isn't plain decimal
+/// (`+1`, `007`, the empty string), or if the number is too large for `width`.
 pub fn parse_unsigned(width: Width, text: &str) -> Option<u128>
     ensures found { IfSome result (λ n. IsUnsigned (width_of width) n × (text.now ≡ decimal n)) }
     ensures only { (n : ℕ) → IsUnsigned (width_of width) n → text.now ≡ decimal n
@@ -23,8 +22,8 @@ pub fn parse_unsigned(width: Width, text: &str) -> Option<u128>
     }
 }
 
-/// The signed number of the width whose plain decimal text this is. `None`: there is none, as of
-/// `+1`, `007`, `-0` and an empty text, or it is outside of the width.
+/// Parses a plain decimal string as a signed integer of `width`. Returns `None` if the string isn't plain decimal
+/// (`+1`, `007`, `-0`, the empty string), or if the number is out of range for `width`.
 pub fn parse_signed(width: Width, text: &str) -> Option<i128>
     ensures found { IfSome result (λ z. IsSigned (width_of width) z × (text.now ≡ signed_decimal z)) }
     ensures only { (z : ℤ) → IsSigned (width_of width) z → text.now ≡ signed_decimal z
@@ -33,7 +32,7 @@ pub fn parse_signed(width: Width, text: &str) -> Option<i128>
     let greatest = width.greatest_signed();
     match text.as_bytes() {
         [b'-', digits @ ..] => {
-            // How far the number lies below -1; `-0` has no such distance.
+            // The distance from -1 down to the number. `-0` has none, so the subtraction rejects it.
             let below = plain_number(digits)?.checked_sub(1)?;
             if below <= greatest {
                 Some(-1 - below as i128)
@@ -61,7 +60,7 @@ fn plain_number(digits: &[u8]) -> Option<u128>
     number(digits)
 }
 
-// As many digits as 64 bits hold, whichever they are.
+// The number of digits that always fit into 64 bits.
 const SHORT: usize = 19;
 
 fn number(digits: &[u8]) -> Option<u128>

@@ -1,5 +1,5 @@
-//! Numbers of Binary Canonical Serialization (BCS): ULEB128, little-endian whole numbers of a fixed
-//! width, and the plain decimal texts that stand for them in JSON. No call takes memory.
+//! Numbers of Binary Canonical Serialization (BCS): ULEB128, little-endian integers of a fixed width, and their plain
+//! decimal strings in JSON. Nothing here allocates.
 #![tactic(auto)]
 
 mod decimal;

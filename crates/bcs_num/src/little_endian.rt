@@ -1,4 +1,4 @@
-//! Whole numbers of a fixed width, as BCS writes them: two's complement, the lowest byte first.
+//! Integers of a fixed width, as the BCS specification encodes them: little-endian, in two's complement.
 ghost use Rattle.std.specs.Prelude.{◌≡◌, ℕ, ℤ, ◌<◌, ◌≤◌, ◌++◌, ◌↔◌, Ok, None, length, take, drop, IfOk, IfSome, IsErrOf};
 ghost use Rattle.std.specs.Int.{byte_len, cast_signed, from_le_bytes};
 ghost use Rattle.bcs_num.specs.Le.{width_of, IsUnsigned, IsSigned, le, le_signed};
@@ -6,8 +6,7 @@ ghost use Rattle.bcs_num.specs.Le.{width_of, IsUnsigned, IsSigned, le, le_signed
 use crate::fault::NumFault;
 use crate::width::{GREATEST_LEN, Width};
 
-/// Writes an unsigned number at the front of `out`, and answers how many bytes it has: those of
-/// the width.
+/// Writes an unsigned integer to the start of `out` and returns its length in bytes, which is that of `width`.
 pub fn put_le(width: Width, n: u128, out: &mut [u8; GREATEST_LEN]) -> usize
     requires { IsUnsigned (width_of width) n }
     ensures len { result ≡ byte_len (width_of width) }
@@ -24,8 +23,7 @@ pub fn put_le(width: Width, n: u128, out: &mut [u8; GREATEST_LEN]) -> usize
     }
 }
 
-/// Writes a signed number at the front of `out`, and answers how many bytes it has: those of the
-/// width.
+/// Writes a signed integer to the start of `out` and returns its length in bytes, which is that of `width`.
 pub fn put_le_signed(width: Width, n: i128, out: &mut [u8; GREATEST_LEN]) -> usize
     requires { IsSigned (width_of width) n }
     ensures len { result ≡ byte_len (width_of width) }
@@ -33,7 +31,7 @@ pub fn put_le_signed(width: Width, n: i128, out: &mut [u8; GREATEST_LEN]) -> usi
     ensures bytes { take result out.new ≡ le_signed (width_of width) n }
     ensures rest { drop result out.new ≡ drop result out.old }
 {
-    // Two's complement: the lowest bits of the number's own.
+    // The lowest bits of the 128-bit two's complement are the two's complement of the narrower width.
     put_le(width, n.cast_unsigned() & width.greatest_unsigned(), out)
 }
 
@@ -46,8 +44,7 @@ fn put_front<const N: usize>(bytes: [u8; N], out: &mut [u8; GREATEST_LEN]) -> us
     N
 }
 
-/// Takes the unsigned number of the width at the front. `EndOfInput`: there are fewer bytes than
-/// the width.
+/// Reads an unsigned integer of `width` from the start of `bytes`. Fails with `EndOfInput` if there are too few bytes.
 pub fn take_le(width: Width, bytes: &[u8]) -> Result<u128, NumFault>
     ensures found { IfOk result (λ n. IsUnsigned (width_of width) n
         × (take (byte_len (width_of width)) bytes.now ≡ le (width_of width) n)) }
@@ -59,8 +56,7 @@ pub fn take_le(width: Width, bytes: &[u8]) -> Result<u128, NumFault>
     leading_unsigned(width, bytes).ok_or(NumFault::EndOfInput)
 }
 
-/// Takes the signed number of the width at the front. `EndOfInput`: there are fewer bytes than the
-/// width.
+/// Reads a signed integer of `width` from the start of `bytes`. Fails with `EndOfInput` if there are too few bytes.
 pub fn take_le_signed(width: Width, bytes: &[u8]) -> Result<i128, NumFault>
     ensures found { IfOk result (λ z. IsSigned (width_of width) z
         × (take (byte_len (width_of width)) bytes.now ≡ le_signed (width_of width) z)) }
@@ -72,7 +68,7 @@ pub fn take_le_signed(width: Width, bytes: &[u8]) -> Result<i128, NumFault>
     leading_signed(width, bytes).ok_or(NumFault::EndOfInput)
 }
 
-/// The unsigned number of the width that the first bytes are. `None`: there are fewer.
+/// The unsigned integer of `width` at the start of `bytes`, or `None` if there are too few bytes.
 #[inline(always)]
 pub fn leading_unsigned(width: Width, bytes: &[u8]) -> Option<u128>
     ensures found { IfSome result (λ n. (byte_len (width_of width) ≤ length bytes.now) × (n ≡ from_le_bytes (width_of width) (take (byte_len (width_of width)) bytes.now))) }
@@ -87,7 +83,7 @@ pub fn leading_unsigned(width: Width, bytes: &[u8]) -> Option<u128>
     })
 }
 
-/// The signed number of the width that the first bytes are. `None`: there are fewer.
+/// The signed integer of `width` at the start of `bytes`, or `None` if there are too few bytes.
 #[inline(always)]
 pub fn leading_signed(width: Width, bytes: &[u8]) -> Option<i128>
     ensures found { IfSome result (λ z. (byte_len (width_of width) ≤ length bytes.now) × (z ≡ cast_signed (width_of width) (from_le_bytes (width_of width) (take (byte_len (width_of width)) bytes.now)))) }

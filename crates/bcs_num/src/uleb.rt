@@ -1,14 +1,13 @@
-//! ULEB128, by which BCS writes lengths and variant numbers.
+//! ULEB128, in which BCS encodes lengths and variant numbers.
 ghost use Rattle.std.specs.Prelude.{◌≡◌, ℕ, ◌<◌, ◌≤◌, ◌+◌, ◌^◌, ◌↔◌, Ok, length, take, drop, IfOk, IsErrOf};
 ghost use Rattle.bcs_num.specs.Uleb.{uleb, IsUnended, IsLongForm, IsTooLarge};
 
 use crate::fault::NumFault;
 
-/// The greatest length of a list, a map, a text or a byte string, by the BCS specification.
+/// The greatest length of a list, a map, a string or a byte string, according to the BCS specification.
 pub const LENGTH_LIMIT: usize = 2147483647;
 
-/// Writes the shortest form of `n` at the front of `out`, and answers how many bytes it has: one
-/// to five.
+/// Writes the shortest form of `n` to the start of `out` and returns its length, one to five bytes.
 pub fn put_uleb(n: u32, out: &mut [u8; 5]) -> usize
     ensures len { result ≡ length (uleb n) }
     ensures room { result ≤ 5 }
@@ -26,11 +25,9 @@ pub fn put_uleb(n: u32, out: &mut [u8; 5]) -> usize
     i + 1
 }
 
-/// Takes the number at the front, and answers it with its length in bytes.
-///
-/// Bytes are taken up to the first without the high bit, and never more than five. `EndOfInput`:
-/// the bytes end before that. `NumberTooLarge`: a fifth byte above `0F`. `LongForm`: the last byte
-/// is `00` after another.
+/// Reads the number at the start of `bytes`, and returns it with its length in bytes. Reads up to the first byte
+/// without the high bit, at most five bytes. Fails with `EndOfInput` if `bytes` ends before that, with `NumberTooLarge`
+/// if the fifth byte is above `0F`, and with `LongForm` if the last byte is `00` and not the only one.
 pub fn take_uleb(bytes: &[u8]) -> Result<(u32, usize), NumFault>
     ensures found { IfOk result (λ r.
         (r.0 < 2 ^ 32) × (r.1 ≤ length bytes.now) × (take r.1 bytes.now ≡ uleb r.0)) }

@@ -1,30 +1,30 @@
-//! Widths of whole numbers, and which numbers each holds.
+//! Widths of integers, and the range of each.
 ghost use Rattle.std.specs.Prelude.{◌≡◌, ◌+◌, ◌↔◌, ◌^◌, ◌/◌, IsTrue};
 ghost use Rattle.std.specs.Int as int;
 ghost use Rattle.bcs_num.specs.Le as spec;
 ghost use Rattle.bcs_num.specs.Le.{width_of, IsUnsigned, IsSigned};
 ghost use mir.Val.{bits, hbits};
 
-/// How many bytes the widest numbers have.
+/// The length of the widest integers, in bytes.
 pub const GREATEST_LEN: usize = 16;
 
-/// How many bytes a whole number has. The same width serves an unsigned number and a signed one.
+/// The width of an integer type, signed or unsigned.
 #[derive(Clone, Copy, Debug, PartialEq, Eq)]
 pub enum Width {
-    /// One byte, as of `U8` and `I8`.
+    /// One byte, for `U8` and `I8`.
     W1,
-    /// Two bytes, as of `U16` and `I16`.
+    /// Two bytes, for `U16` and `I16`.
     W2,
-    /// Four bytes, as of `U32` and `I32`.
+    /// Four bytes, for `U32` and `I32`.
     W4,
-    /// Eight bytes, as of `U64` and `I64`.
+    /// Eight bytes, for `U64` and `I64`.
     W8,
-    /// Sixteen bytes, as of `U128` and `I128`.
+    /// Sixteen bytes, for `U128` and `I128`.
     W16,
 }
 
 impl Width {
-    /// How many bytes a number of the width has.
+    /// The length of an integer of this width, in bytes.
     pub fn byte_len(self) -> usize
         ensures { result ≡ int.byte_len (width_of self) }
     {
@@ -37,7 +37,7 @@ impl Width {
         }
     }
 
-    /// Whether the number is a value of the width's unsigned type.
+    /// Whether `number` is in the range of the unsigned type of this width.
     pub fn holds_unsigned(self, number: u128) -> bool
         ensures test { result ≡ spec.holds_unsigned (width_of self) number }
         ensures exact { IsTrue result ↔ IsUnsigned (width_of self) number }
@@ -45,7 +45,7 @@ impl Width {
         number <= self.greatest_unsigned()
     }
 
-    /// Whether the number is a value of the width's signed type.
+    /// Whether `number` is in the range of the signed type of this width.
     pub fn holds_signed(self, number: i128) -> bool
         ensures test { result ≡ spec.holds_signed (width_of self) number }
         ensures exact { IsTrue result ↔ IsSigned (width_of self) number }
@@ -57,14 +57,14 @@ impl Width {
         }
     }
 
-    /// The greatest value of the width's signed type; the least is one further below 0.
+    /// The greatest value of the signed type of this width. The least value is one further away from 0.
     pub(crate) fn greatest_signed(self) -> u128
         ensures { result + 1 ≡ 2 ^ hbits (width_of self) }
     {
         self.greatest_unsigned() / 2
     }
 
-    /// The greatest value of the width's unsigned type.
+    /// The greatest value of the unsigned type of this width.
     pub fn greatest_unsigned(self) -> u128
         ensures { result + 1 ≡ 2 ^ bits (width_of self) }
     {

@@ -1,4 +1,4 @@
--- From the JSON back to the format or the container that it writes down.
+-- From JSON back to the format or the container that it represents.
 use Rattle.bcs_registry.proofs.Prelude.{◌≡◌, ◌∙◌, ℕ, List, [], ◌∷◌, ap, bytes_eq, codes, if◌then◌else◌, refl, unwrap_or, Data, whole, number, string, list, object, Items, no_items, item, no_members, member, Container, Field, Payload, Shape, unit, name, option, seq, map, tuple, array, Shapes, no_shapes, shape, format_named, word_named, shown_choices, shown_container, shown_struct, shown_format, shown_formats, shown_payload, variant_shown}
 use Rattle.bcs_registry_model.specs.Container as container
 
@@ -94,7 +94,7 @@ variant_back v = ap (λ p. (v.0, p)) (payload_back v.1)
 
 -- ---- containers
 
--- a container, or the members that write down an enum's variants
+-- a container, or the members for the variants of an enum
 pub data Found : Type 0 where
   found : Container → Found
   variants : Data → Found

@@ -1,4 +1,4 @@
--- A text has at most one least fault, and none where it writes down what is well-formed.
+-- A document has at most one least fault, and none if it represents something well-formed.
 use Rattle.bcs_registry.proofs.Prelude.{◌≡◌, ◌∙◌, ◌&&◌, ℕ, List, Bool, true, false, ap, if◌then◌else◌, refl, subst, sym, true≢false, Data, Breaks, FormatBreaks, Entries, IsLeastFault, IsLeastFormatFault, IsJson, Shape, is_format, is_registry, IsFormatText, IsRegistryText, WritesFormat, WritesRegistry, OneFault, OneFormatFault, IsWellFormed, has_few_levels, is_known, levels_hold, names_differ, names_known, RegistryFault, BadNumber, BadShape, NotJson, OutOfMemory, RepeatedName, TooNested, UnknownName, and-true_parts}
 use Rattle.bcs_registry.proofs.OneText.{same_format, same_json, same_registry}
 use Rattle.bcs_registry.proofs.ShownShape.{format_shaped, registry_shaped}
@@ -6,7 +6,7 @@ use Rattle.bcs_registry.proofs.ShownShape.{format_shaped, registry_shaped}
 contradicts : (b : Bool) → b ≡ true → b ≡ false → ⊥
 contradicts b h i = true≢false (sym h ∙ i)
 
--- ---- what a text can be: no two of these hold of one text
+-- ---- the kinds of documents: a document has at most one of them
 
 data Verdict : Type 0 where
   unread : Verdict
@@ -14,7 +14,7 @@ data Verdict : Type 0 where
   misnumbered : Verdict
   written : Verdict
 
--- what can be told of a text by a shape, loosely and not
+-- the kind of a document, from the loose and the strict test of its shape
 module _ (A : Type 0) (Writes : Data → A → Type 0) (test : Bool → Data → Bool) (shaped : (loose : Bool) (d : Data) (a : A) → Writes d a → test loose d ≡ true) (text : List ℕ) where
   abbrev Is : Verdict → Type 0
   Is unread = (d : Data) → ¬ IsJson text d
@@ -66,7 +66,7 @@ validated text RepeatedName h = (h.0, h.1)
 validated text UnknownName h = (h.0, h.1)
 validated text OutOfMemory h = absurd h
 
--- the first rule that is broken, if any is
+-- the first rule that is broken, if one is
 first_break : Entries → RegistryFault
 first_break r = if levels_hold r then (if names_differ r then UnknownName else RepeatedName) else TooNested
 
@@ -80,7 +80,7 @@ is_first r BadShape h = absurd h
 is_first r BadNumber h = absurd h
 is_first r OutOfMemory h = absurd h
 
--- what follows from the fault that a text has, where it writes down a registry
+-- what a fault implies for a document that represents a registry
 broken : (text : List ℕ) (e : RegistryFault) → verdict_of e ≡ written → IsLeastFault text e → (r : Entries) × WritesRegistry text r × Breaks r e
 broken text TooNested is h = h
 broken text RepeatedName is h = h
@@ -96,7 +96,7 @@ one_break text e f is other h i =
     let b = broken text f other i in
     sym (is_first a.0 e a.2) ∙ ap first_break (same_registry text a.0 b.0 a.1 b.1) ∙ is_first b.0 f b.2
 
--- the verdict tells the fault, where nothing is written down
+-- the kind determines the fault, unless the document represents something
 told : (e f : RegistryFault) → verdict_of e ≡ verdict_of f → (verdict_of e ≡ written → e ≡ f) → e ≡ f
 told NotJson NotJson same rest = refl
 told BadShape BadShape same rest = refl

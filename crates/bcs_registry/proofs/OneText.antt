@@ -1,4 +1,4 @@
--- JSON writes down at most one format, and at most one registry.
+-- JSON represents at most one format, and at most one registry.
 use Rattle.bcs_registry.proofs.Prelude.{◌≡◌, ◌<◌, ◌^◌, ◌∙◌, ℕ, List, [], ◌∷◌, Bool, true, false, Option, Some, None, Ordering, Less, Equal, Greater, ap, arith, cond, decimal, nat_lt, option_map, refl, subst, sym, true≢false, Decides-ltb, nat_cmp_total, ranked, exact_unsigned, below_all, find, is_sorted, same_entries, list_all, AllByRecursion, IsStrictlySortedBy, keys_of, is_eq, T, get_member-put, get_member-put_other, Data, object, get_member, Choice, Container, Entries, Payload, shown_choices, shown_container, shown_containers, IsInRange, IsJson, Shape, IsFormatText, IsRegistryText, WritesFormat, WritesRegistry, OneFormat, OneRegistry, and-true_parts, has_number, numbered_below, texts_differ, variant_shown}
 use Rattle.std.proofs.Common.{nat_cmp}
 use Rattle.bcs_registry_model.specs.Container as container
@@ -13,7 +13,7 @@ abbrev variant_numbered : ℕ → List Choice → Option (List ℕ × Payload)
 variant_numbered n cs = find nat_cmp n cs
 
 module _ (n : ℕ) where
-  -- the value under the text of a number is the variant of that number
+  -- the member named by a number is the variant with that number
   seen_at : (c : Choice) (cs : List Choice) (o : Ordering) → nat_cmp n c.0 ≡ o → n < 2 ^ 32 → c.0 < 2 ^ 32
       → get_member (decimal n) (shown_choices cs) ≡ option_map variant_shown (variant_numbered n cs)
       → get_member (decimal n) (shown_choices (c ∷ cs)) ≡ option_map variant_shown (cond (is_eq o) (Some c.1) (variant_numbered n cs))
@@ -33,7 +33,7 @@ module _ (n : ℕ) where
       let p = and-true_parts (has_number c) (list_all has_number cs) h in
       seen_at c cs (nat_cmp n c.0) refl small (numbered_below c.0 p.0) (seen small cs p.1)
 
-  -- no variant has a greater number
+  -- no variant has a larger number
   unseen_at : (c : Choice) (cs : List Choice) (o : Ordering) → nat_cmp n c.0 ≡ o → (n < 2 ^ 32 → ⊥) → c.0 < 2 ^ 32 → variant_numbered n cs ≡ None → cond (is_eq o) (Some c.1) (variant_numbered n cs) ≡ None
   unseen_at c cs Equal is large fits later = let same : n ≡ c.0 = ranked n c.0 Equal (sym is) in absurd (large (omega (arith, same, fits)))
   unseen_at c cs Less is large fits later = later
@@ -103,9 +103,9 @@ one_registry d r q is other =
     let same : object (shown_containers r) ≡ object (shown_containers q) = sym is.is ∙ other.is in
     one_map r q is.orderly.containers other.orderly.containers cc
 
--- ---- texts
+-- ---- documents
 
--- a text is read as one JSON value
+-- a document is parsed as at most one JSON value
 pub same_json : (text : List ℕ) (d e : Data) → IsJson text d → IsJson text e → d ≡ e
 same_json text d e is other = let same : Some d ≡ Some e = sym is.1 ∙ other.1 in cc
 

@@ -1,4 +1,4 @@
--- Each text writes something down that keeps the rules, or has a least fault.
+-- Each document represents something that meets the rules, or has a least fault.
 use Rattle.bcs_registry.proofs.Prelude.{◌≡◌, ◌⊎◌, ◌∙◌, ℕ, List, Bool, true, false, Option, Some, None, inl, inr, refl, sym, true≢false, IsUtf8-from_is_utf8, is_utf8-from_IsUtf8, is_utf8, Data, read, Entries, IsLeastFault, IsLeastFormatFault, IsJson, IsNotJson, Shape, is_format, is_registry, WritesFormat, WritesRegistry, FormatOrFault, RegistryOrFault, Admits, IsWellFormed, has_few_levels, is_known, levels_hold, names_differ, names_known, RegistryFault, BadNumber, BadShape, NotJson, RepeatedName, TooNested, UnknownName}
 use Rattle.bcs_registry.proofs.SomeText.{format_written, registry_written}
 

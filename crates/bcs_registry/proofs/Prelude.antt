@@ -1,4 +1,4 @@
--- What the proofs use of other crates, and of this crate's definitions.
+-- What the proofs use from other crates, and from this crate's definitions.
 pub use Rattle.std.proofs.Common.{[], ap, arith, Bool, bytes_eq, codes, cond, decimal, Equal, false, Greater, if◌then◌else◌, inl, inr, is_some, IsTrue, Less, List, nat_lt, None, Option, option_map, Ordering, refl, rules, Some, string_bytes, subst, sym, true, unwrap_or, ℕ, ◌&&◌, ◌*◌, ◌++◌, ◌+◌, ◌<◌, ◌^◌, ◌||◌, ◌∙◌, ◌∷◌, ◌≡◌, ◌≤◌, ◌⊎◌}
 pub use Rattle.std.proofs.lemmas.Bool.{and_parts, false≢true, leb-true, or_from, or_parts, true≢false}
 pub use Rattle.std.proofs.lemmas.Bool.Decides.{Decides-ltb}

@@ -1,4 +1,4 @@
--- The JSON of a well-formed registry nests less deep than serde_json reads.
+-- The JSON of a well-formed registry nests less deeply than serde_json allows.
 use Rattle.bcs_registry.proofs.Prelude.{◌≤◌, ◌+◌, ◌*◌, ℕ, List, [], ◌∷◌, ◌++◌, true, ◌&&◌, Ordering, Less, Equal, Greater, IsTrue, sym, ◌∙◌, arith, leb-true, and_parts, list_all-append, slice_cmp, list_all, flat_map, nat_cmp, match_ordering, Data, Members, no_members, member, put, depth, items_depth, members_depth, max_depth, Field, Payload, Choice, Container, Entries, unit_struct, newtype_struct, tuple_struct, field_struct, enumeration, Shape, name, option, seq, map_of, tuple, array, Shapes, no_shapes, shape, single, shown_format, shown_formats, shown_struct, shown_payload, shown_choices, shown_container, shown_containers, shown_registry, IsWellFormed, has_few_levels, levels, shapes_levels, level_limit, formats, container_formats, payload_formats, shape_list, levels_hold, names_differ, names_known}
 use Rattle.std.proofs.Common.{map}
 use Rattle.std.specs.Fmt.{decimal}

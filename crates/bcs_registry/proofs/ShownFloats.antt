@@ -1,4 +1,4 @@
--- The JSON of a registry has no float.
+-- The JSON of a registry contains no float.
 use Rattle.bcs_registry.proofs.Prelude.{◌≡◌, ℕ, List, [], ◌∷◌, false, Ordering, Less, Equal, Greater, refl, or_parts, or_from, slice_cmp, nat_cmp, match_ordering, Data, Members, no_members, member, put, has_float, items_have_float, members_have_float, Field, Payload, Choice, Container, Entries, unit_struct, newtype_struct, tuple_struct, field_struct, enumeration, Shape, option, seq, map_of, tuple, array, Shapes, no_shapes, shape, single, shown_format, shown_formats, shown_struct, shown_payload, shown_choices, shown_container, shown_containers, shown_registry}
 use Rattle.std.specs.Fmt.{decimal}
 use Rattle.bcs_registry_model.specs.Container as container
@@ -9,7 +9,7 @@ no_float-put_at Less k l d e ms p h q = rw p h
 no_float-put_at Equal k l d e ms p h q = rw p (or_parts (has_float e) (members_have_float ms) h).1
 no_float-put_at Greater k l d e ms p h q = or_from (has_float e) (members_have_float (put k d ms)) (or_parts (has_float e) (members_have_float ms) h).0 q
 
--- a member without a float is put beside others without one
+-- putting a member without a float among others without one
 pub no_float-put : (k : List ℕ) (d : Data) (ms : Members) → has_float d ≡ false → members_have_float ms ≡ false → members_have_float (put k d ms) ≡ false
 no_float-put k d no_members p h = rw p refl
 no_float-put k d (member l e ms) p h = no_float-put_at (slice_cmp nat_cmp k l) k l d e ms p h (no_float-put k d ms p (or_parts (has_float e) (members_have_float ms) h).1)

@@ -1,4 +1,4 @@
--- What is written has the shape, with its numbers in range.
+-- The JSON of a registry has its shape, with its numbers in range.
 use Rattle.bcs_registry.proofs.Prelude.{◌≡◌, ◌^◌, ◌&&◌, ◌||◌, ℕ, List, [], ◌∷◌, Bool, true, Ordering, Less, Equal, Greater, ap, decimal, is_some, nat_lt, refl, list_all, AllByRecursion, match_ordering, nat_cmp, slice_cmp, Data, Members, no_members, member, put, Choice, Container, Entries, Field, Payload, Shape, name, option, seq, map, tuple, array, Shapes, no_shapes, shape, all_fields, all_variants, are_formats, is_container, is_format, is_payload, is_registry, is_variant, is_variant_number, shown_registry, shown_choices, shown_container, shown_struct, shown_format, shown_formats, shown_payload, single, word_named, IsInRange, all_sizes_fit, payload_sizes_fit, sizes_fit, and-true_parts, or-true_right, a_number, has_number, has_sizes, numbered_below}
 use Rattle.bcs_registry_model.specs.Container as container
 
@@ -29,7 +29,7 @@ module _ (loose : Bool) where
   payload_shaped (container.tuple ss) h = formats_shaped ss h
   payload_shaped (container.fields fs) h = fields_shaped fs h
 
-  -- one more variant of the shape
+  -- putting one more variant
   put_shaped : (k : List ℕ) (d : Data) (ms : Members) → is_variant_number k ≡ true → is_variant loose d ≡ true → all_variants loose ms ≡ true → all_variants loose (put k d ms) ≡ true
   put_shaped k d no_members plain here h = rw (or-true_right loose (is_variant_number k) plain, here) refl
   put_shaped k d (member l e ms) plain here h =

@@ -1,10 +1,10 @@
--- JSON of the shape, with its numbers in range, writes down a format or a registry.
+-- JSON with the right shape and its numbers in range represents a format or a registry.
 use Rattle.bcs_registry.proofs.Prelude.{◌≡◌, ◌^◌, ◌∙◌, ◌&&◌, ℕ, List, [], ◌∷◌, Bool, true, false, Option, Some, None, Less, ap, bytes_eq, codes, decimal, if◌then◌else◌, is_some, nat_lt, refl, subst, sym, unwrap_or, false≢true, bytes_eq-Decides, insert_entry, slice_cmp, list_all, AllByRecursion, IsStrictlySortedBy, keys_of, digits_value, Data, whole, number, string, list, object, Items, no_items, item, Members, no_members, member, put, Choice, Container, Entries, Field, Payload, IsContainerText, IsFieldText, IsFieldsText, IsPayloadText, IsTupleText, IsVariantText, IsVariantsText, Shape, unit, name, option, seq, map, tuple, array, all_containers, all_fields, all_variants, are_fields, are_formats, are_variants, is_container, is_field, is_format, is_map, is_payload, is_registry, is_size, is_text, is_tuple, is_tuple_array, is_variant, is_variant_number, format_named, shown_choices, shown_container, shown_containers, shown_struct, shown_format, shown_formats, single, IsInRange, NumbersRise, all_sizes_fit, container_sizes_fit, numbers_fit, sizes_fit, IsFormatText, IsRegistryText, SomeFormat, SomeRegistry, has_number, has_sizes, insert_all, insert_rises, insert_shown, numbered_below, word_written, IsRising, MembersRising, NamesRise, names_of, read_rising, and-true_parts}
 use Rattle.std.proofs.Common.{nat_cmp}
 use Rattle.bcs_registry_model.specs.Container as container
 use Rattle.bcs_registry.proofs.Back.{array_in, each_field, each_format, field_in, fields_in, format_in, formats_in, map_in, payload_in, size_in, text_in, variant_in}
 
--- a test of a name that is passed
+-- a name that passes the test is equal
 name_is : (key k : List ℕ) → bytes_eq key k ≡ true → key ≡ k
 name_is key k h = (bytes_eq-Decides key k).0 h
 
@@ -25,7 +25,7 @@ some_size : (d : Data) → is_size false d ≡ true → (d ≡ number (whole (si
 some_size (number (whole n)) h = (refl, h)
 some_size _ h = absurd cc
 
--- one tag of a chain, where a test and what it writes down stand for the tags that follow
+-- one tag in a chain of tests, where rest is the test for the following tags
 module _ {A : Type 0} (Is : Data → A → Type 0) (key : List ℕ) (d : Data) where
   tagged : (k : List ℕ) (test : Bool) (a : A) (rest : Bool) (b : A) → (test ≡ true → Is (single k d) a) → (rest ≡ true → Is (single key d) b)
       → (if bytes_eq key k then test else rest) ≡ true → Is (single key d) (if bytes_eq key k then a else b)
@@ -160,7 +160,7 @@ record AreWritten (ms : Members) : Type 0 where
   numbers : list_all has_number (choices_in ms) ≡ true
   sizes : list_all has_sizes (choices_in ms) ≡ true
 
--- a member below the others goes first
+-- a member whose name is below all others comes first
 put_first : (k : List ℕ) (d : Data) (ms : Members) → AllByRecursion (λ y. slice_cmp nat_cmp k y ≡ Less) (names_of ms) → put k d ms ≡ member k d ms
 put_first k d no_members h = refl
 put_first k d (member l e ms) h = rw h.0 refl
@@ -206,7 +206,7 @@ made (object (member key d no_members)) =
     else (if bytes_eq key (codes "ENUM") then container.enumeration (variants_in d) else container.unit_struct)))
 made _ = container.unit_struct
 
--- a container without numbers of variants
+-- a container without variant numbers
 plain_range : (c : Container) → NumbersRise c → numbers_fit c ≡ true → container_sizes_fit c ≡ true → IsInRange c
 plain_range c rise numbers sizes = record { rise = rise; numbers = numbers; sizes = sizes }
 

@@ -1,4 +1,4 @@
--- Shapes as trees of numbers, by which a proof tells them apart: the model of `Registry` asks for it.
+-- An injective encoding of shapes as trees of numbers, which the model of `Registry` requires.
 use Rattle.std.specs.Prelude.{◌≡◌, ℕ, zero, suc, List, [], ◌∷◌, refl}
 use Rattle.std.proofs.Common.{sym, ap, ◌∙◌, unwrap_or}
 use base.Stored.{Coded, Gv, gnil, gnum, gcons, num}
@@ -37,7 +37,7 @@ abbrev mutual
   codes no_shapes = gnil
   codes (shape s ss) = gcons (code s) (codes ss)
 
--- a shape of the kind k, from its two parts as they stand, as shapes and as a row
+-- a shape of kind k: a and b are its two encoded parts; s, t and ss are these parts decoded as shapes and as a list
 abbrev make : ℕ → Gv → Gv → Shape → Shape → Shapes → Shape
 make zero a b s t ss = unwrap_or (format_named (unword a)) unit
 make (suc zero) a b s t ss = name (unword a)

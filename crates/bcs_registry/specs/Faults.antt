@@ -1,4 +1,4 @@
--- The least fault that stands anywhere in a text.
+-- The least fault that occurs anywhere in a document.
 use Rattle.std.specs.Prelude.{◌≡◌, ℕ, List, true, false}
 use Rattle.serde_json.specs.Data.{Data}
 use Rattle.bcs_registry_model.specs.Breaks.{Breaks, FormatBreaks}
@@ -10,7 +10,7 @@ use Rattle.bcs_registry_json.specs.Text.{WritesFormat, WritesRegistry}
 use Rattle.bcs_registry_model.specs.declared.fault.RegistryFault.{RegistryFault}
 use Rattle.bcs_registry_model.specs.declared.fault.RegistryFault.TheVariants.{NotJson, BadShape, BadNumber, TooNested, RepeatedName, UnknownName, OutOfMemory}
 
--- nothing is read; or not in the shape; or in the shape, but not with such numbers; or a rule is broken
+-- in this order: not JSON; not the shape of a registry; a number out of range; a broken rule
 abbrev pub IsLeastFault : List ℕ → RegistryFault → Type 0
 IsLeastFault text NotJson = IsNotJson text
 IsLeastFault text BadShape = (d : Data) × IsJson text d × (is_registry true d ≡ false)
@@ -20,7 +20,7 @@ IsLeastFault text RepeatedName = (r : Entries) × WritesRegistry text r × Break
 IsLeastFault text UnknownName = (r : Entries) × WritesRegistry text r × Breaks r UnknownName
 IsLeastFault text OutOfMemory = ⊥
 
--- the same of a format's text
+-- the same for a format
 abbrev pub IsLeastFormatFault : Entries → List ℕ → RegistryFault → Type 0
 IsLeastFormatFault registry text NotJson = IsNotJson text
 IsLeastFormatFault registry text BadShape = (d : Data) × IsJson text d × (is_format true d ≡ false)

@@ -1,4 +1,4 @@
--- The laws of registry texts.
+-- Laws about the JSON of registries.
 use Rattle.std.specs.Prelude.{◌≡◌, ◌⊎◌, ℕ, List, true, false}
 use Rattle.serde_json.specs.Data.{Data}
 use Rattle.bcs_registry_model.specs.Container.{Entries}
@@ -10,39 +10,39 @@ use Rattle.bcs_registry_json.specs.Text.{IsFormatText, IsRegistryText, WritesFor
 use Rattle.bcs_registry_model.specs.WellFormed.{Admits, IsWellFormed}
 use Rattle.bcs_registry_model.specs.declared.fault.RegistryFault.{RegistryFault}
 
--- JSON writes down at most one format
+-- JSON represents at most one format
 abbrev pub OneFormat : Type 0
 OneFormat = (d : Data) (s t : Shape) → IsFormatText d s → IsFormatText d t → s ≡ t
 
--- JSON writes down at most one registry
+-- JSON represents at most one registry
 abbrev pub OneRegistry : Type 0
 OneRegistry = (d : Data) (r q : Entries) → IsRegistryText d r → IsRegistryText d q → r ≡ q
 
--- a text in the shape, with such numbers, writes down a format
+-- a document with the shape of a format and its numbers in range represents a format
 abbrev pub SomeFormat : Type 0
 SomeFormat = (text : List ℕ) (d : Data) → IsJson text d → is_format false d ≡ true → (s : Shape) × WritesFormat text s
 
--- a text in the shape, with such numbers, writes down a registry
+-- a document with the shape of a registry and its numbers in range represents a registry
 abbrev pub SomeRegistry : Type 0
 SomeRegistry = (text : List ℕ) (d : Data) → IsJson text d → is_registry false d ≡ true → (r : Entries) × WritesRegistry text r
 
--- a text has at most one least fault, and has none if it writes down a well-formed registry
+-- a document has at most one least fault, and none if it represents a well-formed registry
 abbrev pub OneFault : Type 0
 OneFault =
     ((text : List ℕ) (e f : RegistryFault) → IsLeastFault text e → IsLeastFault text f → e ≡ f)
     × ((text : List ℕ) (r : Entries) (e : RegistryFault) → WritesRegistry text r → IsWellFormed r → IsLeastFault text e → ⊥)
 
--- the same of a format's text
+-- the same for a format
 abbrev pub OneFormatFault : Type 0
 OneFormatFault =
     ((registry : Entries) (text : List ℕ) (e f : RegistryFault) → IsLeastFormatFault registry text e → IsLeastFormatFault registry text f → e ≡ f)
     × ((registry : Entries) (text : List ℕ) (s : Shape) (e : RegistryFault) → WritesFormat text s → Admits registry s → IsLeastFormatFault registry text e → ⊥)
 
--- each text writes down a well-formed registry, or has a least fault
+-- each document represents a well-formed registry or has a least fault
 abbrev pub RegistryOrFault : Type 0
 RegistryOrFault = (text : List ℕ) → ((r : Entries) × WritesRegistry text r × IsWellFormed r) ⊎ ((e : RegistryFault) × IsLeastFault text e)
 
--- each text writes down a format that is admitted, or has a least fault
+-- each document represents a format that is admitted or has a least fault
 abbrev pub FormatOrFault : Type 0
 FormatOrFault =
     (registry : Entries) (text : List ℕ)

@@ -1,4 +1,4 @@
-//! Which formats may be used with a registry.
+//! Which formats can be used with a registry.
 ghost use Rattle.std.specs.Prelude.{◌≡◌, OnOk, IfErr};
 ghost use Rattle.bcs_registry_model.specs.Breaks.{FormatBreaks};
 ghost use Rattle.bcs_registry_model.specs.Ranges.{IsOrderly};
@@ -11,8 +11,7 @@ use bcs_registry_model::levels::has_few_levels;
 use bcs_registry_model::{Format, RegistryFault};
 
 impl Registry {
-    /// Whether the format may be used with this registry: it has at most 32 levels, and each
-    /// `TypeName` in it is a name of the registry.
+    /// Whether the registry admits the format: at most 32 levels, and each `TypeName` in it names a container.
     pub fn admits(&self, format: &Format) -> bool
         ensures answer { result ≡ admits self.now (shape_of format.now) }
         ensures orderly { IsOrderly self.now }
@@ -21,8 +20,7 @@ impl Registry {
         has_few_levels(format) && is_known(format, containers)
     }
 
-    /// Refuses a format that isn't admitted, by the first rule that it breaks: `TooNested`, then
-    /// `UnknownName`.
+    /// Refuses a format that isn't admitted. If it breaks both rules, `TooNested` is reported, and not `UnknownName`.
     pub(crate) fn validate_format(&self, format: &Format) -> Result<(), RegistryFault>
         ensures ok { OnOk result (Admits self.now (shape_of format.now)) }
         ensures fault { IfErr result (λ e. FormatBreaks self.now (shape_of format.now) e) }

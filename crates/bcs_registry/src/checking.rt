@@ -1,4 +1,4 @@
-//! Whether containers make a registry.
+//! Checks whether containers form a well-formed registry.
 ghost use Rattle.std.specs.Prelude.{◌≡◌, ◌≢◌, ◌↔◌, IfOk, IfErr, IsErrOf};
 ghost use Rattle.bcs_registry_model.specs.Breaks.{Breaks};
 ghost use Rattle.bcs_registry_model.specs.Ranges.{IsOrderly};
@@ -13,9 +13,9 @@ use bcs_registry_model::{Container, RegistryFault};
 use std::alloc::Global;
 use std::collections::BTreeMap;
 
-/// The registry of these containers, where it is well-formed. Else the first rule that is broken
-/// somewhere decides: `TooNested`, then `RepeatedName`, then `UnknownName`. No memory is asked for before the levels
-/// are validated, so `TooNested` comes exactly where they don't hold.
+/// Builds a registry from the containers if they are well-formed. Otherwise it reports the first of these faults that
+/// occurs anywhere in them: `TooNested`, `RepeatedName`, `UnknownName`. Levels are checked before anything is
+/// allocated, so `TooNested` is reported whenever it applies.
 pub(crate) fn checked(
     alloc: Global,
     containers: BTreeMap<String, Container>,
@@ -38,7 +38,7 @@ pub(crate) fn checked(
     if !all_keep(&containers, Rule::KnownNames) {
         return Err(RegistryFault::UnknownName);
     }
-    // The last step, so that want of memory here hides no rule that is broken.
+    // This allocation comes last, so that its failure can't hide a broken rule.
     let numbers = numbers_by_name(alloc, &containers)?;
     Ok(Registry::of(containers, numbers))
 }

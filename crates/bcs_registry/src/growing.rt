@@ -1,4 +1,4 @@
-//! Whether a registry grew to another.
+//! Whether a registry has grown into another.
 ghost use Rattle.std.specs.Prelude.{◌↔◌, All, IsOk, IsErrOf};
 ghost use Rattle.bcs_registry_model.specs.Grows.{Grows, IsFirstGrowthFault};
 ghost use Rattle.bcs_registry_model.specs.Order.{NamesRise};
@@ -9,13 +9,13 @@ use bcs_registry_model::GrowthFault;
 use bcs_registry_model::growth::containers_grow;
 
 impl Registry {
-    /// Whether `newer` is this registry grown: each container stands in it unchanged, but that an
-    /// enum may have more numbers. Else the containers are gone through by rising name, and the
-    /// first faulty one decides; of two enums the older numbers are gone through upwards.
+    /// Checks that every container of this registry is in `newer` unchanged, except that enums there may have more
+    /// variants. If not, it returns the fault of the first faulty container in ascending order of names. Of two enums,
+    /// the first faulty number in ascending order counts.
     pub fn grows(&self, newer: &Registry) -> Result<(), GrowthFault>
-        // The containers stand by rising name, so the first of them has the least.
+        // Containers are in ascending order of names, so the first one has the least name.
         ensures rising { NamesRise self.now }
-        // The variants of each enum stand by rising number, so the first of them has the least.
+        // Variants are in ascending order of numbers, so the first one has the least number.
         ensures upwards { All (λ e. NumbersRise e.1) self.now }
         ensures orderly { IsOrderly self.now × IsOrderly newer.now }
         ensures ok { IsOk result ↔ Grows self.now newer.now }

@@ -1,4 +1,4 @@
-//! Registries of formats (serde-reflection): what gives bytes their meaning.
+//! Registries of formats (serde-reflection). BCS isn't self-describing, so decoding needs a registry.
 #![tactic(auto)]
 
 mod admitting;

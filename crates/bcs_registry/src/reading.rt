@@ -1,4 +1,4 @@
-//! Registries and formats from JSON texts.
+//! Reads registries and formats from JSON.
 ghost use Rattle.std.specs.Prelude.{◌≡◌, ◌≢◌, IfErr, IfOk};
 ghost use Rattle.serde_json.specs.View.{view};
 ghost use Rattle.bcs_registry.specs.Faults.{IsLeastFault, IsLeastFormatFault};
@@ -22,9 +22,10 @@ use std::alloc::Global;
 use std::collections::BTreeMap;
 
 impl Registry {
-    /// The registry that a JSON text writes down. Else the least fault that stands anywhere in the text, in the order
-    /// of [`RegistryFault`]: `NotJson`, `BadShape`, `BadNumber`, `TooNested`, `RepeatedName`, `UnknownName`.
-    /// `OutOfMemory` comes where memory ran out, before any fault that would be found later.
+    /// Reads a registry from JSON. If the JSON isn't a well-formed registry, it reports the least fault that occurs
+    /// anywhere in it, in the order of [`RegistryFault`]: `NotJson`, `BadShape`, `BadNumber`, `TooNested`,
+    /// `RepeatedName`, `UnknownName`. If an allocation fails, it reports `OutOfMemory` instead of any fault that it
+    /// would have found later.
     pub fn read(alloc: Global, text: &[u8]) -> Result<Registry, RegistryFault>
         ensures ok { IfOk result (λ r. WritesRegistry text.now r × IsWellFormed r) }
         ensures orderly { IfOk result IsOrderly }
@@ -32,15 +33,15 @@ impl Registry {
     {
         let containers = match containers_one_by_one(alloc, text) {
             Err(RegistryFault::OutOfMemory) => return Err(RegistryFault::OutOfMemory),
-            // The first fault that is met needn't be the least.
+            // The first fault found need not be the least one.
             Err(_) => containers_at_once(alloc, text)?,
             Ok(containers) => containers,
         };
         checked(alloc, containers)
     }
 
-    /// The format that a JSON text writes down, which may be used with this registry. Else the least fault that stands
-    /// anywhere in the text: `NotJson`, `BadShape`, `BadNumber`, `TooNested`, `UnknownName`. `OutOfMemory` is as in
+    /// Reads a format from JSON, which this registry must admit. Otherwise it reports the least fault that occurs
+    /// anywhere in the JSON: `NotJson`, `BadShape`, `BadNumber`, `TooNested`, `UnknownName`. `OutOfMemory` is as in
     /// [`Registry::read`].
     pub fn read_format(&self, alloc: Global, text: &[u8]) -> Result<Format, RegistryFault>
         ensures ok { IfOk result (λ f. WritesFormat text.now (shape_of f) × Admits self.now (shape_of f)) }
@@ -54,7 +55,7 @@ impl Registry {
     }
 }
 
-/// The containers that a registry's text writes down, over the whole of its JSON.
+/// Reads the containers of a registry after parsing the whole document.
 fn containers_at_once(
     alloc: Global,
     text: &[u8],
@@ -66,7 +67,7 @@ fn containers_at_once(
     written_containers(alloc, &value)
 }
 
-/// The containers that a registry's JSON writes down.
+/// Reads the containers of a registry from parsed JSON, and reports the least fault.
 fn written_containers(
     alloc: Global,
     value: &Value,
@@ -75,7 +76,7 @@ fn written_containers(
     ensures fault { IfErr result (IsLeastFaultBy (λ loose. is_registry loose (view value.now))) }
 {
     match containers_from(alloc, value) {
-        // A part further on may have another shape, which is the lesser fault.
+        // A later part may have a wrong shape, which is the lesser fault.
         Err(RegistryFault::BadNumber) => if is_registry_shaped(value) {
             Err(RegistryFault::BadNumber)
         } else {
@@ -85,13 +86,13 @@ fn written_containers(
     }
 }
 
-/// The format that a format's JSON writes down.
+/// Reads a format from parsed JSON, and reports the least fault.
 fn written_format(alloc: Global, value: &Value) -> Result<Format, RegistryFault>
     ensures ok { IfOk result (λ f. IsFormatText (view value.now) (shape_of f)) }
     ensures fault { IfErr result (IsLeastFaultBy (λ loose. is_format loose (view value.now))) }
 {
     match format_from(alloc, value) {
-        // A part further on may have another shape, which is the lesser fault.
+        // A later part may have a wrong shape, which is the lesser fault.
         Err(RegistryFault::BadNumber) => if is_format_shaped(value) {
             Err(RegistryFault::BadNumber)
         } else {

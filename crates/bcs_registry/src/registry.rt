@@ -15,13 +15,13 @@ use std::alloc::{AllocError, Global};
 use std::collections::BTreeMap;
 use std::marker::Model;
 
-/// A finite map from names to containers, which is well-formed for good: every `TypeName` is a name of the map, every
-/// format has at most 32 levels, and names are distinct within a struct, a struct payload and an enum. It is orderly
-/// too: names rise by their bytes, an enum's numbers rise and are below 2^32, and each `SIZE` is below 2^64.
+/// A well-formed finite map from names to containers. Well-formed means: each `TypeName` is a name of the map, each
+/// format has at most 32 levels, and names are distinct in each struct, struct payload and enum. It is also orderly:
+/// names ascend byte by byte, the variant numbers of an enum ascend and are below 2^32, and each `SIZE` is below 2^64.
 #[derive(Drop)]
 pub struct Registry {
     containers: BTreeMap<String, Container>,
-    /// The numbers of the enums' variants by name, for calls that look them up.
+    /// The variant numbers of all enums by name, to look them up quickly.
     numbers: VariantNumbers,
 }
 
@@ -46,7 +46,7 @@ impl Model for Registry {
 }
 
 impl Registry {
-    /// The container of this name.
+    /// The container with this name.
     pub fn container(&self, name: &str) -> Option<&Container>
         ensures found { option_map (λ c. container_of c.now) result ≡ container_at name.now self.now }
         ensures well_formed { IsWellFormed self.now }
@@ -55,15 +55,14 @@ impl Registry {
         self.containers.get(name)
     }
 
-    /// The number of an enum's variant, by the name of the enum and that of the variant, in time logarithmic in their
-    /// numbers.
+    /// The number of a variant, by the names of enum and variant. Takes time logarithmic in the number of names.
     pub fn variant_number(&self, container: &str, variant: &str) -> Option<u32>
         ensures { result ≡ variant_number container.now variant.now self.now }
     {
         self.numbers.number(container, variant)
     }
 
-    /// Recalls what always holds of a registry, for proofs above. It does nothing.
+    /// States the invariant of registries, for proofs in other crates. It does nothing.
     pub fn recall(&self)
         ensures well_formed { IsWellFormed self.now }
         ensures orderly { IsOrderly self.now }
@@ -71,7 +70,7 @@ impl Registry {
         let _ = &self.containers;
     }
 
-    /// How many containers there are.
+    /// The number of containers.
     pub fn len(&self) -> usize
         ensures length { result ≡ length self.now }
         ensures orderly { IsOrderly self.now }
@@ -79,7 +78,7 @@ impl Registry {
         self.containers.len()
     }
 
-    /// The containers by name.
+    /// The containers, by name.
     pub fn containers(&self) -> &BTreeMap<String, Container>
         ensures is { entries_of result.now.entries ≡ self.now }
         ensures well_formed { IsWellFormed self.now }
@@ -88,7 +87,7 @@ impl Registry {
         &self.containers
     }
 
-    /// The registry of these containers, whose variants have these numbers.
+    /// A registry with these containers, whose variants have these numbers.
     pub(crate) fn of(containers: BTreeMap<String, Container>, numbers: VariantNumbers) -> Registry
         requires well_formed { IsWellFormed (entries_of containers.entries) }
         requires orderly { IsOrderly (entries_of containers.entries) }
@@ -101,8 +100,7 @@ impl Registry {
         }
     }
 
-    /// The compact JSON text of the registry. The members of an object rise by the bytes of their names. Fails only
-    /// for want of memory.
+    /// Prints compact JSON, with members sorted by the bytes of their names. Fails only if memory runs out.
     pub fn print(&self, alloc: Global) -> Result<String, AllocError>
         ensures text { IfOk result (λ s. string_bytes s ≡ compact_text (shown_registry self.now)) }
         ensures reads_back { IfOk result (λ s. WritesRegistry (string_bytes s) self.now) }

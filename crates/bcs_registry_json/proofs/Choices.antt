@@ -1,4 +1,4 @@
--- The variants of an enum by number, and one more of them.
+-- The variants of an enum by number, and inserting one.
 use Rattle.bcs_registry_json.proofs.Prelude.{◌≡◌, ◌<◌, ◌^◌, ◌∙◌, ℕ, List, [], ◌∷◌, Bool, true, Ordering, Less, Equal, Greater, ap, arith, decimal, nat_cmp, nat_lt, refl, sym, subst, Decides-ltb, nat_cmp_total, ranked, decimal_injective, insert_entry, insert_key, list_all, IsStrictlySortedBy, keys_of, match_ordering, Data, put, Choice, Payload, shown_choices, shown_payload, single, payload_sizes_fit}
 use Rattle.bcs_registry_json.proofs.Puts.{put_again, put_either}
 use Rattle.bcs_registry_json.proofs.RisingMembers.{sorted_inserted}
@@ -10,14 +10,14 @@ has_number c = nat_lt c.0 (2 ^ 32)
 abbrev pub has_sizes : Choice → Bool
 has_sizes c = payload_sizes_fit c.1.1
 
--- a name with what it stands for, as an object
+-- the JSON of a name and its payload
 abbrev pub variant_shown : List ℕ × Payload → Data
 variant_shown v = single v.0 (shown_payload v.1)
 
 pub numbered_below : (n : ℕ) → nat_lt n (2 ^ 32) ≡ true → n < 2 ^ 32
 numbered_below n h = (Decides-ltb n (2 ^ 32)).0 h
 
--- different numbers have different texts
+-- different numbers have different decimal strings
 pub texts_differ : (m n : ℕ) → m < 2 ^ 32 → n < 2 ^ 32 → (m ≡ n → ⊥) → decimal m ≡ decimal n → ⊥
 texts_differ m n low high other same = other (decimal_injective m n (omega (arith, low)) (omega (arith, high)) same)
 
@@ -25,7 +25,7 @@ module _ (n : ℕ) (v : List ℕ × Payload) where
   abbrev inserted : List Choice → List Choice
   inserted cs = insert_entry nat_cmp cs n v
 
-  -- a test holds of all the variants with one more
+  -- a test that holds for all variants and the new one holds after inserting it
   pub insert_all : (test : Choice → Bool) → test (n, v) ≡ true → (cs : List Choice) → list_all test cs ≡ true → list_all test (inserted cs) ≡ true
   insert_all test here [] h = rw here refl
   insert_all test here (c ∷ cs) h =
@@ -41,7 +41,7 @@ module _ (n : ℕ) (v : List ℕ × Payload) where
           rw (there, others) refl
       at Greater o first others later = rw (first, later) refl
 
-  -- the variants with one more are shown with one more member
+  -- inserting a variant inserts a member into the JSON
   pub insert_shown : n < 2 ^ 32 → (cs : List Choice) → list_all has_number cs ≡ true → shown_choices (inserted cs) ≡ put (decimal n) (variant_shown v) (shown_choices cs)
   insert_shown small [] h = refl
   insert_shown small (c ∷ cs) h =

@@ -1,4 +1,4 @@
--- The containers of a registry by name, and one more of them.
+-- The containers of a registry by name, and inserting one.
 use Rattle.bcs_registry_json.proofs.Prelude.{◌≡◌, ◌∙◌, ℕ, List, [], ◌∷◌, Ordering, Less, Equal, Greater, String, Global, ap, refl, string_bytes, string_cmp, subst, sym, insert_entry, AllByRecursion, IsStrictlySortedBy, keys_of, match_ordering, Entry, Data, put, view, IsContainerText, IsFaultBy, all_containers, is_container, is_registry, shown_container, shown_containers, IsInRange, IsRegistryText, container_of, entries_of, Container, RegistryFault, Stored, names_rise}
 use Rattle.bcs_registry_model.specs.Container as container
 use Rattle.bcs_registry_json.proofs.Entries.{IsRead, all_read, member_false, one_read}
@@ -31,7 +31,7 @@ module _ (k : String Global) (v : Container) where
   insert_in_range here (e ∷ es) all =
       in_range_either (string_cmp k e.0) ((k, v) ∷ e ∷ es) ((e.0, v) ∷ es) (e ∷ inserted es) (here, all) (here, all.1) (all.0, insert_in_range here es all.1)
 
--- the containers that were read of a registry's object
+-- the containers that were read so far from the object of a registry
 pub record ContainersRead (d : Data) (rest : List Entry) (es : List Stored) : Type 0 where
   pub read : IsRead d rest (shown_containers (entries_of es))
   pub names : IsStrictlySortedBy string_cmp (keys_of es)

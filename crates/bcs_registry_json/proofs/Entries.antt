@@ -1,8 +1,8 @@
--- JSON objects whose members were read one after another.
+-- JSON objects whose members are read one after another.
 use Rattle.bcs_registry_json.proofs.Prelude.{◌≡◌, ◌∙◌, ◌&&◌, ◌++◌, List, ℕ, [], ◌∷◌, Bool, false, ap, append_assoc, append-nil, string_bytes, string_cmp, subst, sym, IsStrictlySortedBy, keys_of, Entry, put_last, Data, Members, member, object, put, members_view, view}
 use Rattle.bcs_registry_json.proofs.TwoTests.{and-false_left, and-false_right}
 
--- the object's members, of which the first ones were read as these
+-- the members before rest were read as those in shown
 pub record IsRead (d : Data) (rest : List Entry) (shown : Members) : Type 0 where
   pub done : List Entry
   pub whole : d ≡ object (members_view (done ++ rest))
@@ -16,7 +16,7 @@ module _ (d : Data) (rest left : List Entry) (shown : Members) (e : Entry) (read
   in_order : IsStrictlySortedBy string_cmp (keys_of (read.done ++ e ∷ left))
   in_order = subst (λ (es : List Entry). IsStrictlySortedBy string_cmp (keys_of (read.done ++ es))) next read.ordered
 
-  -- one more member, put where it belongs
+  -- reading one more member, which is put where it sorts
   pub one_read : (more : Members) → more ≡ put (string_bytes e.0) (view e.1) shown → IsRead d left more
   one_read more is =
       let apart : (read.done ++ e ∷ []) ++ left ≡ read.done ++ e ∷ left = append_assoc read.done (e ∷ []) left in
@@ -27,7 +27,7 @@ module _ (d : Data) (rest left : List Entry) (shown : Members) (e : Entry) (read
         same = is ∙ ap (put (string_bytes e.0) (view e.1)) read.same ∙ put_last read.done e left in_order;
       }
 
-  -- a test of all the members fails where the one of this member does
+  -- if the test fails for this member, the test of all members fails
   pub member_false : (test : List ℕ → Data → Bool) (every : Members → Bool) (whole : Data → Bool)
       → ((k : List ℕ) (m : Data) (ms : Members) → every (member k m ms) ≡ (test k m && every ms)) → ((ms : Members) → whole (object ms) ≡ every ms)
       → test (string_bytes e.0) (view e.1) ≡ false → whole d ≡ false

@@ -1,10 +1,10 @@
--- The containers of a registry's text, read one after another.
+-- The containers of a registry, read one after another.
 use Rattle.bcs_registry_json.proofs.Prelude.{◌≡◌, ◌∙◌, ◌-◌, ◌<◌, ◌≤◌, ℕ, List, [], ◌∷◌, String, Global, Some, None, ap, arith, length, string_bytes, string_cmp, subst, sym, insert_entry, IsStrictlySortedBy, keys_of, members, parse_map, read_key, value, tokens, Token, read_key-shorter, value-begin_object, no_members, object, put, converted, of_json, of_members, read, Entries, IsInRange, IsOrderly, container_of, entries_of, Container, Stored, names_rise, shown_registry, shown_container, shown_containers}
 use Rattle.json.specs.Json as json
 use Rattle.bcs_registry_json.proofs.Containers.{AllInRange, insert_in_range, insert_shown}
 use Rattle.bcs_registry_json.proofs.Turns.{converted-object, member_read, members_over, whole_read}
 
--- the containers that were read, and those that the tokens that are left give, are what all the tokens give
+-- the containers read so far and those in the remaining tokens are together those in all tokens
 pub record AreSpelled (all rest : List Token) (es : List Stored) : Type 0 where
   pub turns : ℕ
   pub enough : length rest ≤ turns
@@ -48,7 +48,7 @@ all_spelled all rest r es are over = are.same ∙ members_over (value 126) (show
 pub spelled_orderly : (all rest : List Token) (es : List Stored) → AreSpelled all rest es → IsOrderly (entries_of es)
 spelled_orderly all rest es are = record { names = names_rise es are.names; containers = are.ranges }
 
--- a text whose tokens spell containers, and nothing after them, is read as these
+-- if the tokens of a document are containers and nothing follows, the document is read as these containers
 pub text_spelled : (text : List ℕ) (all left : List Token) (registry : Entries) → tokens text ≡ Token.begin_object ∷ all
     → converted (λ ms. of_members ms no_members) (members (value 126) (length all) all) ≡ Some (shown_containers registry, left) → left ≡ [] → read text ≡ Some (shown_registry registry)
 text_spelled text all left registry begins are none =

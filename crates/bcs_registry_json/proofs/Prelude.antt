@@ -1,4 +1,4 @@
--- What the proofs use of other crates, and of this crate's definitions.
+-- What the proofs use from other crates, and from this crate's definitions.
 pub use Rattle.std.proofs.Common.{[], ap, append-nil, append_assoc, ap₂, arith, Bool, bytes_eq, codes, decimal, drop, Equal, false, get_or, Global, Greater, IfOk, if◌then◌else◌, length, Less, List, map, nat_cmp, nat_le, nat_lt, None, Option, option_and_then, option_map, Ordering, refl, Result, rules, Some, String, string_bytes, string_cmp, subst, suc, sym, take, true, Vec, zero, ℕ, ◌&&◌, ◌*◌, ◌++◌, ◌+◌, ◌-◌, ◌<◌, ◌^◌, ◌||◌, ◌∙◌, ◌∷◌, ◌≡◌, ◌≤◌}
 pub use Rattle.std.proofs.lemmas.Bool.Decides.{Decides-ltb}
 pub use Rattle.std.proofs.lemmas.Cmp.{nat_cmp_total, nat_list_cmp_total, ranked, tied_itself}

@@ -1,15 +1,15 @@
--- Keys in order, and one more of them; the members of what serde_json reads.
+-- Ascending keys, and inserting one; and the order of members in what serde_json parses.
 use Rattle.bcs_registry_json.proofs.Prelude.{◌≡◌, ◌∙◌, ℕ, List, [], ◌∷◌, Option, Some, None, Ordering, Less, Equal, Greater, ap, nat_cmp, option_map, refl, subst, sym, nat_list_cmp_total, insert_key, IsTotalOrder, slice_cmp, AllByRecursion, IsStrictlySortedBy, match_ordering, ordering_reverse, Json, tokens, Data, null, boolean, number, string, array, object, Items, no_items, item, Members, no_members, member, put, max_depth, number_of, of_items, of_json, of_members, read}
 use Rattle.std.specs.Prelude.{option_and_then}
 use Rattle.json.specs.Json as json
 
--- ---- one more key
+-- ---- inserting a key
 
 module _ {K : Type 0} (R : K → K → Ordering) (o : IsTotalOrder R) (k : K) where
   abbrev AreAbove : K → List K → Type 0
   AreAbove x ks = AllByRecursion (λ y. R x y ≡ Less) ks
 
-  -- what is below all the keys and below k is below all with k
+  -- if x is below k and below all keys, it is still below all of them after k is inserted
   below_inserted : (x : K) → R x k ≡ Less → (ks : List K) → AreAbove x ks → AreAbove x (insert_key R ks k)
   below_inserted x here [] above = (here, tt)
   below_inserted x here (y ∷ ys) above = at (R k y) (below_inserted x here ys above.1)
@@ -19,7 +19,7 @@ module _ {K : Type 0} (R : K → K → Ordering) (o : IsTotalOrder R) (k : K) wh
       at Equal later = above
       at Greater later = (above.0, later)
 
-  -- what is below a key is below those above it
+  -- if x is below y, it is below all keys above y
   all_above : (x y : K) → R x y ≡ Less → (ks : List K) → AreAbove y ks → AreAbove x ks
   all_above x y h [] above = tt
   all_above x y h (z ∷ zs) above = (o.trans x y z h above.0, all_above x y h zs above.1)
@@ -34,7 +34,7 @@ module _ {K : Type 0} (R : K → K → Ordering) (o : IsTotalOrder R) (k : K) wh
       at Equal is later = s
       at Greater is later = (below_inserted y (o.antisymm y k ∙ ap ordering_reverse is) ys s.0, later)
 
--- ---- members by rising name
+-- ---- members in ascending order of their names
 
 abbrev pub names_of : Members → List (List ℕ)
 names_of no_members = []
@@ -53,7 +53,7 @@ abbrev pub NamesRise : Members → Type 0
 NamesRise ms = IsStrictlySortedBy (slice_cmp nat_cmp) (names_of ms)
 
 abbrev mutual
-  -- in each object the names rise
+  -- in each object the names ascend
   pub IsRising : Data → Type 0
   IsRising (array ds) = EachRising ds
   IsRising (object ms) = NamesRise ms × MembersRising ms
@@ -82,7 +82,7 @@ put_rising k d ms here h = (
   put_members k d ms here h.1,
 )
 
--- ---- what is read
+-- ---- what is parsed
 
 mapped : {A B : Type 0} (f : A → B) (o : Option A) (b : B) → option_map f o ≡ Some b → (a : A) × (o ≡ Some a) × (f a ≡ b)
 mapped f None b h = absurd cc
@@ -118,7 +118,7 @@ mutual
       let m = chained (λ d. of_members js (put k d found)) (of_json j) ms h in
       members_rising js (put k m.0 found) ms (put_rising k m.0 found (json_rising j m.0 m.1) good) m.2
 
--- in what is read, the names of each object rise
+-- in what serde_json parses, the names of each object ascend
 pub read_rising : (text : List ℕ) (d : Data) → read text ≡ Some d → IsRising d
 read_rising text d h =
     let parsed : Option Json = option_and_then (λ p. json.if_last p.0 p.1) (json.value max_depth (tokens text)) in

@@ -1,8 +1,8 @@
--- JSON arrays whose elements were read one after another.
+-- JSON arrays whose elements are read one after another.
 use Rattle.bcs_registry_json.proofs.Prelude.{◌≡◌, ◌∙◌, ◌+◌, ◌<◌, ◌≤◌, ◌&&◌, ℕ, zero, suc, List, [], ◌∷◌, ◌++◌, Bool, true, false, Global, Vec, length, map, take, get_or, ap, arith, refl, sym, map-append, take_all, take_more, list_all-append, list_all, view-Array, Data, Items, array, depth, item, items_depth, items_of, items_view, view, Array, Value, IsFaultBy, RegistryFault, BadNumber, BadShape, NotJson, OutOfMemory, RepeatedName, TooNested, UnknownName}
 use Rattle.bcs_registry_json.proofs.TwoTests.{and-false_left, and-false_right}
 
--- a fault of a part is one of the whole
+-- a fault of a part is a fault of the whole
 pub passes_on : (test wider : Bool → Bool) (e : RegistryFault) → ((loose : Bool) → test loose ≡ false → wider loose ≡ false) → IsFaultBy test e → IsFaultBy wider e
 passes_on test wider BadShape all h = all true h
 passes_on test wider BadNumber all h = all false h
@@ -16,7 +16,7 @@ passes_on test wider UnknownName all h = h
 pub second_fault : (first second whole : Bool → Bool) (e : RegistryFault) → ((loose : Bool) → whole loose ≡ (first loose && second loose)) → IsFaultBy second e → IsFaultBy whole e
 second_fault first second whole e both h = passes_on second whole e (λ loose f. both loose ∙ and-false_right (first loose) (second loose) f) h
 
--- each value is what the one at its place is shown as, and those are in range
+-- each value is the JSON of the part with the same index, and the numbers in the parts are in range
 pub record IsRow {A : Type 0} (shows : A → Data) (fits : A → Bool) (vs : List Value) (parts : List A) : Type 0 where
   pub same : map view vs ≡ map shows parts
   pub fit : list_all fits parts ≡ true
@@ -33,7 +33,7 @@ module _ {A : Type 0} (shows : A → Data) (fits : A → Bool) where
   pub row_all : (vs : List Value) (i : ℕ) (parts : List A) → length vs ≤ i → IsRow shows fits (take i vs) parts → items_view vs ≡ items_of (map shows parts)
   row_all vs i parts all row = ap items_view (sym (take_all i vs all)) ∙ ap items_of row.same
 
--- a test of all the elements fails where the one of an element does
+-- if the test fails for this element, the test of all elements fails
 pub element_false : (test : Data → Bool) (all : Items → Bool) → ((d : Data) (ds : Items) → all (item d ds) ≡ (test d && all ds))
     → (vs : List Value) (i : ℕ) (v : Value) → i < length vs → test (view (get_or vs i v)) ≡ false → all (items_view vs) ≡ false
 element_false test all step [] i v within h = absurd (omega arith)
@@ -53,7 +53,7 @@ element_fault test all whole step start v row vs i x e is same within found h =
     ap (whole loose) shown ∙ start loose (items_view vs)
     ∙ element_false (test loose) (all loose) (step loose) vs i x within (ap (λ (y : Value). test loose (view y)) (sym found) ∙ f)) h
 
--- an element nests less deep than its array
+-- an element nests less deeply than its array
 pub element_depth : (vs : List Value) (i : ℕ) (v : Value) → i < length vs → depth (view (get_or vs i v)) ≤ items_depth (items_view vs)
 element_depth [] i v within = absurd (omega arith)
 element_depth (x ∷ xs) zero v within = omega arith
@@ -67,7 +67,7 @@ element_shallow v row vs i x is same within found =
     let here : depth (view (get_or vs i x)) ≡ depth (view x) = ap (λ (y : Value). depth (view y)) (sym found) in
     omega (arith, shown, less, here)
 
--- a test of an array is one of its elements
+-- testing an array means testing its elements
 pub array_tested : (whole : Data → Bool) (all : Items → Bool) → ((ds : Items) → whole (array ds) ≡ all ds)
     → (v : Value) (row : Vec Value Global) (vs : List Value) → v ≡ Array row → vs ≡ row.items → whole (view v) ≡ all (items_view vs)
 array_tested whole all start v row vs is same =

@@ -1,4 +1,4 @@
--- The JSON of a registry, part by part, as a loop over the registry makes it.
+-- The JSON of a registry, as the loops build it, part by part.
 use Rattle.bcs_registry_json.proofs.Prelude.{arith, sym, ◌≡◌, ◌<◌, ◌^◌, List, [], ◌∷◌, ◌++◌, Less, Greater, string_bytes, map, refl, ap, ◌∙◌, nat_list_cmp_total, ranked, slice_cmp, AllByRecursion, IsStrictlySortedBy, keys_of, ordering_reverse, Data, member, put, items_of, single, shown_format, shown_formats, shown_struct, shown_payload, shown_choices, shown_container, shown_containers, shape_of, formats_shapes, field_of, payload_of, choice_of, container_of, entries_of, Format, Named, Stored, Variant, below_later}
 use Rattle.std.specs.Fmt.{decimal}
 use Rattle.std.specs.Ordering.{nat_cmp}
@@ -23,7 +23,7 @@ pub items_fields : (fs : List (Named Format)) → items_of (map field_data fs) �
 items_fields [] = refl
 items_fields (f ∷ fs) = rw (items_fields fs) refl
 
--- a container whose name is above those before it goes last
+-- a container whose name is above those before it is appended
 pub shown_containers-push : (done : List Stored) (e : Stored) (more : List Stored) → IsStrictlySortedBy string_cmp (keys_of (done ++ e ∷ more))
     → put (string_bytes e.0) (shown_container (container_of e.1)) (shown_containers (entries_of done)) ≡ shown_containers (entries_of (done ++ e ∷ []))
 unfolding IsStrictlySortedBy
@@ -33,7 +33,7 @@ shown_containers-push (first ∷ done) e more h =
     nat_list_cmp_total.antisymm (string_bytes e.0) (string_bytes first.0) ∙ ap ordering_reverse (below_later string_cmp first.0 done e more h.0) in
     rw above (ap (member (string_bytes first.0) (shown_container (container_of first.1))) (shown_containers-push done e more h.1))
 
--- a variant whose number is above those before it
+-- putting a variant whose number is above those before it
 pub shown_choices-push : (done : List Variant) (v : Variant) (more : List Variant) → IsStrictlySortedBy nat_cmp (keys_of (done ++ v ∷ more)) → AllByRecursion (λ n. n < 2 ^ 32) (keys_of done) → v.0 < 2 ^ 32
     → put (decimal v.0) (variant_data v) (shown_choices (map choice_of done)) ≡ shown_choices (map choice_of (done ++ v ∷ []))
 unfolding IsStrictlySortedBy

@@ -1,4 +1,4 @@
--- The loops of the grammar of JSON, a turn at a time, in what `serde_json` reads.
+-- Single iterations of the loops in the grammar of JSON, in terms of what `serde_json` parses.
 use Rattle.bcs_registry_json.proofs.Prelude.{◌≡◌, ℕ, ◌-◌, ◌<◌, ◌≤◌, List, [], ◌∷◌, ◌++◌, length, Option, Some, None, option_map, option_and_then, refl, ap, ◌∙◌, Token, Parse, parse_map, after_end_array, read_key, items, members, if_last, items_end, items_more, members_end, members_more, Data, array, object, Items, no_items, item, Members, no_members, put, of_json, of_items, of_members, converted, view, items_view, Value}
 use Rattle.json.specs.Json as json
 
@@ -53,7 +53,7 @@ module _ (p : Parse json.Json) where
     pub members_over : (n : ℕ) (ts r : List Token) → length ts ≤ n → read_key ts ≡ Some (None, r) → converted (λ ms. of_members ms old) (members p n ts) ≡ Some (old, r)
     members_over n ts r enough e = ap (converted (λ ms. of_members ms old)) (members_end p n ts r enough e)
 
--- ---- a list that grows at its end
+-- ---- a list to which items are appended
 
 abbrev pub items_before : List Value → Items → Items
 items_before [] rest = rest
@@ -75,7 +75,7 @@ pub none_before : (r : Option (Items × List Token)) → r ≡ parse_map (λ a. 
 none_before None = refl
 none_before (Some p) = refl
 
--- ---- the whole text
+-- ---- the whole document
 
 abbrev pub whole : Option (json.Json × List Token) → Option Data
 whole o = option_and_then of_json (option_and_then (λ p. if_last p.0 p.1) o)

@@ -1,4 +1,4 @@
--- Tests that are made of two.
+-- Conjunctions of two tests.
 use Rattle.bcs_registry_json.proofs.Prelude.{◌≡◌, ◌&&◌, ◌||◌, Bool, true, false, refl}
 
 pub and-false_left : (a b : Bool) → a ≡ false → (a && b) ≡ false

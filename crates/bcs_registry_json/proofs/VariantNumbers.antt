@@ -1,4 +1,4 @@
--- Plain decimal texts of numbers that fit 32 bits.
+-- Plain decimal strings of numbers that fit into 32 bits.
 use Rattle.bcs_registry_json.proofs.Prelude.{◌≡◌, ◌<◌, ◌^◌, ◌∙◌, ℕ, true, bytes_eq, nat_lt, decimal, ap, arith, refl, sym, Decides-ltb, decimal_is_IsNumeral, bytes_eq-Decides, digits_value, is_variant_number}
 
 pub a_number : (n : ℕ) → n < 2 ^ 32 → is_variant_number (decimal n) ≡ true

@@ -1,11 +1,11 @@
--- The variants that are read of an enum's object, by number.
+-- The variants read from the object of an enum, by number.
 use Rattle.bcs_registry_json.proofs.Prelude.{◌≡◌, ◌<◌, ◌^◌, ◌∙◌, ◌&&◌, ◌||◌, ℕ, List, [], ◌∷◌, Bool, true, false, Ordering, Less, Equal, Greater, ap, decimal, map, nat_cmp, refl, string_bytes, Decides-ltb, insert_entry, list_all, IsStrictlySortedBy, keys_of, match_ordering, Entry, Data, put, view, Payload, IsFaultBy, IsVariantText, IsVariantsText, all_variants, are_variants, is_variant, is_variant_number, shown_choices, choice_of, payload_of, RegistryFault, Named, VariantFormat, Variant, numbers_rise}
 use Rattle.bcs_registry_json.proofs.Choices.{has_number, has_sizes, insert_all, insert_shown}
 use Rattle.bcs_registry_json.proofs.Entries.{IsRead, all_read, member_false, one_read}
 use Rattle.bcs_registry_json.proofs.Rows.{passes_on}
 use Rattle.bcs_registry_json.proofs.TwoTests.{and-false_left, and-false_right}
 
--- the variant of a number in a map, as a choice
+-- a variant in a map, as a name and a payload
 abbrev pub variant_of : Named VariantFormat → List ℕ × Payload
 variant_of v = (string_bytes v.name, payload_of v.value)
 
@@ -19,7 +19,7 @@ choices_inserted [] n v = refl
 choices_inserted (e ∷ es) n v =
     choices_either (nat_cmp n e.0) ((n, v) ∷ e ∷ es) ((e.0, v) ∷ es) (e ∷ insert_entry nat_cmp es n v) ∙ rw (choices_inserted es n v) refl
 
--- the variants that were read of an enum's object
+-- the variants that were read so far from the object of an enum
 pub record VariantsRead (d : Data) (rest : List Entry) (es : List Variant) : Type 0 where
   pub read : IsRead d rest (shown_choices (map choice_of es))
   pub rise : IsStrictlySortedBy nat_cmp (keys_of es)

@@ -1,18 +1,19 @@
--- Which JSON has the shape of a format or a registry. Loosely, any name may stand for a variant's number and any JSON
--- number for a SIZE; else a variant's number is plain decimal and fits 32 bits, and a SIZE is whole and fits 64 bits.
+-- Which JSON has the shape of a format or a registry. The loose test accepts any name as a variant number, and any JSON
+-- number as a SIZE. The strict one requires that a variant number is plain decimal and fits into 32 bits, and that a
+-- SIZE is an integer that fits into 64 bits.
 use Rattle.std.specs.Prelude.{ℕ, ◌^◌, List, Bool, true, false, ◌&&◌, ◌||◌, nat_lt, is_some, if◌then◌else◌, codes, decimal}
 use Rattle.std.specs.Str.{bytes_eq}
 use Rattle.std.specs.Str.Parse.{digits_value}
 use Rattle.serde_json.specs.Data.{Data, Num, unsigned as whole, number, string, array, object, Items, no_items, item, Members, no_members, member}
 use Rattle.bcs_registry_model.specs.Words.{format_named}
 
--- ---- words and numbers
+-- ---- names and numbers
 
--- plain decimal of a number that fits 32 bits
+-- the plain decimal string of a number that fits into 32 bits
 abbrev pub is_variant_number : List ℕ → Bool
 is_variant_number name = bytes_eq name (decimal (digits_value 10 name)) && nat_lt (digits_value 10 name) (2 ^ 32)
 
--- a whole number that fits 64 bits
+-- an integer that fits into 64 bits
 abbrev pub is_size_number : Num → Bool
 is_size_number (whole n) = nat_lt n (2 ^ 64)
 is_size_number _ = false
@@ -60,7 +61,7 @@ module _ (loose : Bool) where
 
   -- ---- containers
 
-  -- an object with one member, the field's name and its format
+  -- an object with one member: the name of the field and its format
   abbrev pub is_field : Data → Bool
   is_field (object (member name d no_members)) = is_format d
   is_field _ = false
@@ -81,7 +82,7 @@ module _ (loose : Bool) where
       else (if bytes_eq key (codes "STRUCT") then are_fields d else false))
   is_payload _ = false
 
-  -- an object with one member, the variant's name and its payload
+  -- an object with one member: the name of the variant and its payload
   abbrev pub is_variant : Data → Bool
   is_variant (object (member name d no_members)) = is_payload d
   is_variant _ = false

@@ -1,5 +1,5 @@
--- The JSON that a registry is written as (serde-reflection's shapes): words, and objects with exactly the members that
--- are listed. The members of an object rise by the bytes of their names.
+-- The JSON of a registry, in the shapes of serde-reflection: strings, and objects with exactly the members listed here.
+-- The members of an object are sorted by the bytes of their names.
 use Rattle.std.specs.Prelude.{ℕ, List, [], ◌∷◌, codes, decimal}
 use Rattle.serde_json.specs.Data.{Data, number, unsigned as whole, string, array as list, object, Items, no_items, item, Members, no_members, member, put}
 use Rattle.bcs_registry_model.specs.Shape.{Shape, name, option, seq, map, tuple, array, Shapes, no_shapes, shape}
@@ -39,7 +39,7 @@ shown_payload (container.newtype s) = single (codes "NEWTYPE") (shown_format s)
 shown_payload (container.tuple ss) = single (codes "TUPLE") (list (shown_formats ss))
 shown_payload (container.fields fs) = single (codes "STRUCT") (list (shown_struct fs))
 
--- each variant stands under its number in plain decimal: `"10"` before `"2"`
+-- the name of each member is the variant's number in plain decimal, so "10" comes before "2"
 abbrev pub shown_choices : List Choice → Members
 shown_choices [] = no_members
 shown_choices (c ∷ cs) = put (decimal c.0) (single c.1.0 (shown_payload c.1.1)) (shown_choices cs)
@@ -51,7 +51,7 @@ shown_container (tuple_struct ss) = single (codes "TUPLESTRUCT") (list (shown_fo
 shown_container (field_struct fs) = single (codes "STRUCT") (list (shown_struct fs))
 shown_container (enumeration cs) = single (codes "ENUM") (object (shown_choices cs))
 
--- the containers stand in the registry's order, which is that of the bytes of their names
+-- containers are in the order of the registry, which is that of the bytes of their names
 abbrev pub shown_containers : Entries → Members
 shown_containers [] = no_members
 shown_containers (e ∷ es) = member e.0 (shown_container e.1) (shown_containers es)

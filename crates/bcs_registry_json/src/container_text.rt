@@ -1,4 +1,4 @@
-//! Reading containers from JSON.
+//! Reads containers from JSON.
 ghost use Rattle.std.specs.Prelude.{IfErr, IfOk, map, string_bytes};
 ghost use Rattle.serde_json.specs.View.{view};
 ghost use Rattle.bcs_registry_json.specs.Parts.{IsContainerText, IsFaultBy, IsFieldText, IsFieldsText, IsPayloadText, IsVariantText, IsVariantsText};
@@ -14,7 +14,8 @@ use serde_json::Value;
 use std::alloc::Global;
 use std::collections::BTreeMap;
 
-/// The containers by name that a registry's JSON writes down.
+/// Reads the containers of a registry, by name. A fault that it returns occurs in the JSON, but a lesser one may
+/// follow.
 pub fn containers_from(
     alloc: Global,
     value: &Value,
@@ -86,7 +87,7 @@ fn field_from(alloc: Global, value: &Value) -> Result<Named<Format>, RegistryFau
     Ok(Named { name, value })
 }
 
-/// The variants of an enum by number.
+/// Reads the variants of an enum, by number.
 fn variants_from(
     alloc: Global,
     value: &Value,

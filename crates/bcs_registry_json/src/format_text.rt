@@ -1,4 +1,4 @@
-//! Reading a format from JSON.
+//! Reads formats from JSON.
 ghost use Rattle.std.specs.Prelude.{◌≡◌, IfErr, IfOk, codes};
 ghost use Rattle.serde_json.specs.Data.{number, unsigned};
 ghost use Rattle.serde_json.specs.View.{view};
@@ -14,7 +14,7 @@ use bcs_registry_model::{Format, RegistryFault};
 use serde_json::Value;
 use std::alloc::Global;
 
-/// The format that a JSON value writes down.
+/// Reads a format. A fault that it returns occurs in the JSON, but a lesser one may follow.
 #[cycle(format_text)]
 pub fn format_from(alloc: Global, value: &Value) -> Result<Format, RegistryFault>
     ensures ok { IfOk result (λ f. IsFormatText (view value.now) (shape_of f)) }
@@ -30,7 +30,7 @@ pub fn format_from(alloc: Global, value: &Value) -> Result<Format, RegistryFault
     }
 }
 
-/// The format that an object with this one member writes down.
+/// Reads the format represented by an object with the single member `tag`.
 #[cycle(format_text)]
 fn tagged_format_from(alloc: Global, tag: &str, part: &Value) -> Result<Format, RegistryFault>
     ensures ok { IfOk result (λ f. IsFormatText (single tag.now (view part.now)) (shape_of f)) }
@@ -99,7 +99,7 @@ fn size_from(value: &Value) -> Result<u64, RegistryFault>
     }
 }
 
-/// The formats of a JSON array.
+/// Reads a JSON array of formats.
 #[cycle(format_text)]
 pub fn formats_from(alloc: Global, value: &Value) -> Result<Vec<Format>, RegistryFault>
     ensures ok { IfOk result (λ fs. IsTupleText (view value.now) (formats_shapes fs.items)) }

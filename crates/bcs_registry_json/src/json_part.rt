@@ -1,4 +1,4 @@
-//! The next value of a JSON text that is read token by token, as `serde_json` reads it.
+//! Reads the next value of a JSON document from its tokens, with the same result as `serde_json`.
 ghost use Rattle.std.specs.Prelude.{◌≡◌, ◌<◌, length, option_map, Some, IfOk, IfSome, OnOk};
 ghost use Rattle.json.specs.Json.{items, members, read_key, value};
 ghost use Rattle.serde_json.specs.Data.{no_members};
@@ -11,8 +11,8 @@ use json::{Reader, Token};
 use serde_json::{Map, Number, Value};
 use std::alloc::Global;
 
-/// The value that comes next, in which arrays and objects nest at most `depth` deep. A number is one that a registry
-/// may have: plain decimal, and below 2^64. After a refusal nothing is said of where the reader stands.
+/// Reads the next value. Arrays and objects may nest `depth` levels deep. Numbers must be ones that a registry can
+/// contain: plain decimal, below 2^64. After a refusal, the position of the reader is unspecified.
 #[cycle(part)]
 #[inline(always)]
 pub(crate) fn next_value(
@@ -51,7 +51,7 @@ pub(crate) fn next_value(
     }
 }
 
-/// What follows the bracket that opens an array, up to the one that closes it.
+/// Reads the items after the opening bracket of an array, up to the closing one.
 #[cycle(part)]
 #[inline(never)]
 fn next_items(
@@ -72,7 +72,7 @@ fn next_items(
     Ok(found)
 }
 
-/// What follows the brace that opens an object, up to the one that closes it.
+/// Reads the members after the opening brace of an object, up to the closing one.
 #[cycle(part)]
 #[inline(never)]
 fn next_members(
@@ -102,7 +102,7 @@ fn plain_number(text: &str) -> Option<Number>
     Some(Number::from(u64::try_from(number).ok()?))
 }
 
-/// The name of an object's next member, or `None` at the brace that closes the object.
+/// Reads the name of the next member of an object, or returns `None` at the closing brace.
 #[inline(always)]
 pub(crate) fn next_name<'a>(reader: &mut Reader<'a>) -> Result<Option<&'a str>, RegistryFault>
     ensures { IfOk result

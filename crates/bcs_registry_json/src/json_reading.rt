@@ -1,4 +1,4 @@
-//! Reading a JSON text.
+//! Parses JSON.
 ghost use Rattle.std.specs.Prelude.{◌≡◌, ◌≢◌, ◌≤◌, IfOk, Err};
 ghost use Rattle.serde_json.specs.View.{view};
 ghost use Rattle.bcs_registry_json.specs.Json.{IsJson, IsNotJson};
@@ -7,18 +7,18 @@ use serde_json::{Category, Value};
 use std::alloc::Global;
 use thiserror::Error;
 
-/// Why a text was not read. The message is the variant's name alone.
+/// Why a document wasn't parsed. The message is the name of the variant.
 #[derive(Clone, Copy, Debug, Drop, PartialEq, Eq, Error)]
 pub enum TextFault {
-    /// `serde_json` doesn't read it.
+    /// `serde_json` rejects the input.
     #[error("NotJson")]
     NotJson,
-    /// Memory ran out.
+    /// An allocation failed.
     #[error("OutOfMemory")]
     OutOfMemory,
 }
 
-/// What `serde_json` reads in a text. Bytes that are no UTF-8 are no JSON.
+/// Parses a JSON document with `serde_json`. Input that isn't UTF-8 isn't JSON (RFC 8259).
 pub fn read_json(alloc: Global, text: &[u8]) -> Result<Value, TextFault>
     ensures ok { IfOk result (λ v. IsJson text.now (view v)) }
     ensures not_json { result ≡ Err TextFault.NotJson → IsNotJson text.now }

@@ -1,4 +1,4 @@
-//! A registry's JSON text.
+//! Parses the JSON of a registry.
 ghost use Rattle.std.specs.Prelude.{◌≡◌, ◌≢◌, IfErr, IfOk};
 ghost use Rattle.serde_json.specs.View.{view};
 ghost use Rattle.bcs_registry_json.specs.Json.{IsJson, IsNotJson};
@@ -8,7 +8,7 @@ use bcs_registry_model::RegistryFault;
 use serde_json::Value;
 use std::alloc::Global;
 
-/// What `serde_json` reads in a registry's or a format's text.
+/// Parses the JSON of a registry or of a format.
 pub fn registry_json(alloc: Global, text: &[u8]) -> Result<Value, RegistryFault>
     ensures ok { IfOk result (λ v. IsJson text.now (view v)) }
     ensures fault { IfErr result (λ e. e ≢ RegistryFault.OutOfMemory

@@ -1,4 +1,4 @@
-//! Formats and containers in JSON: read from it, and printed as it; and how deep a text nests.
+//! Reads formats and containers from JSON, prints them as JSON, and measures how deep JSON nests.
 #![tactic(auto)]
 
 pub mod container_text;

@@ -1,11 +1,11 @@
-//! Objects with few members.
+//! Objects with one or two members.
 ghost use Rattle.std.specs.Prelude.{◌≡◌, ℕ, List, IfSome, None};
 ghost use Rattle.serde_json.specs.Data.{Data, member, no_members};
 ghost use Rattle.serde_json.specs.View.{members_view, view};
 
 use serde_json::{Map, Value};
 
-/// The one member of an object, by name and value.
+/// The name and the value of the only member of an object.
 pub fn only_member(members: &Map<String, Value>) -> Option<(&str, &Value)>
     ensures some { IfSome result (λ m. members_view members.now.entries
         ≡ member m.0.now (view m.1.now) no_members) }
@@ -23,7 +23,7 @@ pub fn only_member(members: &Map<String, Value>) -> Option<(&str, &Value)>
     }
 }
 
-/// The values of an object of exactly two members with these names, of which the first is below the second.
+/// The values of an object with exactly these two members, where `first` sorts before `second`.
 pub fn two_members<'v>(
     members: &'v Map<String, Value>,
     first: &str,

@@ -5,10 +5,10 @@ ghost use Rattle.serde_json.specs.View.{view, items_view, members_view};
 
 use serde_json::{Map, Value};
 
-/// How deep the arrays and objects of a value's text may nest, read or printed.
+/// How deep arrays and objects may nest in the JSON of a value, on input and output.
 pub const NESTING_LIMIT: u32 = 100;
 
-/// Whether arrays and objects nest at most `limit` deep. One with no part is one deep.
+/// Whether arrays and objects nest at most `limit` levels deep. An empty one counts as one level.
 #[cycle(nesting)]
 pub fn nests_within(value: &Value, limit: u32) -> bool
     ensures { result ≡ nat_le (depth (view value.now)) limit }

@@ -1,4 +1,4 @@
-//! Reading a registry's text container by container, so that the JSON of one alone is in memory at a time.
+//! Reads a registry container by container, so that only the JSON of one container is in memory.
 ghost use Rattle.std.specs.Prelude.{◌≡◌, ◌<◌, length, Some, IfOk, OnOk};
 ghost use Rattle.json.specs.Json.{members, value};
 ghost use Rattle.serde_json.specs.Data.{no_members};
@@ -15,11 +15,11 @@ use json::{Reader, Scratch, Token};
 use std::alloc::Global;
 use std::collections::BTreeMap;
 
-/// How deep a container may nest: one level less than the texts that `serde_json` reads.
+/// How deep the JSON of a container may nest: one level less than `serde_json` allows for the whole document.
 const CONTAINER_DEPTH: usize = 126;
 
-/// The containers by name that a text writes down. At the first container in the text that is none, it gives up: the
-/// fault isn't said to be the least of the text, nor even to be one.
+/// Reads the containers of a registry, by name. It stops at the first invalid container, so the fault need not be the
+/// least one of the document, nor even be one.
 pub fn containers_one_by_one(
     alloc: Global,
     text: &[u8],
@@ -41,7 +41,7 @@ pub fn containers_one_by_one(
     Ok(containers)
 }
 
-/// The containers that follow the brace that opens a registry, up to the one that closes it.
+/// Reads the containers after the opening brace of a registry, up to the closing one.
 fn next_containers(
     alloc: Global,
     reader: &mut Reader<'_>,
@@ -60,7 +60,7 @@ fn next_containers(
     Ok(containers)
 }
 
-/// The container that comes next.
+/// Reads the next container.
 fn next_container(alloc: Global, reader: &mut Reader<'_>) -> Result<Container, RegistryFault>
     ensures is { IfOk result (λ c. converted of_json (value 126 reader.old)
         ≡ Some (shown_container (container_of c), reader.new)) }

@@ -1,4 +1,4 @@
-//! The JSON value that a registry is written as.
+//! The JSON of a registry.
 ghost use Rattle.std.specs.Prelude.{◌≡◌, IfOk};
 ghost use Rattle.bcs_registry_json.specs.Shown.{shown_registry};
 ghost use Rattle.bcs_registry_model.specs.View.{entries_of};
@@ -15,7 +15,7 @@ use serde_json::{Map, Value};
 use std::alloc::{AllocError, Global};
 use std::collections::BTreeMap;
 
-/// An object with the containers as members by name.
+/// An object with a member for each container, by name.
 pub fn registry_value(
     alloc: Global,
     containers: &BTreeMap<String, Container>,

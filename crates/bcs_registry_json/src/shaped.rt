@@ -1,4 +1,4 @@
-//! Whether JSON has the shape of a registry or of a format, whatever numbers stand in it. No call takes memory.
+//! Checks whether JSON has the shape of a registry or of a format, whatever its numbers are. Nothing here allocates.
 ghost use Rattle.std.specs.Prelude.{◌≡◌, true};
 ghost use Rattle.serde_json.specs.View.{view};
 ghost use Rattle.bcs_registry_json.specs.Shaped.{are_fields, are_variants, is_container, is_field, is_format, is_map, is_payload, is_registry, is_tuple, is_tuple_array, is_variant};

@@ -1,10 +1,10 @@
-//! The number of a variant, as an enum's JSON names it.
+//! The number of a variant in the JSON of an enum.
 ghost use Rattle.std.specs.Prelude.{◌≡◌, ◌^◌, ◌<◌, IfSome, None, decimal, false};
 ghost use Rattle.bcs_registry_json.specs.Shaped.{is_variant_number};
 
 use bcs_num::{Width, parse_unsigned};
 
-/// The number whose plain decimal text this is: `0`, or digits without a leading zero, at most 4294967295.
+/// Parses a plain decimal number, at most 4294967295: `0`, or digits without a leading zero.
 pub fn variant_number(name: &str) -> Option<u32>
     ensures some { IfSome result (λ n. (n < 2 ^ 32) × (name.now ≡ decimal n)) }
     ensures none { result ≡ None → is_variant_number name.now ≡ false }

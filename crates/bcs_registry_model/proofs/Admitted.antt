@@ -3,7 +3,7 @@ use Rattle.bcs_registry_model.proofs.Prelude.{◌≡◌, ℕ, ◌≤◌, List, [
 use Rattle.bcs_registry_model.specs.Shape as shape
 use Rattle.bcs_registry_model.specs.Container as container
 
--- what passes everywhere in the rows of a map passes in the row that is found
+-- a test that holds for all parts of all entries holds for the parts of the entry found by a look-up
 pub list_all-found : {K X Y : Type 0} (p : Y → Bool) (row : X → List Y) (test : K → Bool) (es : List (K × X)) (x : X) → list_all p (flat_map (λ e. row e.1) es) ≡ true → lookup test es ≡ Some x → list_all p (row x) ≡ true
 list_all-found p row test [] x h found = absurd (none-some x found)
 list_all-found p row test (e ∷ es) x h found =
@@ -36,7 +36,7 @@ pub payload_formats-admitted : (registry : Entries) → IsWellFormed registry �
 payload_formats-admitted registry good n cs found k v is =
     list_all-found (admits registry) (λ w. payload_formats w.1) _ cs v (container_formats-admitted registry good n (enumeration cs) found) is
 
--- a format that stands in a container or a variant is known, and has one level more at most than an admitted one
+-- the content of a container or a variant is known, and has at most one level more than an admitted format
 abbrev pub IsInside : Entries → Shape → Type 0
 IsInside registry s = IsTrue (is_known registry s) × (levels s ≤ 33)
 
@@ -48,7 +48,7 @@ choices_within (one_of cs) = cs
 choices_within _ = []
 
 module _ (registry : Entries) where
-  -- what the registry admits may stand inside it
+  -- an admitted format qualifies
   pub inside-from_admits : (s : Shape) → Admits registry s → IsInside registry s
   inside-from_admits s h =
       let both = and_parts (has_few_levels s) (is_known registry s) h in
@@ -79,7 +79,7 @@ module _ (registry : Entries) where
   shape_within (one_of cs) = shape.unit
   shape_within nothing = shape.unit
 
-  -- the shape that stands in a content has what each such shape has
+  -- a property of the shape in a content, for the shape itself
   inside_content : (c : Content) (s : Shape) → IsInside registry (shape_within c) → c ≡ of s → IsInside registry s
   inside_content c s h is = subst (IsInside registry) (ap shape_within is) h
 
@@ -104,14 +104,14 @@ module _ (registry : Entries) where
   enumeration_of (enumeration ds) cs h = ap enumeration (ap choices_within h)
   enumeration_of _ cs h = absurd cc
 
-  -- what stands in a container of the registry
+  -- the content of a container of the registry
   pub content_at-inside : IsWellFormed registry → (n : List ℕ) (s : Shape) → content_at n registry ≡ of s → IsInside registry s
   content_at-inside good n s h = elim (found_content (container_at n registry) (of s) h) [
     | inl none ↦ absurd cc
     | inr f ↦ inside_content (content f.0) s (container_inside f.0 (container_formats-admitted registry good n f.0 f.1)) f.2
   ]
 
-  -- an enum's variants are those of the container
+  -- the variants of an enum are those of its container
   pub content_at-one_of : (n : List ℕ) (cs : List Choice) → content_at n registry ≡ one_of cs → container_at n registry ≡ Some (enumeration cs)
   content_at-one_of n cs h = elim (found_content (container_at n registry) (one_of cs) h) [
     | inl none ↦ absurd cc
@@ -122,7 +122,7 @@ module _ (registry : Entries) where
   found_choice None s h = absurd cc
   found_choice (Some v) s h = (v, refl, ap shape_within h)
 
-  -- what stands in a variant of an enum of the registry
+  -- the content of a variant of an enum of the registry
   pub choice_at-inside : IsWellFormed registry → (n : List ℕ) (cs : List Choice) → content_at n registry ≡ one_of cs → (k : ℕ) (s : Shape) → choice_at k cs ≡ of s → IsInside registry s
   choice_at-inside good n cs at k s h =
       let f = found_choice (choice_numbered k cs) s h in

@@ -1,13 +1,13 @@
--- Names that are told apart one after another, by the set of those before.
+-- Checking names one after another against the set of the earlier ones.
 use Rattle.bcs_registry_model.proofs.Prelude.{◌≡◌, ℕ, ◌+◌, ◌<◌, List, [], ◌∷◌, length, get_or, drop, map, Bor, Bool, true, false, not, ◌&&◌, ◌||◌, cond, refl, sym, ap, ◌∙◌, list_all, list_any, bytes_eq, is_eq, nat_cmp, slice_cmp, is_at, BTreeSet, contains_by, drop_more, is_eq-slice_cmp, are_distinct}
 use Rattle.std.specs.BTreeSet.{Updates}
 
--- none of the names is among those before, nor equal to one before it
+-- no name is in the set, and none equals an earlier one
 abbrev pub all_new : (List ℕ → Bool) → List (List ℕ) → Bool
 all_new has [] = true
 all_new has (n ∷ ns) = not (has n) && all_new (λ q. bytes_eq n q || has q) ns
 
--- the set has the name
+-- the set contains the name
 abbrev pub has_name : BTreeSet (Bor (List ℕ)) → List ℕ → Bool
 has_name s q = contains_by (λ k. slice_cmp nat_cmp q k.now) s
 
@@ -42,7 +42,7 @@ all_pass : (ns : List (List ℕ)) → list_all (λ n. true) ns ≡ true
 all_pass [] = refl
 all_pass (n ∷ ns) = all_pass ns
 
--- before the first name
+-- with an empty set
 pub are_distinct-from_none : (s : BTreeSet (Bor (List ℕ))) (ns : List (List ℕ)) → s.keys ≡ [] → are_distinct ns ≡ all_new (has_name s) ns
 are_distinct-from_none s ns e =
     sym (all_new-is (λ q. false) ns ∙ ap (λ b. b && are_distinct ns) (all_pass ns))
@@ -55,7 +55,7 @@ cond-or : (a b c : Bool) → a ≡ c → cond a true b ≡ (c || b)
 cond-or true b c e = rw (sym e) refl
 cond-or false b c e = rw (sym e) refl
 
--- a name that is put into the set
+-- inserting a name into the set
 pub all_new-inserted : (s t : BTreeSet (Bor (List ℕ))) (k : Bor (List ℕ)) (ns : List (List ℕ)) → has_name s k.now ≡ false → Updates (λ x y. slice_cmp nat_cmp x.now y.now) s t k true → all_new (has_name s) (k.now ∷ ns) ≡ all_new (has_name t) ns
 unfolding as_key
 all_new-inserted s t k ns h u =
@@ -65,7 +65,7 @@ not-true : (b c : Bool) → b ≡ true → b ≡ not c → c ≡ false
 not-true b true e h = sym e ∙ h
 not-true b false e h = refl
 
--- one more name of a row is put into the set
+-- inserting the name of the next element
 pub all_new-step : {A : Type 0} (name : A → List ℕ) (xs : List A) (i : ℕ) (x : A) (s t : BTreeSet (Bor (List ℕ))) (k : Bor (List ℕ)) (b : Bool) → i < length xs → x ≡ get_or xs i x → k.now ≡ name x
     → b ≡ true → b ≡ not (has_name s k.now) → Updates (λ x y. slice_cmp nat_cmp x.now y.now) s t k true
     → all_new (has_name s) (map name (drop i xs)) ≡ all_new (has_name t) (map name (drop (i + 1) xs))
@@ -74,7 +74,7 @@ all_new-step name xs i x s t k b h e n is new u =
     ∙ ap (λ m. all_new (has_name s) (m ∷ map name (drop (i + 1) xs))) (ap name (sym e) ∙ sym n)
     ∙ all_new-inserted s t k (map name (drop (i + 1) xs)) (not-true b (has_name s k.now) is new) u
 
--- the same of a row that is gone through by an iterator
+-- the same for a list that an iterator traverses
 pub all_new-next : {A : Type 0} (name : A → List ℕ) (xs ys : List A) (x : A) (s t : BTreeSet (Bor (List ℕ))) (k : Bor (List ℕ)) (b : Bool) → xs ≡ x ∷ ys → k.now ≡ name x
     → b ≡ true → b ≡ not (has_name s k.now) → Updates (λ x y. slice_cmp nat_cmp x.now y.now) s t k true
     → all_new (has_name s) (map name xs) ≡ all_new (has_name t) (map name ys)

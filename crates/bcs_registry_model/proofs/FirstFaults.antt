@@ -1,11 +1,11 @@
--- The first fault that the program finds is the first fault, and no fault means that the registry grows.
+-- The first fault that the program finds is the specified one, and if there is none, the registry grows.
 use Rattle.bcs_registry_model.proofs.Prelude.{◌≡◌, ◌≢◌, ◌↔◌, ℕ, List, [], ◌∷◌, ◌++◌, Option, Some, None, is_some, Result, Ok, Err, Bool, true, false, All, refl, sym, ap, subst, ◌∙◌, option_or, option_map_or, result_err, IsOk, IsErrOf, false≢true, true≢false, All-nil, All-cons, All-head, All-tail, Payload, Choice, Container, unit_struct, newtype_struct, tuple_struct, field_struct, enumeration, Entries, container_at, choice_numbered, same_variant, same_struct, first_fault, fault_unless, choice_fault, container_fault, entry_fault, growth_fault, IsFirst, HasChoice, LacksChoice, GrowsTo, BreaksTo, HasContainer, LacksContainer, Grows, IsFirstGrowthFault, GrowthFault, Missing, Changed, VariantMissing, VariantChanged}
 use Rattle.bcs_registry_model.proofs.Sameness.{same_variant-true, same_struct-true, same_shape-refl, same_shapes-refl, same_fields-refl, same_variant-refl}
 
 some≢none : {A : Type 0} (x : A) → Some x ≡ None → ⊥
 some≢none x h = true≢false (ap is_some h)
 
--- ---- a row of elements, of which each is good or has a fault
+-- ---- a list of elements, each of which is good or has a fault
 
 module _ {X : Type 0} (fault : X → Option GrowthFault) where
   pub good-from_none : (Good : X → Type 0) → ((x : X) → fault x ≡ None → Good x) → (xs : List X) → first_fault fault xs ≡ None → All Good xs
@@ -180,14 +180,14 @@ err-from_some : (r : Result (Unit {0}) GrowthFault) (e : GrowthFault) → result
 err-from_some (Ok u) e h = absurd (some≢none e (sym h))
 err-from_some (Err g) e h = ap Err cc
 
--- no fault exactly where the registry grows
+-- there is no fault exactly if the registry grows
 pub ok_exactly : (older newer : Entries) (r : Result (Unit {0}) GrowthFault) → result_err r ≡ growth_fault older newer → IsOk r ↔ Grows older newer
 ok_exactly older newer r h = (
   λ ok. good-from_none (entry_fault newer) (HasContainer newer) (has_container-from_none newer) older (sym h ∙ none-from_ok r ok),
   λ grows. ok-from_none r (h ∙ none-from_good (entry_fault newer) (HasContainer newer) (none-from_has_container newer) older grows),
 )
 
--- each fault exactly where it is the first
+-- each fault is returned exactly if it is the first
 pub fault_exactly : (older newer : Entries) (r : Result (Unit {0}) GrowthFault) → result_err r ≡ growth_fault older newer → (e : GrowthFault) → IsErrOf r e ↔ IsFirstGrowthFault older newer e
 fault_exactly older newer r h e = (
   λ err. first-from_some (entry_fault newer) (HasContainer newer) (LacksContainer newer e) e (has_container-from_none newer) (lacks_container-from_some newer e) older (sym h ∙ ap result_err err),

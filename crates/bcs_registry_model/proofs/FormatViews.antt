@@ -1,4 +1,4 @@
--- Which shape each `Format` stands for.
+-- The shape of each `Format`.
 use Rattle.bcs_registry_model.proofs.Prelude.{◌≡◌, ℕ, Box, Vec, Global, ap, ◌∙◌, rules, shape_of, formats_shapes}
 use Rattle.bcs_registry_model.specs.Shape as shape
 use Rattle.bcs_registry_model.specs.declared.format.Format as format

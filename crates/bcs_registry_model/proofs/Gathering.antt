@@ -1,4 +1,4 @@
--- Numbers by name, as they are gathered from an enum's variants and from a registry's enums.
+-- Collecting variant numbers by name, from the variants of an enum and the enums of a registry.
 use Rattle.bcs_registry_model.proofs.Prelude.{◌≡◌, ℕ, List, [], ◌∷◌, map, String, Global, Option, Some, None, is_some, Bool, true, false, cond, string_bytes, Less, refl, sym, ap, subst, ◌∙◌, BTreeMap, Updates, get_by_text, AllByRecursion, IsStrictlySortedBy, keys_of, option_or, option_map_or, is_eq, bytes_eq, string_cmp, true≢false, false≢true, nat_list_eq_equiv, btree_map_updates_text, is_eq-slice_cmp, bytes_eq-Decides, enumeration, container_at, number_called, variant_number, choice_of, container_of, entries_of, UnitStruct, NewTypeStruct, TupleStruct, Struct, Enum, Named, VariantFormat}
 use Rattle.bcs_registry_model.specs.declared.container.Container as declared
 use Rattle.bcs_registry_model.proofs.Lookup.{map-cond}
@@ -25,11 +25,11 @@ is_none (Some x) h = absurd (true≢false h)
 abbrev pub Numbers : Type 0
 Numbers = BTreeMap (String Global) ℕ
 
--- the number of the variant of this name among these
+-- the number of the variant with this name among vs
 abbrev pub number_among : List ℕ → List Variant → Option ℕ
 number_among word vs = number_called word (enumeration (map choice_of vs))
 
--- what the map has under the name, or else the variants that are left
+-- the number in the map, or otherwise among the remaining variants
 abbrev pub number_joined : Numbers → List Variant → List ℕ → Option ℕ
 number_joined m vs word = option_or (get_by_text m word) (number_among word vs)
 
@@ -50,7 +50,7 @@ passed : (f : List ℕ → Option ℕ) (name word : List ℕ) (n : ℕ) (o : Opt
 passed f name word n o true same some = or_kept (f word) (Some n) o (ap (λ s. is_some (f s)) (sym (same refl)) ∙ some)
 passed f name word n o false same some = refl
 
--- a variant whose name is new is put into the map
+-- inserting a variant with a new name
 pub variant_put : (m m' : Numbers) (xs ys : List Variant) (v : Variant) (s : List ℕ) (k : String Global) (b : Bool) → xs ≡ v ∷ ys → s ≡ string_bytes v.1.name → string_bytes k ≡ string_bytes v.1.name
     → b ≡ is_some (get_by_text m s) → b ≡ false → Updates string_cmp m m' k (Some v.0) → (word : List ℕ) → number_joined m xs word ≡ number_joined m' ys word
 variant_put m m' xs ys v s k b e same named test new u word =
@@ -59,7 +59,7 @@ variant_put m m' xs ys v s k b e same named test new u word =
     ∙ put_new (get_by_text m) (string_bytes k) word v.0 (number_among word ys) (bytes_eq (string_bytes k) word) (bytes_eq-Decides (string_bytes k) word).0 none
     ∙ ap (λ o. option_or o (number_among word ys)) (sym (btree_map_updates_text (string_bytes k) m m' (Some v.0) u word))
 
--- one whose name the map has is passed
+-- skipping a variant whose name is already in the map
 pub variant_passed : (m : Numbers) (xs ys : List Variant) (v : Variant) (s : List ℕ) (b : Bool) → xs ≡ v ∷ ys → s ≡ string_bytes v.1.name
     → b ≡ is_some (get_by_text m s) → b ≡ true → (word : List ℕ) → number_joined m xs word ≡ number_joined m ys word
 variant_passed m xs ys v s b e same test old word =
@@ -74,7 +74,7 @@ NumbersByEnum = BTreeMap (String Global) Numbers
 abbrev pub found_under : NumbersByEnum → List ℕ → List ℕ → Option ℕ
 found_under m name word = option_map_or (λ n. get_by_text n word) (get_by_text m name) None
 
--- the map has what the containers give that aren't left, and no name of one that is left
+-- the map has the numbers of the containers processed so far, and no name of a remaining one
 pub record AreGathered (all left : List Stored) (m : NumbersByEnum) : Type 0 where
   pub rise : IsStrictlySortedBy string_cmp (keys_of left)
   pub new : AllByRecursion (λ k. get_by_text m (string_bytes k) ≡ None) (keys_of left)
@@ -112,7 +112,7 @@ pass_other : (g : List ℕ → Option ℕ) (name q : List ℕ) (b : Bool) → (b
 pass_other g name q true same none = sym (ap g (sym (same refl)) ∙ none)
 pass_other g name q false same none = refl
 
--- the first number again, tested the other way round
+-- the first number, with the arguments of the comparison swapped
 number_first_by : (name : List ℕ) (e : Stored) (es : List Stored) → name ≡ string_bytes e.0 → (q word : List ℕ)
     → variant_number q word (entries_of (e ∷ es)) ≡ cond (bytes_eq name q) (number_called word (container_of e.1)) (variant_number q word (entries_of es))
 number_first_by name e es named q word =
@@ -125,7 +125,7 @@ found_after m m' k ns u q word =
     ap (λ o. option_map_or (λ n. get_by_text n word) o None) (btree_map_updates_text (string_bytes k) m m' (Some ns) u q)
     ∙ map_or-cond (λ n. get_by_text n word) None (bytes_eq (string_bytes k) q) ns (get_by_text m q)
 
--- an enum's numbers are put into the map
+-- inserting the numbers of an enum
 pub enum_put : (all xs ys : List Stored) (m m' : NumbersByEnum) (e : Stored) (k : String Global) (ns : Numbers) → xs ≡ e ∷ ys → string_bytes k ≡ string_bytes e.0
     → ((word : List ℕ) → get_by_text ns word ≡ number_called word (container_of e.1)) → Updates string_cmp m m' k (Some ns) → AreGathered all xs m → AreGathered all ys m'
 unfolding IsStrictlySortedBy
@@ -144,7 +144,7 @@ enum_put all xs ys m m' e k ns is named gives u gathered =
           ∙ h.joined q word;
     }
 
--- only an enum has numbers
+-- only enums have numbers
 pub no_number : (d : declared.Container) → ((vs : BTreeMap ℕ (Named VariantFormat)) → d ≡ Enum vs → ⊥) → (word : List ℕ) → number_called word (container_of d) ≡ None
 no_number UnitStruct h word = refl
 no_number (NewTypeStruct f) h word = refl
@@ -152,7 +152,7 @@ no_number (TupleStruct fs) h word = refl
 no_number (Struct fs) h word = refl
 no_number (Enum vs) h word = absurd (h vs refl)
 
--- another container is passed
+-- skipping another container
 pub other_passed : (all xs ys : List Stored) (m : NumbersByEnum) (e : Stored) → xs ≡ e ∷ ys → ((word : List ℕ) → number_called word (container_of e.1) ≡ None) → AreGathered all xs m → AreGathered all ys m
 unfolding IsStrictlySortedBy
 other_passed all xs ys m e is none gathered =
@@ -168,7 +168,7 @@ other_passed all xs ys m e is none gathered =
           ∙ h.joined q word;
     }
 
--- after the last one
+-- after the last container
 pub all_gathered : (all xs : List Stored) (m : NumbersByEnum) → xs ≡ [] → AreGathered all xs m → (name word : List ℕ) → found_under m name word ≡ variant_number name word (entries_of all)
 all_gathered all xs m is gathered name word =
     let h = subst (λ zs. AreGathered all zs m) is gathered in

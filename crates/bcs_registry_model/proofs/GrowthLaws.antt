@@ -1,8 +1,8 @@
--- What stands in a registry that an older one grew to.
+-- What a registry keeps when it grows.
 use Rattle.bcs_registry_model.proofs.Prelude.{◌≡◌, ℕ, List, [], ◌∷◌, Option, Some, None, is_some, Bool, true, false, cond, ◌==◌, All, refl, sym, ap, subst, ◌∙◌, lookup, option_map_or, bytes_eq, false≢true, and_parts, and_from, Decides-eqb, All-head, All-tail, none-some, same_Some, bytes_eq-Decides, Shape, Shapes, no_shapes, shape, Payload, Choice, Container, unit_struct, newtype_struct, tuple_struct, field_struct, enumeration, Entries, Content, of, one_of, nothing, container_at, choice_numbered, content, content_at, choice_at, payload_shape, HasChoice, GrowsTo, HasContainer, Grows, GrowthKeepsAdmitting, has_few_levels, is_known, are_known}
 use Rattle.bcs_registry_model.specs.Shape as shape
 
--- what is found under a key that passes the test stands in the list, under a key that passes
+-- if P holds for all entries, it holds for the one that a look-up finds, with a key that passes the test
 found_in : {K X : Type 0} (test : K → Bool) (P : K × X → Type 0) (xs : List (K × X)) (x : X) → All P xs → lookup test xs ≡ Some x → (k : K) × (test k ≡ true) × P (k, x)
 found_in {K = K} test P [] x h found = absurd (none-some x found)
 found_in {K = K} test P (e ∷ xs) x h found = elim (test e.0) as (λ b. test e.0 ≡ b → cond b (Some e.1) (lookup test xs) ≡ Some x → (k : K) × (test k ≡ true) × P (k, x)) [
@@ -10,14 +10,14 @@ found_in {K = K} test P (e ∷ xs) x h found = elim (test e.0) as (λ b. test e.
   | false ↦ λ fails rest. found_in test P xs x (All-tail P e xs h) rest
 ] refl found
 
--- a container of the older registry stands in the newer one, where it may have grown
+-- each container of the older registry is in the newer one, possibly grown
 pub container_at-grows : (older newer : Entries) → Grows older newer → (n : List ℕ) (c : Container) → container_at n older ≡ Some c → (d : Container) × (container_at n newer ≡ Some d) × GrowsTo c d
 container_at-grows older newer grows n c found =
     let there = found_in (bytes_eq n) (HasContainer newer) older c grows found in
     let named : n ≡ there.0 = (bytes_eq-Decides n there.0).0 there.1 in
     (there.2.0, ap (λ m. container_at m newer) named ∙ there.2.1, there.2.2)
 
--- the newer variants have each of the older ones
+-- the newer variants include all older ones
 abbrev pub HasChoices : List Choice → List Choice → Type 0
 HasChoices cs ds = (n : ℕ) (v : List ℕ × Payload) → choice_numbered n cs ≡ Some v → choice_numbered n ds ≡ Some v
 
@@ -27,7 +27,7 @@ has_choices cs ds all n v found =
     let numbered : there.0 ≡ n = (Decides-eqb there.0 n).0 there.1 in
     ap (λ m. choice_numbered m ds) (sym numbered) ∙ there.2
 
--- what stood at a place of the older registry, and what stands there in the newer one
+-- the relation between the older and the newer content
 abbrev pub StaysIn : Content → Content → Type 0
 StaysIn (of s) (of t) = s ≡ t
 StaysIn (one_of cs) (one_of ds) = HasChoices cs ds
@@ -48,7 +48,7 @@ looked_up_stays (Some c) p h =
     let there = h c refl in
     subst (λ q. StaysIn (content c) (option_map_or content q nothing)) (sym there.1) (content_stays c there.0 there.2)
 
--- what stands in a container stays
+-- growth keeps the content of a container
 pub content_at-grows : (older newer : Entries) → Grows older newer → (n : List ℕ) → StaysIn (content_at n older) (content_at n newer)
 content_at-grows older newer grows n = looked_up_stays (container_at n older) (container_at n newer) (container_at-grows older newer grows n)
 
@@ -56,7 +56,7 @@ chosen_stays : (o p : Option (List ℕ × Payload)) → ((v : List ℕ × Payloa
 chosen_stays None p h = tt {0}
 chosen_stays (Some v) p h = subst (λ q. StaysIn (of (payload_shape v.1)) (option_map_or (λ v. of (payload_shape v.1)) q nothing)) (sym (h v refl)) refl
 
--- what stands in a variant stays
+-- growth keeps the content of a variant
 pub choice_at-grows : (cs ds : List Choice) → HasChoices cs ds → (n : ℕ) → StaysIn (choice_at n cs) (choice_at n ds)
 choice_at-grows cs ds has n = chosen_stays (choice_numbered n cs) (choice_numbered n ds) (has n)
 

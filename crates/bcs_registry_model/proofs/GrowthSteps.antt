@@ -1,4 +1,4 @@
--- What a look-up in the newer map gives, as the search for the first fault of growth sees it in the mirror.
+-- The result of a look-up in the newer map, in terms of the search for the first growth fault.
 use Rattle.bcs_registry_model.proofs.Prelude.{◌≡◌, ℕ, List, map, String, Global, Option, Some, option_map, Bor, string_bytes, sym, ap, ◌∙◌, nat_cmp, slice_cmp, lookup, option_copied, option_map_or, is_at, Payload, same_variant, fault_unless, choice_fault, container_fault, entry_fault, payload_of, choice_of, container_of, entries_of, Named, VariantFormat, Missing, VariantMissing, VariantChanged}
 use Rattle.bcs_registry_model.specs.declared.container.Container as declared
 use Rattle.bcs_registry_model.proofs.Lookup.{find-choice, find-container}

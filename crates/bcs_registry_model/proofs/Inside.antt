@@ -1,12 +1,12 @@
--- The formats and the names inside a map's values, and inside its mirror.
+-- The formats and names inside the values of a map, and inside the list of entries that represents it.
 use Rattle.bcs_registry_model.proofs.Prelude.{◌≡◌, ℕ, List, [], ◌∷◌, ◌++◌, map, String, Global, string_bytes, refl, ap, flat_map, values_of, and-true, list_all-append, Shape, field_of, payload_of, choice_of, container_of, entries_of, payload_formats, container_formats, formats, payload_names, container_names, name_lists, Format, Named, VariantFormat}
 use Rattle.bcs_registry_model.specs.declared.container.Container as declared
 
--- the formats inside a row of containers
+-- the formats in a list of containers
 abbrev pub rows_formats : List declared.Container → List Shape
 rows_formats cs = flat_map (λ c. container_formats (container_of c)) cs
 
--- the formats inside a row of variants
+-- the formats in a list of variants
 abbrev pub variants_formats : List (Named VariantFormat) → List Shape
 variants_formats vs = flat_map (λ v. payload_formats (payload_of v.value)) vs
 
@@ -18,11 +18,11 @@ pub choices-values : (es : List (ℕ × Named VariantFormat)) → flat_map (λ c
 choices-values [] = refl
 choices-values (e ∷ es) = ap (λ r. payload_formats (payload_of e.1.value) ++ r) (choices-values es)
 
--- the lists of names inside a row of containers
+-- the lists of names in a list of containers
 abbrev pub rows_names : List declared.Container → List (List (List ℕ))
 rows_names cs = flat_map (λ c. container_names (container_of c)) cs
 
--- the lists of names inside a row of variants
+-- the lists of names in a list of variants
 abbrev pub variants_names : List (Named VariantFormat) → List (List (List ℕ))
 variants_names vs = flat_map (λ v. payload_names (payload_of v.value)) vs
 

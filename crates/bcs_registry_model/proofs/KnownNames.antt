@@ -1,4 +1,4 @@
--- Whether a name is one of the map, and of its mirror.
+-- Whether a name is in the map, and in the list of entries that represents it.
 use Rattle.bcs_registry_model.proofs.Prelude.{◌≡◌, ℕ, List, String, Global, Option, Some, None, option_map, is_some, Bool, true, ◌&&◌, string_bytes, refl, sym, ap, ◌∙◌, rules, nat_cmp, slice_cmp, lookup, is_at, Shape, name, Entries, container_at, shape_of, container_of, entries_of, has_few_levels, is_known, admits, Format, TypeName, the_lemmas}
 use Rattle.bcs_registry_model.specs.declared.container.Container as declared
 use Rattle.bcs_registry_model.proofs.Lookup.{find-container}
@@ -13,12 +13,12 @@ knows_name n es = sym (ap is_some (find-container n es) ∙ is_some-map containe
 shape_of-TypeName : (n : String Global) → shape_of (TypeName n) ≡ name (string_bytes n)
 shape_of-TypeName n = search (rules, the_lemmas)
 
--- a name is known as `contains_key` answers
+-- a name is known if `contains_key` returns true
 pub is_known-name : (f : Format) (n : String Global) (s : List ℕ) (es : List (String Global × declared.Container)) (b : Bool) → f ≡ TypeName n → s ≡ string_bytes n
     → b ≡ is_some (lookup (is_at (λ k. slice_cmp nat_cmp s (string_bytes k))) es) → b ≡ is_known (entries_of es) (shape_of f)
 is_known-name f n s es b e t h = h ∙ knows_name s es ∙ rw (e, t, shape_of-TypeName n) refl
 
--- what is known by the entries that are the registry is known by the registry
+-- the same for a registry that is equal to the entries
 pub is_known_there : (s : Shape) (es registry : Entries) (b : Bool) → b ≡ is_known es s → es ≡ registry → b ≡ is_known registry s
 is_known_there s es registry b h e = h ∙ ap (λ r. is_known r s) e
 

@@ -1,4 +1,4 @@
--- Looking up a container and a variant, in the map and in its mirror.
+-- Looking up containers and variants, in a map and in the list of entries that represents it.
 use Rattle.bcs_registry_model.proofs.Prelude.{◌≡◌, ℕ, List, [], ◌∷◌, String, Global, Option, Some, None, option_map, Bor, Bool, true, false, ◌==◌, cond, string_bytes, map, refl, sym, rules, is_eq, nat_cmp, slice_cmp, comparing, lookup, option_copied, is_at, is_eq-slice_cmp, container_at, choice_numbered, choice_of, payload_of, container_of, entries_of, Named, VariantFormat}
 use Rattle.bcs_registry_model.specs.declared.container.Container as declared
 
@@ -9,12 +9,12 @@ pub map-cond : {A B : Type 0} (f : A → B) (b : Bool) (x : A) (o : Option A) �
 map-cond f true x o = refl
 map-cond f false x o = refl
 
--- a variant by its number
+-- a variant, by its number
 pub find-choice : (n : ℕ) (es : List (ℕ × Named VariantFormat)) → choice_numbered n (map choice_of es) ≡ option_map (λ v. (string_bytes v.name, payload_of v.value)) (lookup (is_at (nat_cmp n)) es)
 find-choice n [] = refl
 find-choice n (e ∷ es) = rw (sym (is_eq-nat_cmp n e.0), find-choice n es) (sym (map-cond (λ v. (string_bytes v.name, payload_of v.value)) (is_eq (nat_cmp n e.0)) e.1 _))
 
--- a container by its name
+-- a container, by its name
 pub find-container : (n : List ℕ) (es : List (String Global × declared.Container)) → container_at n (entries_of es) ≡ option_map container_of (lookup (is_at (λ k. slice_cmp nat_cmp n (string_bytes k))) es)
 find-container n [] = refl
 find-container n (e ∷ es) = rw (sym (is_eq-slice_cmp n (string_bytes e.0)), find-container n es) (sym (map-cond container_of (is_eq (slice_cmp nat_cmp n (string_bytes e.0))) e.1 _))

@@ -1,4 +1,4 @@
--- What the proofs use of other crates, and of this crate's definitions.
+-- What the proofs use from other crates, and from this crate's definitions.
 pub use Rattle.std.proofs.Common.{[], All, ap, arith, Bool, Bor, Box, cond, drop, Err, false, get_or, Global, inl, inr, is_some, IsTrue, length, Less, List, map, None, not, Ok, Option, option_map, Ordering, refl, Result, rules, Some, String, string_bytes, subst, sym, true, Vec, ℕ, ◌&&◌, ◌*◌, ◌++◌, ◌+◌, ◌<◌, ◌==◌, ◌||◌, ◌↔◌, ◌∙◌, ◌∷◌, ◌≡◌, ◌≢◌, ◌≤◌, ◌⊎◌}
 pub use Rattle.std.proofs.Math.Bool.{and-false, and-true}
 pub use Rattle.std.proofs.lemmas.Bool.{and_from, and_parts, false≢true, leb-true, true≢false}

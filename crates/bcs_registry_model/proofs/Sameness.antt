@@ -1,9 +1,9 @@
--- The tests of equality answer equality.
+-- The equality tests decide equality.
 use Rattle.bcs_registry_model.proofs.Prelude.{◌≡◌, ℕ, List, [], ◌∷◌, length, map, true, false, ◌&&◌, ◌==◌, refl, ap, ◌∙◌, arith, Width, w8, w16, w32, w64, w128, bytes_eq, and-false, false≢true, and_parts, and_from, Decides-eqb, bytes_eq-Decides, Unsupported, float32, float64, character, Shape, Shapes, no_shapes, shape, Field, Payload, Container, same_width, same_unsupported, same_shape, same_shapes, same_fields, same_payload, same_variant, same_struct, shape_of, formats_shapes, field_of, Format, Named}
 use Rattle.bcs_registry_model.specs.Shape as shape
 use Rattle.bcs_registry_model.specs.Container as container
 
--- ---- rows of unlike length
+-- ---- lists of different length
 
 pub same_shapes-unlike : (xs ys : List Format) → (length xs ≡ length ys → ⊥) → same_shapes (formats_shapes xs) (formats_shapes ys) ≡ false
 same_shapes-unlike [] [] h = absurd (h refl)
@@ -20,7 +20,7 @@ same_fields-unlike (x ∷ xs) (y ∷ ys) h =
     ap (λ b. (bytes_eq (field_of x).0 (field_of y).0 && same_shape (field_of x).1 (field_of y).1) && b) (same_fields-unlike xs ys (λ e. h (omega (arith, e))))
     ∙ and-false (bytes_eq (field_of x).0 (field_of y).0 && same_shape (field_of x).1 (field_of y).1)
 
--- ---- what passes is equal
+-- ---- if the test is true, the two are equal
 
 same_width-true : (v w : Width) → same_width v w ≡ true → v ≡ w
 same_width-true w8 w8 h = refl
@@ -93,7 +93,7 @@ same_struct-true (container.tuple_struct ss) (container.tuple_struct ts) h = ap 
 same_struct-true (container.field_struct fs) (container.field_struct gs) h = ap container.field_struct (same_fields-true fs gs h)
 same_struct-true _ _ h = absurd (false≢true h)
 
--- ---- what is equal passes
+-- ---- if the two are equal, the test is true
 
 same_width-refl : (w : Width) → same_width w w ≡ true
 same_width-refl w8 = refl

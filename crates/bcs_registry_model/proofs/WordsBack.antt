@@ -1,8 +1,8 @@
--- The word of a format names it.
+-- Looking up the name of a format returns that format.
 use Rattle.bcs_registry_model.proofs.Prelude.{◌≡◌, Bool, true, false, Some, refl, false≢true, w8, w16, w32, w64, w128, Shape, unit, truth, unsigned, signed, unsupported, float32, float64, character, text, bytes, name, option, seq, tuple, array, format_named, word_of}
 use Rattle.bcs_registry_model.specs.Shape.{map}
 
--- the format has no parts, and so a word
+-- the format has no parts, and so has a name
 abbrev pub has_word : Shape → Bool
 has_word (name n) = false
 has_word (option s) = false

@@ -1,4 +1,4 @@
--- Which rule of well-formedness is broken first.
+-- Which well-formedness rule is broken first.
 use Rattle.std.specs.Prelude.{◌≡◌, true, false}
 use Rattle.bcs_registry_model.specs.Container.{Entries}
 use Rattle.bcs_registry_model.specs.Shape.{Shape}
@@ -6,7 +6,7 @@ use Rattle.bcs_registry_model.specs.WellFormed.{has_few_levels, is_known, levels
 use Rattle.bcs_registry_model.specs.declared.fault.RegistryFault.{RegistryFault}
 use Rattle.bcs_registry_model.specs.declared.fault.RegistryFault.TheVariants.{TooNested, RepeatedName, UnknownName}
 
--- the first rule that the registry breaks: levels, then names that differ, then names that are known
+-- the first rule that the registry breaks, in this order: levels, distinct names, known names
 abbrev pub Breaks : Entries → RegistryFault → Type 0
 Breaks registry TooNested = levels_hold registry ≡ false
 Breaks registry RepeatedName = (levels_hold registry ≡ true) × (names_differ registry ≡ false)

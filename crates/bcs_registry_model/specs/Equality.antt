@@ -1,4 +1,4 @@
--- Whether two formats, two rows of fields, two variants or two structs are one, as a test.
+-- Equality of formats, lists of fields, variants and structs, as tests.
 use Rattle.std.specs.Prelude.{ℕ, List, [], ◌∷◌, Bool, true, false, ◌&&◌, ◌==◌}
 use Rattle.std.specs.Int.{Width}
 use Rattle.std.specs.Str.{bytes_eq}
@@ -53,11 +53,11 @@ same_payload (container.tuple ss) (container.tuple ts) = same_shapes ss ts
 same_payload (container.fields fs) (container.fields gs) = same_fields fs gs
 same_payload _ _ = false
 
--- by name and payload
+-- the same name and payload
 abbrev pub same_variant : List ℕ × Payload → List ℕ × Payload → Bool
 same_variant v w = bytes_eq v.0 w.0 && same_payload v.1 w.1
 
--- both are structs, of whichever kind, and one
+-- both are structs of the same kind with the same content
 abbrev pub same_struct : Container → Container → Bool
 same_struct container.unit_struct container.unit_struct = true
 same_struct (container.newtype_struct s) (container.newtype_struct t) = same_shape s t

@@ -1,4 +1,4 @@
--- What faults are printed as.
+-- The names of faults, as they are printed.
 use Rattle.std.specs.Prelude.{ℕ, List, codes}
 use Rattle.bcs_registry_model.specs.declared.fault.RegistryFault.{RegistryFault}
 use Rattle.bcs_registry_model.specs.declared.fault.RegistryFault.TheVariants.{NotJson, BadShape, BadNumber, TooNested, RepeatedName, UnknownName, OutOfMemory}

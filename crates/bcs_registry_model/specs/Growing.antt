@@ -1,4 +1,4 @@
--- The first fault of growth, as the program finds it.
+-- The first growth fault, as a function that mirrors the program.
 use Rattle.std.specs.Prelude.{ℕ, List, [], ◌∷◌, Bool, cond, Option, Some, None}
 use Rattle.std.specs.Option.{option_or, option_map_or}
 use Rattle.bcs_registry_model.specs.Container.{Choice, Container, enumeration, Entries, container_at, choice_numbered}
@@ -6,12 +6,12 @@ use Rattle.bcs_registry_model.specs.Equality.{same_variant, same_struct}
 use Rattle.bcs_registry_model.specs.declared.growth_fault.GrowthFault.{GrowthFault}
 use Rattle.bcs_registry_model.specs.declared.growth_fault.GrowthFault.TheVariants.{Missing, Changed, VariantMissing, VariantChanged}
 
--- the first fault that an element has
+-- the fault of the first element that has one
 abbrev pub first_fault : {X : Type 0} → (X → Option GrowthFault) → List X → Option GrowthFault
 first_fault fault [] = None
 first_fault fault (x ∷ xs) = option_or (fault x) (first_fault fault xs)
 
--- the fault e unless both are the same
+-- fault e, unless both are the same
 abbrev pub fault_unless : GrowthFault → Bool → Option GrowthFault
 fault_unless e same = cond same None (Some e)
 

@@ -1,4 +1,4 @@
--- Which shape a kind of format is.
+-- The shape of each kind of format.
 use Rattle.bcs_registry_model.specs.Shape as shape
 use Rattle.bcs_registry_model.specs.Shape.{Shape, float32, float64, character}
 use Rattle.bcs_registry_model.specs.View.{shape_of, formats_shapes}

@@ -1,4 +1,4 @@
--- What a `Row`, a `Layout` and a `Content` stand for.
+-- What a `Row`, a `Layout` and a `Content` represent.
 use Rattle.std.specs.Prelude.{List, map}
 use Rattle.bcs_registry_model.specs.Shape as shape
 use Rattle.bcs_registry_model.specs.Shape.{Shape}

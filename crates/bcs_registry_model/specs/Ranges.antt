@@ -1,4 +1,4 @@
--- In which range the numbers of a registry are, and in which order a finite map keeps it.
+-- The ranges of the numbers in a registry, and the order of its maps.
 use Rattle.std.specs.Prelude.{◌^◌, Bool, true, ◌&&◌, nat_lt, IsTrue}
 use Rattle.std.specs.List.{list_all, AllByRecursion}
 use Rattle.std.specs.List.Sorted.{IsStrictlySortedBy}
@@ -9,7 +9,7 @@ use Rattle.bcs_registry_model.specs.Container.{Container, Entries, Payload}
 use Rattle.bcs_registry_model.specs.Order.{NamesRise}
 use Rattle.bcs_registry_model.specs.Shape.{Shape, option, seq, map, tuple, array, Shapes, no_shapes, shape}
 
--- each SIZE fits 64 bits
+-- each SIZE fits into 64 bits
 abbrev mutual
   pub sizes_fit : Shape → Bool
   sizes_fit (option s) = sizes_fit s
@@ -36,23 +36,23 @@ container_sizes_fit (container.tuple_struct ss) = all_sizes_fit ss
 container_sizes_fit (container.field_struct fs) = list_all (λ f. sizes_fit f.1) fs
 container_sizes_fit (container.enumeration cs) = list_all (λ c. payload_sizes_fit c.1.1) cs
 
--- the numbers of an enum's variants fit 32 bits
+-- the variant numbers of an enum fit into 32 bits
 abbrev pub numbers_fit : Container → Bool
 numbers_fit (container.enumeration cs) = list_all (λ c. nat_lt c.0 (2 ^ 32)) cs
 numbers_fit _ = true
 
--- the variants of an enum stand by rising number
+-- the variants of an enum are in ascending order of their numbers
 abbrev pub NumbersRise : Container → Type 0
 NumbersRise (container.enumeration cs) = IsStrictlySortedBy nat_cmp (keys_of cs)
 NumbersRise _ = Unit {0}
 
--- the container's numbers are those that can be read
+-- the numbers of the container are in their ranges
 pub record IsInRange (c : Container) : Type 0 where
   pub rise : NumbersRise c
   pub numbers : IsTrue (numbers_fit c)
   pub sizes : IsTrue (container_sizes_fit c)
 
--- the registry is a finite map: its names rise by their bytes, and each container's numbers are those that can be read
+-- the registry is a finite map: names ascend, compared byte by byte, and the numbers in each container are in range
 pub record IsOrderly (registry : Entries) : Type 0 where
   pub names : NamesRise registry
   pub containers : AllByRecursion (λ e. IsInRange e.1) registry

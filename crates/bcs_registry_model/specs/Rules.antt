@@ -1,4 +1,4 @@
--- The rules that each format of a registry keeps.
+-- The rules that all formats of a registry must meet.
 use Rattle.std.specs.Prelude.{Bool}
 use Rattle.bcs_registry_model.specs.Shape.{Shape}
 use Rattle.bcs_registry_model.specs.Container.{Entries}

@@ -1,8 +1,8 @@
--- The formats of a registry (serde-reflection), without what memory a `Format` holds.
+-- The formats of a registry (serde-reflection), without the memory layout of `Format`.
 use Rattle.std.specs.Prelude.{ℕ, List}
 use Rattle.std.specs.Int.{Width}
 
--- the words that are read in registries, though no value has them
+-- the formats that are accepted in registries, but have no values
 pub data Unsupported : Type 0 where
   float32 : Unsupported
   float64 : Unsupported
@@ -22,7 +22,7 @@ mutual
     seq : Shape → Shape
     map : Shape → Shape → Shape
     tuple : Shapes → Shape
-    -- so many elements of one format
+    -- a fixed number of elements of one format
     array : Shape → ℕ → Shape
 
   pub data Shapes : Type 0 where

@@ -1,4 +1,4 @@
--- What a `Format` and a `Container` stand for.
+-- The shape of a `Format`, and the contents of a `Container`.
 use Rattle.std.specs.Prelude.{ℕ, List, [], ◌∷◌, map, String, string_bytes}
 use Rattle.std.specs.Int.{w8, w16, w32, w64, w128}
 use Rattle.std.specs.declared.alloc.Global.{Global}
@@ -18,7 +18,7 @@ abbrev pub shapes_of : List Shape → Shapes
 shapes_of [] = shape.no_shapes
 shapes_of (f ∷ fs) = shape.shape f (shapes_of fs)
 
--- one level, with each format inside already seen as its shape
+-- one level, where each inner format has already been replaced with its shape
 abbrev pub shape_step : Format-F Shape → Shape
 shape_step Format-F.Unit = shape.unit
 shape_step Format-F.Bool = shape.truth

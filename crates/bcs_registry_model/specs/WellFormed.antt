@@ -1,5 +1,5 @@
--- Which registries are well-formed, and which formats a registry admits. The three rules each speak of the whole
--- registry: of all its formats, and of all lists of names that must differ.
+-- Which registries are well-formed, and which formats a registry admits. Each of the three rules applies to the whole
+-- registry: to all its formats, or to all lists of names that must be distinct.
 use Rattle.std.specs.Prelude.{ℕ, suc, max, List, [], ◌∷◌, Bool, true, not, ◌&&◌, nat_le, is_some, map, IsTrue}
 use Rattle.std.specs.List.{flat_map, list_all, list_any}
 use Rattle.std.specs.Str.{bytes_eq}
@@ -29,7 +29,7 @@ container_formats (container.enumeration cs) = flat_map (λ c. payload_formats c
 abbrev pub formats : Entries → List Shape
 formats registry = flat_map (λ e. container_formats e.1) registry
 
--- ---- the lists of names that must differ
+-- ---- the lists of names that must be distinct
 
 abbrev pub payload_names : Payload → List (List (List ℕ))
 payload_names (container.fields fs) = map (λ f. f.0) fs ∷ []
@@ -45,11 +45,11 @@ name_lists registry = flat_map (λ e. container_names e.1) registry
 
 -- ---- the rules
 
--- the most levels of a format
+-- the greatest number of levels of a format
 abbrev pub level_limit : ℕ
 level_limit = 32
 
--- a word or a name has none; the others are one more than their deepest part
+-- 0 for a scalar or a name; otherwise one more than the deepest part
 abbrev mutual
   pub levels : Shape → ℕ
   levels (option s) = suc (levels s)
@@ -66,7 +66,7 @@ abbrev mutual
 abbrev pub has_few_levels : Shape → Bool
 has_few_levels s = nat_le (levels s) level_limit
 
--- each name in the format is one of the registry
+-- each name in the format is the name of a container
 module _ (registry : Entries) where
   abbrev mutual
     pub is_known : Shape → Bool
@@ -91,11 +91,11 @@ are_distinct (n ∷ ns) = not (list_any (bytes_eq n) ns) && are_distinct ns
 abbrev pub levels_hold : Entries → Bool
 levels_hold registry = list_all has_few_levels (formats registry)
 
--- names are distinct within a struct, a struct payload and an enum
+-- names are distinct in each struct, struct payload and enum
 abbrev pub names_differ : Entries → Bool
 names_differ registry = list_all are_distinct (name_lists registry)
 
--- every name in a format is one of the registry
+-- each name in a format is the name of a container
 abbrev pub names_known : Entries → Bool
 names_known registry = list_all (is_known registry) (formats registry)
 
@@ -105,7 +105,7 @@ is_well_formed registry = (levels_hold registry && names_differ registry) && nam
 abbrev pub IsWellFormed : Entries → Type 0
 IsWellFormed registry = IsTrue (is_well_formed registry)
 
--- the format may be used with the registry
+-- the registry admits the format
 abbrev pub admits : Entries → Shape → Bool
 admits registry s = has_few_levels s && is_known registry s
 

@@ -1,4 +1,4 @@
-//! Whether the names that must differ do.
+//! Checks that the names of fields and of variants are distinct.
 ghost use Rattle.std.specs.Prelude.{◌≡◌, map, IfOk};
 ghost use Rattle.std.specs.List.{list_all, list_any, flat_map};
 ghost use Rattle.std.specs.Str.{bytes_eq};
@@ -12,10 +12,10 @@ use crate::variant_format::VariantFormat;
 use std::alloc::{AllocError, Global};
 use std::collections::{BTreeMap, BTreeSet};
 
-/// Up to so many fields are told apart pair by pair, which takes no memory.
+/// Up to this number of fields are compared pair by pair, which needs no memory.
 const FEW_NAMES: usize = 8;
 
-/// Whether names are distinct within each struct, struct payload and enum.
+/// Whether names are distinct in each struct, struct payload and enum.
 #[tactic(auto, using(crate::proofs::Inside::name_rules))]
 pub fn have_distinct_names(
     alloc: Global,
@@ -45,7 +45,7 @@ fn has_distinct_names(alloc: Global, container: &Container) -> Result<bool, Allo
     }
 }
 
-// Whether names are distinct within each struct payload of the variants.
+// Whether field names are distinct in each struct payload of the variants.
 #[tactic(auto, using(crate::proofs::Inside::name_rules))]
 fn have_distinct_fields(
     alloc: Global,
@@ -94,7 +94,7 @@ fn differ_pair_by_pair(fields: &[Named<Format>]) -> bool
     true
 }
 
-// Whether one of the fields has the name.
+// Whether one of the fields has this name.
 fn is_among(name: &str, fields: &[Named<Format>]) -> bool
     ensures { result ≡ list_any (bytes_eq name.now) (map (λ f. f.0) (map field_of fields.now)) }
 {

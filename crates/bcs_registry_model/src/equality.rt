@@ -1,4 +1,4 @@
-//! Whether two variants or two structs are one, and the formats in them.
+//! Equality of formats, variants and structs.
 ghost use Rattle.std.specs.Prelude.{◌≡◌, map, string_bytes};
 ghost use Rattle.bcs_registry_model.specs.Equality.{same_shape, same_shapes, same_fields, same_payload, same_variant, same_struct};
 ghost use Rattle.bcs_registry_model.specs.View.{shape_of, formats_shapes, field_of, payload_of, container_of};
@@ -9,7 +9,7 @@ use crate::kind::Kind;
 use crate::named::Named;
 use crate::variant_format::VariantFormat;
 
-/// Whether both containers are structs, of whichever kind, and one.
+/// Whether both containers are structs of the same kind with the same content.
 pub fn is_same_struct(one: &Container, other: &Container) -> bool
     ensures { result ≡ same_struct (container_of one.now) (container_of other.now) }
 {
@@ -28,7 +28,7 @@ pub fn is_same_struct(one: &Container, other: &Container) -> bool
     }
 }
 
-/// Whether two variants have one name and one payload.
+/// Whether two variants have the same name and payload.
 pub fn is_same_variant(one: &Named<VariantFormat>, other: &Named<VariantFormat>) -> bool
     ensures { result ≡ same_variant (string_bytes one.now.name, payload_of one.now.value)
         (string_bytes other.now.name, payload_of other.now.value) }
@@ -36,7 +36,7 @@ pub fn is_same_variant(one: &Named<VariantFormat>, other: &Named<VariantFormat>)
     one.name == other.name && is_same_payload(&one.value, &other.value)
 }
 
-// Whether two payloads are one.
+// Whether two payloads are equal.
 fn is_same_payload(one: &VariantFormat, other: &VariantFormat) -> bool
     ensures { result ≡ same_payload (payload_of one.now) (payload_of other.now) }
 {
@@ -53,7 +53,7 @@ fn is_same_payload(one: &VariantFormat, other: &VariantFormat) -> bool
     }
 }
 
-// Whether two formats are one.
+// Whether two formats are equal.
 #[cycle(equality)]
 fn is_same_format(one: &Format, other: &Format) -> bool
     ensures { result ≡ same_shape (shape_of one.now) (shape_of other.now) }
@@ -75,7 +75,7 @@ fn is_same_format(one: &Format, other: &Format) -> bool
     }
 }
 
-// Whether two rows have the same formats in the same order.
+// Whether two lists contain the same formats in the same order.
 #[cycle(equality)]
 fn are_same_formats(ones: &[Format], others: &[Format]) -> bool
     ensures { result ≡ same_shapes (formats_shapes ones.now) (formats_shapes others.now) }
@@ -91,7 +91,7 @@ fn are_same_formats(ones: &[Format], others: &[Format]) -> bool
     true
 }
 
-// Whether two rows have the same fields in the same order, by name and format.
+// Whether two lists contain the same fields in the same order. Names and formats are compared.
 fn are_same_fields(ones: &[Named<Format>], others: &[Named<Format>]) -> bool
     ensures { result ≡ same_fields (map field_of ones.now) (map field_of others.now) }
 {

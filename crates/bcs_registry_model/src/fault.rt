@@ -1,34 +1,32 @@
-//! Why a text is no registry, or no format of one.
+//! Why JSON isn't a registry, or isn't a format of one.
 ghost use Rattle.std.specs.Prelude.{◌≡◌};
 ghost use Rattle.bcs_registry_model.specs.FaultNames.{registry_fault_name};
 
 use std::alloc::{AllocError, AllocFailed};
 use thiserror::Error;
 
-/// Why a text is refused: the first of these whose fault stands anywhere in it. The message is the variant's name
-/// alone.
+/// Why JSON is refused: the first fault in this order that occurs anywhere in it. The message is the variant's name.
 #[derive(Clone, Copy, Debug, Drop, PartialEq, Eq, Error)]
 #[error("{}", self.name())]
 pub enum RegistryFault {
-    /// `serde_json` doesn't read the text.
+    /// `serde_json` rejects the input.
     NotJson = 1,
-    /// The JSON hasn't the shape of a registry, or of a format.
+    /// The JSON doesn't have the shape of a registry, or of a format.
     BadShape,
-    /// An enum number isn't plain decimal from 0 to 4294967295, or a `SIZE` isn't a whole number from 0 to
-    /// 18446744073709551615.
+    /// A variant number isn't plain decimal below 2^32, or a `SIZE` isn't an integer from 0 to 2^64 - 1.
     BadNumber,
     /// A format has more than 32 levels.
     TooNested,
-    /// Two fields of one struct or struct payload, or two variants of one enum, have one name.
+    /// Two fields of one struct or struct payload, or two variants of one enum, have the same name.
     RepeatedName,
-    /// A `TYPENAME` names no container.
+    /// A `TYPENAME` isn't the name of a container.
     UnknownName,
-    /// Memory ran out.
+    /// An allocation failed.
     OutOfMemory,
 }
 
 impl RegistryFault {
-    /// The variant's name.
+    /// The name of the variant.
     pub fn name(self) -> &'static str
         ensures { result.now ≡ registry_fault_name self }
     {

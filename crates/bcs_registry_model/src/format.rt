@@ -1,6 +1,6 @@
-//! Formats, as serde-reflection has them.
+//! Formats, as in serde-reflection.
 
-/// What the values of a place look like.
+/// The type of a value.
 #[derive(Debug, Drop)]
 pub enum Format {
     Unit,
@@ -15,13 +15,13 @@ pub enum Format {
     U32,
     U64,
     U128,
-    /// Read in registries, though no value has it; so are `F64` and `Char`.
+    /// Accepted in registries, but no value has it. The same applies to `F64` and `Char`.
     F32,
     F64,
     Char,
     Str,
     Bytes,
-    /// The container of this name.
+    /// The container with this name.
     TypeName(String),
     Opt(Box<Format>),
     /// A list of any length.
@@ -29,6 +29,6 @@ pub enum Format {
     /// A finite map from keys to values.
     Map(Box<Format>, Box<Format>),
     Tuple(Vec<Format>),
-    /// So many elements of one format.
+    /// A fixed number of elements of one format.
     TupleArray(Box<Format>, u64),
 }

@@ -1,4 +1,4 @@
-//! Growth: whether everything of an older registry stands in a newer one.
+//! Growth: whether a newer registry still contains everything from an older one.
 ghost use Rattle.std.specs.Prelude.{◌≡◌, map};
 ghost use Rattle.std.specs.Result.{result_err};
 ghost use Rattle.bcs_registry_model.specs.Growing.{first_fault, choice_fault, container_fault, entry_fault, growth_fault};
@@ -12,7 +12,7 @@ use crate::named::Named;
 use crate::variant_format::VariantFormat;
 use std::collections::BTreeMap;
 
-/// Whether the containers of the newer registry are those of the older one, but that enums may have more variants.
+/// Whether the newer registry has every container of the older one unchanged, except that enums may have more variants.
 #[tactic(auto, using(crate::proofs::Rising::names_rise))]
 pub fn containers_grow(
     older: &BTreeMap<String, Container>,
@@ -28,7 +28,7 @@ pub fn containers_grow(
     Ok(())
 }
 
-// Whether the newer registry has the container, which may have grown.
+// Whether the newer registry has the container, possibly with more variants.
 fn container_stands(
     name: &str,
     older: &Container,

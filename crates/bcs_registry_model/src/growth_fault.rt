@@ -1,11 +1,11 @@
-//! Why a registry doesn't grow to another.
+//! Why a registry doesn't grow into another.
 ghost use Rattle.std.specs.Prelude.{◌≡◌};
 ghost use Rattle.bcs_registry_model.specs.FaultNames.{growth_fault_name};
 
 use thiserror::Error;
 
-/// Why a newer registry isn't an older one grown: the fault of the first faulty container of the
-/// older one, by rising name. The message is the variant's name alone.
+/// Why a newer registry doesn't extend an older one: the fault of the first faulty container of the older registry, in
+/// ascending order of names. The message is the name of the variant.
 #[derive(Clone, Copy, Debug, Drop, PartialEq, Eq, Error)]
 #[error("{}", self.name())]
 pub enum GrowthFault {
@@ -13,15 +13,14 @@ pub enum GrowthFault {
     Missing = 1,
     /// The newer container differs, and they aren't both enums.
     Changed,
-    /// Of two enums the newer one hasn't this number, the first faulty one upwards.
+    /// Both are enums, and the first faulty number, in ascending order, is missing in the newer one.
     VariantMissing,
-    /// Of two enums the newer one has another name or payload at this number, the first faulty one
-    /// upwards.
+    /// Both are enums, and at the first faulty number, in ascending order, the newer one has another name or payload.
     VariantChanged,
 }
 
 impl GrowthFault {
-    /// The variant's name.
+    /// The name of the variant.
     pub fn name(self) -> &'static str
         ensures { result.now ≡ growth_fault_name self }
     {

@@ -1,4 +1,4 @@
-//! Which formats are whole numbers, and of which width.
+//! Which formats are integers, and of which width.
 ghost use Rattle.std.specs.Prelude.{◌≡◌, ◌≢◌, None, IfSome};
 ghost use Rattle.bcs_registry_model.specs.View.{shape_of};
 ghost use Rattle.bcs_registry_model.specs.Whole.{whole_shape, whole_len};
@@ -9,7 +9,7 @@ use crate::kind::Kind;
 use crate::scalar::Scalar;
 use bcs_num::Width;
 
-/// The whole numbers of one width, as a format whose values they are.
+/// An integer format, by sign and width.
 #[derive(Clone, Copy, PartialEq, Eq)]
 pub enum IntegerKind {
     Unsigned(Width),
@@ -17,7 +17,7 @@ pub enum IntegerKind {
 }
 
 impl IntegerKind {
-    /// Which whole numbers the values of the format are. `None`: they are something else.
+    /// The integer type of the format, or `None` if it isn't an integer.
     #[inline(always)]
     pub fn of(format: &Format) -> Option<IntegerKind>
         ensures found { IfSome result (λ n. shape_of format.now ≡ whole_shape n) }
@@ -37,7 +37,7 @@ impl IntegerKind {
         }
     }
 
-    /// How many bytes each number has.
+    /// The length of each integer, in bytes.
     pub fn byte_len(self) -> usize
         ensures { result ≡ whole_len self }
     {

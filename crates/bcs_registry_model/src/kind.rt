@@ -1,4 +1,4 @@
-//! Formats by kind: the one place that tells the words of formats without parts apart.
+//! Formats by kind. Only this file distinguishes all formats without parts.
 ghost use Rattle.std.specs.Prelude.{◌≡◌};
 ghost use Rattle.bcs_registry_model.specs.Kind.{kind_shape};
 ghost use Rattle.bcs_registry_model.specs.View.{shape_of};
@@ -8,7 +8,7 @@ use crate::integer_kind::IntegerKind;
 use crate::scalar::{Scalar, Unsupported};
 use bcs_num::Width;
 
-/// What a format is, as walks look at it: its words without parts by what their values are, and the parts of all others.
+/// A format, as recursive functions match on it: the scalars are grouped, and the parts of all others are borrowed.
 #[derive(Clone, Copy)]
 pub enum Kind<'a> {
     Scalar(Scalar),
@@ -21,7 +21,7 @@ pub enum Kind<'a> {
 }
 
 impl Format {
-    /// What the format is. It is part of its callers, so that a match on it is one step.
+    /// The kind of the format. Inlined, so that a match on it is a single step.
     #[inline(always)]
     pub fn kind(&self) -> Kind<'_>
         ensures { kind_shape result ≡ shape_of self.now }

@@ -14,7 +14,7 @@ pub fn is_known(format: &Format, containers: &BTreeMap<String, Container>) -> bo
     first_unknown(format, containers).is_none()
 }
 
-/// The first name in the format, as it is read, that is no name of the map.
+/// The first name in the format, from left to right, that isn't in the map.
 #[cycle(known)]
 pub fn first_unknown<'a>(
     format: &'a Format,

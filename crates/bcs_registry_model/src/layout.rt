@@ -1,4 +1,4 @@
-//! One view of what a container or a variant holds, and of the formats of a tuple or of a struct's fields.
+//! A common view of the content of structs and variants, and of the formats of tuples and fields.
 ghost use Rattle.std.specs.Prelude.{◌≡◌, ◌<◌, length, get_or};
 ghost use Rattle.bcs_registry_model.specs.Container.{content, payload_shape};
 ghost use Rattle.bcs_registry_model.specs.Layout.{content_seen, layout_shape, row_formats};
@@ -10,25 +10,25 @@ use crate::named::Named;
 use crate::variant_format::VariantFormat;
 use std::collections::BTreeMap;
 
-/// The formats of a tuple, or of a struct's fields.
+/// The formats of a tuple, or of the fields of a struct.
 #[derive(Clone, Copy)]
 pub enum Row<'a> {
     Formats(&'a [Format]),
-    /// The fields in the order of their encoding.
+    /// The fields, in the order of their encoding.
     Fields(&'a [Named<Format>]),
 }
 
-/// What a struct or a variant holds.
+/// What a struct or a variant contains.
 #[derive(Clone, Copy)]
 pub enum Layout<'a> {
     Unit,
     NewType(&'a Format),
     Tuple(&'a [Format]),
-    /// The fields in the order of their encoding.
+    /// The fields, in the order of their encoding.
     Struct(&'a [Named<Format>]),
 }
 
-/// What a container holds: the layout of a struct, or the variants of an enum.
+/// What a container contains: the layout of a struct, or the variants of an enum.
 #[derive(Clone, Copy)]
 pub enum Content<'a> {
     Of(Layout<'a>),
@@ -47,7 +47,7 @@ impl<'a> Row<'a> {
         }
     }
 
-    /// The format at this place.
+    /// The format at index `place`.
     #[inline(always)]
     pub fn at(self, place: usize) -> &'a Format
         requires { place < length (row_formats self) }
@@ -61,7 +61,7 @@ impl<'a> Row<'a> {
 }
 
 impl VariantFormat {
-    /// What the variant holds.
+    /// What the variant contains.
     #[inline(always)]
     pub fn layout(&self) -> Layout<'_>
         ensures { layout_shape result ≡ payload_shape (payload_of self.now) }
@@ -76,7 +76,7 @@ impl VariantFormat {
 }
 
 impl Container {
-    /// What the container holds.
+    /// What the container contains.
     #[inline(always)]
     pub fn content(&self) -> Content<'_>
         ensures { content_seen result ≡ content (container_of self.now) }

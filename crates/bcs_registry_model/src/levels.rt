@@ -1,11 +1,11 @@
-//! How deep formats nest.
+//! The nesting depth of formats.
 ghost use Rattle.std.specs.Prelude.{◌≡◌, nat_le};
 ghost use Rattle.bcs_registry_model.specs.View.{shape_of, formats_shapes};
 ghost use Rattle.bcs_registry_model.specs.WellFormed as spec;
 
 use crate::format::Format;
 
-/// The most levels that a format of a registry may have.
+/// The greatest number of levels that a format of a registry may have.
 const LEVEL_LIMIT: u32 = 32;
 
 pub fn has_few_levels(format: &Format) -> bool
@@ -14,7 +14,7 @@ pub fn has_few_levels(format: &Format) -> bool
     has_levels_within(format, LEVEL_LIMIT)
 }
 
-// Goes down no further than `limit` levels, so that no format is too deep for the stack.
+// Recurses at most `limit` levels, so no format can overflow the stack.
 #[cycle(levels)]
 fn has_levels_within(format: &Format, limit: u32) -> bool
     ensures { result ≡ nat_le (spec.levels (shape_of format.now)) limit }

@@ -1,4 +1,4 @@
-//! Formats and containers (serde-reflection), the numbers of variants, what is well-formed, and what growth is.
+//! Formats and containers (serde-reflection), variant numbers, which registries are well-formed, and growth.
 #![tactic(auto)]
 
 mod container;

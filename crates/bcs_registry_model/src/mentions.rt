@@ -1,21 +1,21 @@
-//! The names in formats.
+//! The container names that formats mention.
 
 use crate::{Container, Format, Named, VariantFormat};
 use std::alloc::{AllocError, Global};
 use std::collections::BTreeMap;
 
-/// Which names in formats are told.
+/// Which names to list.
 #[derive(Clone, Copy)]
 pub enum Mentions {
-    /// Each.
+    /// All names.
     All,
-    /// Those outside lists and maps. A list may be empty and has no most, so its sizes rest on no others.
+    /// Names outside lists and maps. A list can have any length, so its sizes don't depend on its elements.
     Unlisted,
-    /// Those outside options, lists and maps, without which there is no value.
+    /// Names outside options, lists and maps: every value contains a value of each.
     Needed,
 }
 
-/// The names in the container's formats, as they are read.
+/// The names in the formats of the container, from left to right.
 pub fn names_in<'a>(
     alloc: Global,
     container: &'a Container,
@@ -48,7 +48,7 @@ fn push_variant_names<'a>(
     Ok(())
 }
 
-/// Adds the names in the formats of fields.
+/// Appends the names in the formats of the fields.
 pub fn push_field_names<'a>(
     fields: &'a [Named<Format>],
     told: Mentions,
@@ -60,7 +60,7 @@ pub fn push_field_names<'a>(
     Ok(())
 }
 
-/// Adds the names in formats that stand in a row.
+/// Appends the names in each of the formats.
 #[cycle(mentions)]
 pub fn push_row_names<'a>(
     formats: &'a [Format],
@@ -73,7 +73,7 @@ pub fn push_row_names<'a>(
     Ok(())
 }
 
-/// Adds the names in the format.
+/// Appends the names in the format.
 #[cycle(mentions)]
 pub fn push_names<'a>(
     format: &'a Format,

@@ -1,4 +1,4 @@
-//! What has a name.
+//! Things with a name.
 
 /// A field with its format, or a variant with its payload.
 #[derive(Debug, Drop)]

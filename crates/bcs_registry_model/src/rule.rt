@@ -1,4 +1,4 @@
-//! The rules that each format of a registry keeps.
+//! The rules that all formats of a registry must meet.
 ghost use Rattle.std.specs.Prelude.{◌≡◌, map};
 ghost use Rattle.std.specs.List.{list_all, flat_map};
 ghost use Rattle.bcs_registry_model.specs.Rules.{keeps};
@@ -13,7 +13,7 @@ use crate::named::Named;
 use crate::variant_format::VariantFormat;
 use std::collections::BTreeMap;
 
-/// A rule that each format of a registry keeps.
+/// A rule that each format of a registry must meet.
 #[derive(Clone, Copy)]
 pub enum Rule {
     /// It has at most 32 levels.
@@ -22,7 +22,7 @@ pub enum Rule {
     KnownNames,
 }
 
-/// Whether every format of the containers keeps the rule.
+/// Whether every format in the containers meets the rule.
 #[tactic(auto, using(crate::proofs::Inside::row_rules))]
 pub fn all_keep(containers: &BTreeMap<String, Container>, rule: Rule) -> bool
     ensures { result ≡ list_all (keeps rule (entries_of containers.now.entries))

@@ -1,4 +1,4 @@
-//! Formats without parts, by what their values are.
+//! Formats without parts, by the kind of their values.
 use crate::integer_kind::IntegerKind;
 
 /// A format without parts.
@@ -12,7 +12,7 @@ pub enum Scalar {
     Bytes,
 }
 
-/// The words that are read in registries, though no value has them.
+/// The formats that are accepted in registries, but have no values.
 #[derive(Clone, Copy, PartialEq, Eq)]
 pub enum Unsupported {
     F32,

@@ -1,4 +1,4 @@
-//! The numbers of a registry's variants by name.
+//! The variant numbers of a registry, by name.
 ghost use Rattle.std.specs.Prelude.{◌≡◌, ℕ, List, IfOk, map};
 ghost use Rattle.std.specs.BTreeMap.{get_by_text};
 ghost use Rattle.bcs_registry_model.specs.Container.{enumeration, number_called};
@@ -11,14 +11,14 @@ use crate::variant_format::VariantFormat;
 use std::alloc::{AllocError, Global};
 use std::collections::BTreeMap;
 
-/// The numbers of variants, by the name of the enum and that of the variant. What is no enum has no entry.
+/// The numbers of variants, by the name of the enum and the name of the variant. Only enums have entries.
 #[derive(Drop)]
 pub struct VariantNumbers {
     by_enum: BTreeMap<String, BTreeMap<String, u32>>,
 }
 
 impl VariantNumbers {
-    /// The number that is kept under these two names, in time logarithmic in their numbers.
+    /// The number stored for these two names. Takes time logarithmic in the number of names.
     pub fn number(&self, container: &str, variant: &str) -> Option<u32>
         ensures { result ≡ number_found container.now variant.now self.now }
     {
@@ -26,7 +26,7 @@ impl VariantNumbers {
     }
 }
 
-/// The numbers of the variants of each enum among the containers. Fails only for want of memory.
+/// Collects the variant numbers of each enum. Fails only if memory runs out.
 pub fn numbers_by_name(
     alloc: Global,
     containers: &BTreeMap<String, Container>,
@@ -43,7 +43,7 @@ pub fn numbers_by_name(
     Ok(VariantNumbers { by_enum })
 }
 
-/// The numbers of an enum's variants by name. Of variants with one name the first counts.
+/// The variant numbers of an enum, by name. If variants share a name, the first one counts.
 fn numbers_of(
     alloc: Global,
     variants: &BTreeMap<u32, Named<VariantFormat>>,

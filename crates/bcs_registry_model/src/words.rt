@@ -1,4 +1,4 @@
-//! The words by which registries name formats without parts.
+//! The names of formats without parts, as registries write them.
 ghost use Rattle.std.specs.Prelude.{◌≡◌, option_map};
 ghost use Rattle.bcs_registry_model.specs.Kind.{scalar_shape};
 ghost use Rattle.bcs_registry_model.specs.View.{shape_of};
@@ -10,7 +10,7 @@ use crate::scalar::{Scalar, Unsupported};
 use bcs_num::Width;
 
 impl Scalar {
-    /// The word of the format.
+    /// The name of the format.
     #[tactic(auto, unfolding(crate::specs::Words::word_of))]
     pub fn word(self) -> &'static str
         ensures { result.now ≡ word_of (scalar_shape self) }
@@ -37,7 +37,7 @@ impl Scalar {
     }
 }
 
-/// The format of a word.
+/// The format with this name.
 pub fn word_format(word: &str) -> Option<Format>
     ensures { option_map shape_of result ≡ format_named word.now }
 {

@@ -9,7 +9,7 @@ use crate::bytes_answers::answer_given;
 use crate::pair_answers::answer_pair;
 use crate::text_places::{place_of_pair, place_of_refusal};
 use crate::validating::Asked;
-use bcs_json::{normalise, to_bcs};
+use bcs_json::{normalise_or_refusal, to_bcs_or_refusal};
 use bcs_tool_command_line::{Command, Work};
 use std::alloc::{AllocError, Global};
 
@@ -48,11 +48,11 @@ fn answer_encode(
     requires within { length text.now ≤ size_limit }
     ensures { IfOk result (λ a. IsAnswer work.now text.now a) }
 {
-    match to_bcs(alloc, &asked.registry, &asked.format, &work.limits, text) {
+    match to_bcs_or_refusal(alloc, &asked.registry, &asked.format, &work.limits, text) {
         Ok(bytes) => encoded(alloc, bytes, work.coding()),
-        Err(fault) => {
-            let place = place_of_refusal(alloc, work, asked, text, fault);
-            Ok(placed(refused_text(alloc, fault)?, place))
+        Err(refusal) => {
+            let place = place_of_refusal(alloc, work, asked, text, &refusal);
+            Ok(placed(refused_text(alloc, refusal.fault)?, place))
         }
     }
 }
@@ -69,11 +69,11 @@ fn answer_normalise(
     requires within { length text.now ≤ size_limit }
     ensures { IfOk result (λ a. IsAnswer work.now text.now a) }
 {
-    match normalise(alloc, &asked.registry, &asked.format, &work.limits, text) {
+    match normalise_or_refusal(alloc, &asked.registry, &asked.format, &work.limits, text) {
         Ok(normal) => shown(alloc, normal),
-        Err(fault) => {
-            let place = place_of_refusal(alloc, work, asked, text, fault);
-            Ok(placed(refused_text(alloc, fault)?, place))
+        Err(refusal) => {
+            let place = place_of_refusal(alloc, work, asked, text, &refusal);
+            Ok(placed(refused_text(alloc, refusal.fault)?, place))
         }
     }
 }

@@ -1,4 +1,4 @@
--- How many entries of a map differ: where one map is within another, and as many of both differ, the other is within the one.
+-- The number of distinct entries of a map: if one map is within another with the same number, each is within the other.
 use Rattle.bcs_value.proofs.Prelude.{◌≡◌, ℕ, List, length, suc, ◌≤◌, Bool, true, false, true≢false, cond, ◌&&◌, ◌||◌, refl, sym, ap, ◌∙◌, inl, inr, arith, cases_Bool, and_parts, and_from, or_cases, or_parts, or_left, or_right, Tree, Pairs, no_pairs, pair, pair_count, same, is_within, has_pair, all_pairs, has_repeated_entries, entries_pairs, Value, count_pairs, same-refl, same-sym, same-trans, covers}
 
 abbrev same_entry : Tree → Tree → Tree → Tree → Bool
@@ -16,7 +16,7 @@ same_entry-trans k v l w m x h g =
     let q = and_parts (same l m) (same w x) g in
     and_from _ _ (same-trans k l m p.0 q.0) (same-trans v w x p.1 q.1)
 
--- twins are had alike
+-- `has_pair` treats equal entries alike
 had : (ps : Pairs) (k v l w : Tree) → same_entry k v l w ≡ true → has_pair ps k v ≡ true → has_pair ps l w ≡ true
 had no_pairs k v l w t h = h
 had (pair m x ps) k v l w t h = elim (or_cases (same m k && same x v) (has_pair ps k v) h) [
@@ -30,12 +30,12 @@ had_not ps k v l w t h = elim (has_pair ps l w) as (λ b. has_pair ps l w ≡ b 
   | false ↦ λ is. refl
 ] refl
 
--- how many entries differ: each, but for those of which the same stands later
+-- the number of distinct entries: those with no equal entry after them
 abbrev classes : Pairs → ℕ
 classes no_pairs = 0
 classes (pair k v ps) = cond (has_pair ps k v) (classes ps) (suc (classes ps))
 
--- the map without an entry's twins
+-- the map without the entries equal to this one
 abbrev without : Tree → Tree → Pairs → Pairs
 without k v no_pairs = no_pairs
 without k v (pair l w qs) = cond (same_entry k v l w) (without k v qs) (pair l w (without k v qs))
@@ -58,7 +58,7 @@ without-same_entry k v l w qs h = ap (λ b. cond b (without k v qs) (pair l w (w
 without-other : (k v l w : Tree) (qs : Pairs) → same_entry k v l w ≡ false → without k v (pair l w qs) ≡ pair l w (without k v qs)
 without-other k v l w qs h = ap (λ b. cond b (without k v qs) (pair l w (without k v qs))) h
 
--- what is no twin stays
+-- other entries remain
 kept : (qs : Pairs) (k v l w : Tree) → same_entry k v l w ≡ false → has_pair (without k v qs) l w ≡ has_pair qs l w
 kept no_pairs k v l w n = refl
 kept (pair m x qs) k v l w n = elim (cases_Bool (same_entry k v m x)) [
@@ -77,7 +77,7 @@ unchanged (pair m x qs) k v h =
     let p = or_parts (same_entry m x k v) (has_pair qs k v) h in
     without-other k v m x qs (not-same_entry m x k v p.0) ∙ ap (pair m x) (unchanged qs k v p.1)
 
--- an entry's twins are one class
+-- all entries equal to one count once
 counted : (qs : Pairs) (k v : Tree) → has_pair qs k v ≡ true → classes qs ≡ suc (classes (without k v qs))
 counted no_pairs k v h = absurd (true≢false (sym h))
 counted (pair m x qs) k v h = elim (cases_Bool (same_entry k v m x)) [
@@ -154,7 +154,7 @@ all_differ (pair k v ps) h =
     let p = or_parts (has_pair ps k v) (has_repeated_entries ps) h in
     classes-new k v ps p.0 ∙ ap suc (all_differ ps p.1)
 
--- a map without twins that is within another with no more entries
+-- a map without repeated entries that is within another one of the same length
 pub within_full : (xs ys : List (Value × Value)) → length xs ≡ length ys → has_repeated_entries (entries_pairs xs) ≡ false → is_within (entries_pairs xs) (entries_pairs ys) ≡ true
     → all_pairs (has_pair (entries_pairs xs)) (entries_pairs ys) ≡ true
 within_full xs ys e n h =

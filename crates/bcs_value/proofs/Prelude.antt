@@ -1,4 +1,4 @@
--- What the proofs use of other crates, and of this crate's definitions.
+-- What the proofs use from other crates, and from this crate's definitions.
 pub use Rattle.std.proofs.Common.{[], ap, arith, Bool, cond, drop, false, get_or, Global, inl, inr, length, List, map, max, min, refl, rules, subst, suc, sym, true, true≢false, Vec, ℕ, ◌&&◌, ◌+◌, ◌<◌, ◌||◌, ◌∙◌, ◌∷◌, ◌≡◌, ◌≤◌}
 pub use Rattle.std.proofs.lemmas.Bool.{and_from, and_parts, and_right, cases_Bool, or_cases, or_left, or_parts, or_right}
 pub use Rattle.std.proofs.lemmas.List.{at_drop_all, drop_more}

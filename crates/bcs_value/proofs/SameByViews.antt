@@ -1,4 +1,4 @@
--- What `same` needs of the views: lists of unlike length, and pairs one after another.
+-- Lemmas about `same` in terms of the trees of values: lists of different length, and pairs one after another.
 use Rattle.bcs_value.proofs.Prelude.{◌≡◌, ℕ, ◌+◌, ◌<◌, List, [], ◌∷◌, length, drop, get_or, Vec, Global, true, false, ◌&&◌, refl, ap, ◌∙◌, subst, arith, and_right, drop_more, same, all_same, any_pair, all_pairs, is_within, has_pair, tree_of, items_trees, entries_pairs, Value, tree_of_pairs}
 use Rattle.bcs_value_model.specs.declared.value.Value.{Pairs}
 

@@ -1,4 +1,4 @@
--- Maps in which an entry stands twice.
+-- Maps in which an entry occurs twice.
 use Rattle.std.specs.Prelude.{Bool, false, ◌||◌}
 use Rattle.bcs_value_model.specs.Tree.{Pairs, no_pairs, pair}
 use Rattle.bcs_value_model.specs.Same.{has_pair}

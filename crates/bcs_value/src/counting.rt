@@ -1,11 +1,11 @@
-//! How many shapes a value has.
+//! The number of nodes of a value.
 ghost use Rattle.std.specs.Prelude.{◌≡◌, ◌+◌, min};
 ghost use Rattle.bcs_value_model.specs.Tree as spec;
 ghost use Rattle.bcs_value_model.specs.View.{entries_pairs, items_trees, tree_of};
 
 use bcs_value_model::Value;
 
-/// How many shapes the value has, itself included, or 18446744073709551615 where they are more.
+/// The number of nodes: the value itself and all values inside it, at most 18446744073709551615.
 #[cycle(nodes)]
 pub fn nodes(value: &Value) -> u64
     ensures { result ≡ min (spec.nodes (tree_of value.now)) 18446744073709551615 }

@@ -1,4 +1,4 @@
-//! Whether a value is one of a format.
+//! Checks whether a value fits a format.
 ghost use Rattle.std.specs.Prelude.{◌≡◌, false, true, map};
 ghost use Rattle.bcs_registry_model.specs.Container.{Entries, of, content, field_shapes, payload_shape};
 ghost use Rattle.bcs_registry_model.specs.Shape.{array};
@@ -11,22 +11,22 @@ use bcs_registry::{Container, Format, Named, Registry, VariantFormat};
 use bcs_registry_model::{IntegerKind, Kind, Scalar};
 use bcs_value_model::Value;
 
-/// Whether the value is one of the format: each part in its place, each number in its range, and as many parts as the
-/// format says. No value is one of `F32`, `F64` or `CHAR`.
+/// Whether the value fits the format: its parts are of the right kind and number, and its integers are in range. No
+/// value fits `F32`, `F64` or `CHAR`.
 pub fn has_format(registry: &Registry, format: &Format, value: &Value) -> bool
     ensures { result ≡ spec.fits false registry.now (tree_of value.now) (of (shape_of format.now)) }
 {
     fits(value, registry, format, false)
 }
 
-/// Whether the value would be one of the format, if every value stood at `F32`, `F64` and `CHAR`.
+/// Whether the value would fit the format if every value fitted `F32`, `F64` and `CHAR`.
 pub fn fits_loosely(registry: &Registry, format: &Format, value: &Value) -> bool
     ensures { result ≡ spec.fits true registry.now (tree_of value.now) (of (shape_of format.now)) }
 {
     fits(value, registry, format, true)
 }
 
-/// Whether the value is one of the format. Where `loose`, any value stands at `F32`, `F64` and `CHAR`.
+/// Whether the value fits the format. If `loose`, every value fits `F32`, `F64` and `CHAR`.
 #[cycle(fits)]
 fn fits(value: &Value, registry: &Registry, format: &Format, loose: bool) -> bool
     ensures { result ≡ spec.fits loose registry.now (tree_of value.now) (of (shape_of format.now)) }
@@ -57,7 +57,7 @@ fn fits(value: &Value, registry: &Registry, format: &Format, loose: bool) -> boo
     }
 }
 
-/// Whether an unsigned number is one of the format, whichever it is.
+/// Whether an unsigned integer fits the format.
 #[inline(always)]
 fn unsigned_fits(number: &u128, format: &Format, loose: bool) -> bool
     ensures { (r : Entries) → result ≡ spec.fits loose r (unsigned number.now) (of (shape_of format.now)) }
@@ -81,7 +81,7 @@ fn unsigned_fits(number: &u128, format: &Format, loose: bool) -> bool
     }
 }
 
-/// The same of a signed number.
+/// Whether a signed integer fits the format.
 #[inline(always)]
 fn signed_fits(number: &i128, format: &Format, loose: bool) -> bool
     ensures { (r : Entries) → result ≡ spec.fits loose r (signed number.now) (of (shape_of format.now)) }
@@ -105,7 +105,7 @@ fn signed_fits(number: &i128, format: &Format, loose: bool) -> bool
     }
 }
 
-/// Whether these are bytes, as each `u8` is one.
+/// Always true: each `u8` is a byte. The contract states that for the definition of `fits`.
 fn are_bytes(bytes: &[u8]) -> bool
     ensures { result ≡ spec.are_bytes bytes.now }
 {

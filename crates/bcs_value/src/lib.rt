@@ -1,4 +1,4 @@
-//! Value trees: what bytes and texts stand for.
+//! Value trees: what BCS bytes and JSON documents represent.
 #![tactic(auto)]
 
 mod counting;

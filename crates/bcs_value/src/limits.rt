@@ -1,12 +1,12 @@
-//! How much a value may hold.
+//! Limits on the size of a value.
 ghost use Rattle.std.specs.Prelude.{◌≡◌, ◌≤◌, ◌<◌, ◌↔◌, None, IfSome};
 
 use std::marker::Model;
 
-/// The most containers that may be open at once, whatever the limits.
+/// The greatest depth that `Limits` allow.
 const DEPTH_LIMIT: u32 = 500;
 
-/// How many containers may be open at once, and how many nodes a value may have. The depth is at most 500.
+/// The greatest number of containers open at once (depth, at most 500), and the greatest number of nodes of a value.
 #[derive(Clone, Copy, Debug)]
 pub struct Limits {
     depth: u32,
@@ -27,7 +27,7 @@ impl Model for Limits {
 }
 
 impl Limits {
-    /// These limits. None exactly where the depth is above 500.
+    /// Creates limits. Returns `None` exactly if `depth` is above 500.
     pub fn new(depth: u32, nodes: u32) -> Option<Limits>
         ensures some { IfSome result (λ l. (l.depth ≡ depth) × (l.nodes ≡ nodes)) }
         ensures none { result ≡ None ↔ 500 < depth }
@@ -39,7 +39,7 @@ impl Limits {
         }
     }
 
-    /// 500 open containers, and 4294967295 nodes.
+    /// The standard limits: 500 open containers, and 4294967295 nodes.
     pub const fn standard() -> Limits
         ensures depth { result.depth ≡ 500 }
         ensures nodes { result.nodes ≡ 4294967295 }
@@ -50,7 +50,7 @@ impl Limits {
         }
     }
 
-    /// The most containers that may be open at once.
+    /// The greatest number of containers that may be open at once.
     pub fn depth(&self) -> u32
         ensures is { result ≡ self.now.depth }
         ensures bound { self.now.depth ≤ 500 }
@@ -58,7 +58,7 @@ impl Limits {
         self.depth
     }
 
-    /// The most nodes.
+    /// The greatest number of nodes.
     pub fn nodes(&self) -> u32
         ensures is { result ≡ self.now.nodes }
     {

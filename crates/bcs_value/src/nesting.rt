@@ -1,11 +1,11 @@
-//! How deep containers stand in one another.
+//! How deep containers nest.
 ghost use Rattle.std.specs.Prelude.{◌≡◌, min};
 ghost use Rattle.bcs_value_model.specs.Tree as spec;
 ghost use Rattle.bcs_value_model.specs.View.{entries_pairs, items_trees, tree_of};
 
 use bcs_value_model::Value;
 
-/// The greatest number of `Named` on one way down, or 18446744073709551615 where it is greater.
+/// The greatest number of `Named` on a path from the root, at most 18446744073709551615.
 #[cycle(depth)]
 pub fn depth(value: &Value) -> u64
     ensures { result ≡ min (spec.depth (tree_of value.now)) 18446744073709551615 }

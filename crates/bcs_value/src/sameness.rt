@@ -1,4 +1,4 @@
-//! Whether two values are the same, a map being a finite map.
+//! Whether two values are equal, up to the order of map entries.
 ghost use Rattle.std.specs.Prelude.{◌≡◌, ◌&&◌, drop};
 ghost use Rattle.bcs_value_model.specs.Same as spec;
 ghost use Rattle.bcs_value.specs.RepeatedEntries.{has_repeated_entries as spec_repeated};
@@ -6,9 +6,11 @@ ghost use Rattle.bcs_value_model.specs.View.{entries_pairs, items_trees, tree_of
 
 use bcs_value_model::Value;
 
-/// Whether the values are equal shape by shape, but for maps: there each entry of either has one in the other with the
-/// same key and the same value, in whatever order they stand. It compares every entry with every other, so its time
-/// grows with the square of a map's length: it says what sameness means, and canonical bytes tell it fast.
+/// Whether the values are equal. Maps are equal if each entry of either has an entry with the same key and the same
+/// value in the other, in any order.
+///
+/// This defines sameness without encoding anything. It compares all entries with each other, which takes time quadratic
+/// in the length of a map; comparing canonical bytes is faster.
 #[cycle(same)]
 pub fn same(a: &Value, b: &Value) -> bool
     ensures { result ≡ spec.same (tree_of a.now) (tree_of b.now) }
@@ -54,8 +56,8 @@ fn same_pairs(xs: &[(Value, Value)], ys: &[(Value, Value)]) -> bool
             return false;
         }
     }
-    // Then each entry of the other has one here too. To compare them again would double the work at each level of maps
-    // in maps.
+    // If `xs` has no repeated entries and the lengths are equal, each entry of `ys` is in `xs` too. Comparing them
+    // again would double the work at each level of nested maps.
     if xs.len() == ys.len() && !has_repeated_entries(xs) {
         return true;
     }
@@ -67,7 +69,7 @@ fn same_pairs(xs: &[(Value, Value)], ys: &[(Value, Value)]) -> bool
     true
 }
 
-// Whether an entry stands twice.
+// Whether an entry occurs twice.
 #[cycle(same)]
 fn has_repeated_entries(pairs: &[(Value, Value)]) -> bool
     ensures { result ≡ spec_repeated (entries_pairs pairs.now) }
@@ -92,7 +94,7 @@ fn is_among(pair: &(Value, Value), pairs: &[(Value, Value)]) -> bool
     false
 }
 
-// Whether one of the pairs from a place on has this key and this value.
+// Whether one of the pairs from index `from` on has this key and this value.
 #[cycle(same)]
 fn has_pair(pairs: &[(Value, Value)], from: usize, key: &Value, value: &Value) -> bool
     ensures { result ≡ spec.has_pair (entries_pairs (drop from pairs.now)) (tree_of key.now) (tree_of value.now) }

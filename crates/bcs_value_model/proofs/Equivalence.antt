@@ -1,4 +1,4 @@
--- `same` is an equivalence.
+-- `same` is an equivalence relation.
 use Rattle.bcs_value_model.proofs.Prelude.{◌≡◌, ℕ, List, Bool, true, false, ◌&&◌, ◌||◌, ◌==◌, ℤ, refl, sym, ap, ◌∙◌, rules, inl, inr, bytes_eq, int_eq, comparing, false≢true, and_parts, and_from, or_cases, or_left, or_right, eqb-true, eq-eqb, Tree, unit, truth, unsigned, signed, text, bytes, absent, present, items, variant, pairs, named, Trees, no_trees, tree, Pairs, no_pairs, pair, same, all_same, is_within, has_pair, any_pair, all_pairs, both}
 
 nat-refl : (m : ℕ) → (m == m) ≡ true
@@ -61,9 +61,9 @@ both_ways true b f g = sym (f refl)
 both_ways false true f g = g refl
 both_ways false false f g = refl
 
--- ---- same-refl
+-- ---- reflexivity
 
--- where each test that one of the first pairs passes is passed by one of the others
+-- for maps: ps is within qs if every test that holds for some pair of ps also holds for some pair of qs
 mutual
   pub same-refl : (a : Tree) → same a a ≡ true
   same-refl unit = refl
@@ -95,7 +95,7 @@ mutual
 
 -- ---- symmetry
 
--- one pair among others, looked at from either side
+-- comparing an entry with each of the others gives the same result from either side
 among : (k v : Tree) → ((l : Tree) → same k l ≡ same l k) → ((w : Tree) → same v w ≡ same w v) → (qs : Pairs) → any_pair (λ l w. same k l && same v w) qs ≡ has_pair qs k v
 among k v h g no_pairs = refl
 among k v h g (pair l w qs) = or₂ _ _ _ _ (and₂ _ _ _ _ (h l) (g w)) (among k v h g qs)
@@ -135,17 +135,17 @@ mutual
   flip no_pairs l w = refl
   flip (pair k v ps) l w = or₂ _ _ _ _ (and₂ _ _ _ _ (same-sym k l) (same-sym v w)) (flip ps l w)
 
--- each of the first pairs is had by the second map
+-- `is_within` in terms of `has_pair`
 pub covers : (ps qs : Pairs) → all_pairs (has_pair qs) ps ≡ is_within ps qs
 covers ps qs = covered qs (λ l w. flip qs l w) ps
 
--- so a map is the same as another if each is within the other
+-- so two maps are the same if each is within the other
 pub within-both : (ps qs : Pairs) → same (pairs ps) (pairs qs) ≡ (is_within ps qs && is_within qs ps)
 within-both ps qs = and₂ _ _ _ _ refl (covered ps (λ l w. flip ps l w) qs)
 
 -- ---- transitivity
 
--- what passes for one pair passes for the next map's
+-- a test that holds for an entry carries over to the next map
 carried : (test next : Tree → Tree → Bool) (qs rs : Pairs)
     → ((l w : Tree) → test l w ≡ true → (m x : Tree) → (same l m && same w x) ≡ true → next m x ≡ true)
     → is_within qs rs ≡ true → any_pair test qs ≡ true → any_pair next rs ≡ true
@@ -161,7 +161,7 @@ carried test next (pair l w qs) rs step h g =
     found no_pairs e to = absurd cc
     found (pair m x rs) e to = elim (or_cases (same l m && same w x) _ e) [ inl one ↦ or_left _ _ (to m x one) | inr more ↦ or_right _ _ (found rs more to) ]
 
--- and back: each of the last map's pairs is had by the first
+-- and back: each entry of the last map is in the first
 carried_back : (ps qs : Pairs)
     → ((l w m x : Tree) → has_pair ps l w ≡ true → (same l m && same w x) ≡ true → has_pair ps m x ≡ true)
     → all_pairs (has_pair ps) qs ≡ true → (rs : Pairs) → all_pairs (has_pair qs) rs ≡ true → all_pairs (has_pair ps) rs ≡ true

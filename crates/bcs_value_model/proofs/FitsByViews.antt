@@ -1,4 +1,4 @@
--- What `fits` needs of the views.
+-- Lemmas about `fits` in terms of the trees of values.
 use Rattle.bcs_value_model.proofs.Prelude.{◌≡◌, ℕ, suc, ◌^◌, ◌<◌, nat_lt, List, [], ◌∷◌, length, map, Vec, BTreeMap, get_or, Global, Option, Some, None, Box, Bor, Bool, true, false, ◌&&◌, String, refl, sym, ap, ◌∙◌, arith, and_from, and_right, lt-ltb, IsUtf8-string_bytes, is_utf8-from_IsUtf8, nat_cmp, lookup, option_copied, is_at, Entries, of, nothing, content, payload_shape, field_shapes, Unsupported, unsupported, shape_of, formats_shapes, field_of, payload_of, container_of, Named, Format, Str, Bytes, Map, VariantFormat, Enum, shape-Bytes, shape-Str, Tree, fits, each_fits, pairs_fit, are_bytes, tree_of, items_trees, entries_pairs, Value, Text, Variant}
 use Rattle.bcs_registry_model.specs.declared.container.Container as declared
 use Rattle.bcs_value_model.specs.Tree as tree

@@ -1,17 +1,17 @@
--- What fits at a registry fits at one that it grew to.
+-- A value that fits still fits when the registry grows.
 use Rattle.bcs_value_model.proofs.Prelude.{◌≡◌, ℕ, Bool, true, ◌&&◌, ◌==◌, ◌^◌, nat_lt, List, refl, sym, subst, ◌∙◌, false≢true, and_parts, and_from, Shape, Shapes, no_shapes, shape, Entries, Choice, Content, of, one_of, nothing, content_at, choice_at, Grows, StaysIn, HasChoices, content_at-grows, choice_at-grows, Tree, Trees, no_trees, tree, Pairs, no_pairs, pair, count, fits, all_fit, each_fits, pairs_fit, GrowthKeepsFitting}
 use Rattle.bcs_registry_model.specs.Shape as shape
 use Rattle.bcs_value_model.specs.Tree as tree
 use Rattle.bcs_value_model.proofs.FitsByViews.{fits-nothing, fits-unsupported}
 
 module _ (loose : Bool) (r : Entries) where
-  -- the format that stays is the one that stood there
+  -- the format of a content that stays is the same
   stays : (t : Tree) (s : Shape) (d : Content) → StaysIn (of s) d → fits loose r t (of s) ≡ true → fits loose r t d ≡ true
   stays t s (of u) e h = subst (λ (x : Shape). fits loose r t (of x) ≡ true) e h
   stays t s (one_of ds) e h = absurd e
   stays t s nothing e h = absurd e
 
-  -- and so it is with the variants
+  -- the same for variants
   choices_stay : (n : ℕ) (t : Tree) (cs : List Choice) (d : Content) → StaysIn (one_of cs) d → ((ds : List Choice) → HasChoices cs ds → fits loose r (tree.variant n t) (one_of ds) ≡ true) → fits loose r (tree.variant n t) d ≡ true
   choices_stay n t cs (one_of ds) e h = h ds e
   choices_stay n t cs (of u) e h = absurd e

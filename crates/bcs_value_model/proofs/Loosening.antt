@@ -1,4 +1,4 @@
--- What fits strictly fits loosely.
+-- A value that fits strictly also fits loosely.
 use Rattle.bcs_value_model.proofs.Prelude.{◌≡◌, true, false, ◌&&◌, ◌==◌, ◌^◌, nat_lt, false≢true, and_parts, and_from, Shape, Shapes, no_shapes, shape, Entries, Content, of, one_of, content_at, choice_at, Tree, Trees, no_trees, tree, Pairs, no_pairs, pair, count, fits, all_fit, each_fits, pairs_fit, FitsStrictlyThenLoosely}
 use Rattle.bcs_registry_model.specs.Shape as shape
 use Rattle.bcs_value_model.specs.Tree as tree

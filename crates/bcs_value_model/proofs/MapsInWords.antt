@@ -1,4 +1,4 @@
--- Sameness of maps, and distinct keys, in words.
+-- Sameness of maps and distinct keys, stated in terms of entries.
 use Rattle.bcs_value_model.proofs.Prelude.{◌≡◌, ℕ, zero, suc, Some, Bool, true, false, true≢false, not, ◌&&◌, refl, sym, ap, subst, ◌∙◌, inl, inr, and_parts, and_from, or_cases, or_left, or_right, Tree, Pairs, no_pairs, pair, same, distinct, pairs_distinct, is_within, any_pair, all_pairs, Same, IsEntry, EachHasMatch, key_at, KeysDiffer, PartsHaveDistinctKeys, SameMaps, MapsWithDistinctKeys}
 use Rattle.bcs_value_model.proofs.Equivalence.{same-sym, within-both}
 

@@ -1,4 +1,4 @@
--- What the proofs use of other crates, and of this crate's definitions.
+-- What the proofs use from other crates, and from this crate's definitions.
 pub use Rattle.std.proofs.Common.{[], ap, arith, Bool, Bor, Box, BTreeMap, false, get_or, Global, inl, inr, length, List, map, nat_lt, None, not, Option, option_map, refl, rules, Some, String, string_bytes, subst, suc, sym, take, true, true≢false, Vec, zero, ℕ, ℤ, ◌&&◌, ◌<◌, ◌==◌, ◌^◌, ◌||◌, ◌∙◌, ◌∷◌, ◌≡◌}
 pub use Rattle.std.proofs.lemmas.Bool.{and_from, and_parts, and_right, eq-eqb, eqb-true, false≢true, lt-ltb, ltb-true, or_cases, or_left, or_right}
 pub use Rattle.std.proofs.lemmas.List.Elements.{same_from_all_zip}

@@ -1,4 +1,4 @@
--- Trees that are the same have the same formats.
+-- Trees that are the same fit the same formats.
 use Rattle.bcs_value_model.proofs.Prelude.{◌≡◌, suc, Bool, true, ◌&&◌, ◌==◌, ◌^◌, nat_lt, refl, sym, ap, ◌∙◌, inl, inr, false≢true, and_parts, and_from, or_cases, Shape, Shapes, no_shapes, shape, Entries, Content, of, one_of, content_at, choice_at, Tree, Trees, no_trees, tree, Pairs, no_pairs, pair, count, same, all_same, is_within, has_pair, any_pair, all_pairs, fits, all_fit, each_fits, pairs_fit, SameHaveSameFormats}
 use Rattle.bcs_registry_model.specs.Shape as shape
 use Rattle.bcs_value_model.specs.Tree as tree
@@ -11,7 +11,7 @@ same_count no_trees (tree u us) h = absurd cc
 same_count (tree t ts) no_trees h = absurd cc
 
 module _ (loose : Bool) (r : Entries) where
-  -- each entry of the second map has one in the first, so it fits where they fit
+  -- each entry of the second map is in the first, so it fits if the first map fits
   second_fits : (k v : Shape) (ps qs : Pairs) → ((l w : Tree) → has_pair ps l w ≡ true → (fits loose r l (of k) && fits loose r w (of v)) ≡ true)
       → all_pairs (has_pair ps) qs ≡ true → pairs_fit loose r qs k v ≡ true
   second_fits k v ps no_pairs had h = refl
@@ -19,7 +19,7 @@ module _ (loose : Bool) (r : Entries) where
       let p = and_parts (has_pair ps l w) (all_pairs (has_pair ps) qs) h in
       and_from _ _ (had l w p.0) (second_fits k v ps qs had p.1)
 
-  -- an entry that has one in a map that fits
+  -- an entry that has a match in a map that fits
   match_fits : (k v : Shape) (l w : Tree) → ((m : Tree) → same l m ≡ true → fits loose r l (of k) ≡ fits loose r m (of k)) → ((x : Tree) → same w x ≡ true → fits loose r w (of v) ≡ fits loose r x (of v))
       → (qs : Pairs) → any_pair (λ m x. same l m && same w x) qs ≡ true → pairs_fit loose r qs k v ≡ true → (fits loose r l (of k) && fits loose r w (of v)) ≡ true
   match_fits k v l w f g no_pairs a h = absurd cc

@@ -1,4 +1,4 @@
--- What it takes that a variant fits.
+-- What it means that a variant fits.
 use Rattle.bcs_value_model.proofs.Prelude.{◌≡◌, ℕ, ◌<◌, ◌^◌, nat_lt, Bool, true, List, and_parts, ltb-true, Entries, Choice, one_of, choice_at, Tree, variant, fits}
 
 module _ (loose : Bool) (r : Entries) (n : ℕ) (t : Tree) (cs : List Choice) (h : fits loose r (variant n t) (one_of cs) ≡ true) where

@@ -1,4 +1,4 @@
--- What a value is seen as, shape by shape.
+-- The tree of each kind of value.
 use Rattle.bcs_value_model.proofs.Prelude.{◌≡◌, ℕ, ℤ, String, string_bytes, Vec, Box, Global, rules, unsigned, signed, text, bytes, present, items, variant, pairs, tree_of, items_trees, entries_pairs, Value, Unsigned, Signed, Text, Present, Items, Variant, the_lemmas}
 use Rattle.bcs_value_model.specs.declared.value.Value.{Bytes, Pairs}
 

@@ -9,11 +9,11 @@ use Rattle.bcs_registry_model.specs.Container.{Entries, Content, of, one_of, con
 use Rattle.bcs_value_model.specs.Tree as tree
 use Rattle.bcs_value_model.specs.Tree.{Tree, Trees, no_trees, tree, Pairs, no_pairs, pair, count}
 
--- each number is a byte's
+-- each number is a byte
 abbrev pub are_bytes : List ℕ → Bool
 are_bytes = list_all (λ b. nat_lt b 256)
 
--- `loose` lets every value stand at `F32`, `F64` and `CHAR`, at which else none stands
+-- if loose, every value fits F32, F64 and CHAR; otherwise none does
 module _ (loose : Bool) (registry : Entries) where
   abbrev mutual
     pub fits : Tree → Content → Bool
@@ -34,12 +34,12 @@ module _ (loose : Bool) (registry : Entries) where
     fits (tree.variant n t) (one_of cs) = nat_lt n (2 ^ 32) && fits t (choice_at n cs)
     fits _ _ = false
 
-    -- each tree has the one format
+    -- each tree fits the same format
     pub all_fit : Trees → Shape → Bool
     all_fit no_trees s = true
     all_fit (tree t ts) s = fits t (of s) && all_fit ts s
 
-    -- as many trees as formats, each with its own
+    -- there are as many trees as formats, and each fits its own
     pub each_fits : Trees → Shapes → Bool
     each_fits no_trees no_shapes = true
     each_fits (tree t ts) (shape s ss) = fits t (of s) && each_fits ts ss
@@ -54,6 +54,6 @@ module _ (loose : Bool) (registry : Entries) where
 abbrev pub Fits : Entries → Shape → Tree → Type 0
 Fits registry s t = IsTrue (fits false registry t (of s))
 
--- it would be, if every value stood at `F32`, `F64` and `CHAR`
+-- t would be a value of the format if every value fitted F32, F64 and CHAR
 abbrev pub FitsLoosely : Entries → Shape → Tree → Type 0
 FitsLoosely registry s t = IsTrue (fits true registry t (of s))

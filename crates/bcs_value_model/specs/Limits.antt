@@ -1,8 +1,8 @@
--- What a value may hold.
+-- Limits on the size of a value.
 use Rattle.std.specs.Prelude.{ℕ}
 
 pub record Bounds : Type 0 where
-  -- the most containers that are open at once
+  -- the greatest number of containers open at once
   pub depth : ℕ
-  -- the most nodes
+  -- the greatest number of nodes
   pub nodes : ℕ

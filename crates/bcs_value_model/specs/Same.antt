@@ -1,15 +1,15 @@
--- Trees that are the same value, a map being a finite map, and trees in whose maps the keys differ.
+-- Equality of values, where maps are finite maps (the order of entries doesn't matter); and distinct keys.
 use Rattle.std.specs.Prelude.{Bool, true, false, not, ◌&&◌, ◌||◌, ◌==◌, IsTrue}
 use Rattle.std.specs.Ordering.{int_eq}
 use Rattle.std.specs.Str.{bytes_eq}
 use Rattle.bcs_value_model.specs.Tree.{Tree, unit, truth, unsigned, signed, text, bytes, absent, present, items, variant, pairs, named, Trees, no_trees, tree, Pairs, no_pairs, pair}
 
--- some pair passes
+-- the test holds for some pair
 abbrev pub any_pair : (Tree → Tree → Bool) → Pairs → Bool
 any_pair test no_pairs = false
 any_pair test (pair k v ps) = test k v || any_pair test ps
 
--- each pair passes
+-- the test holds for each pair
 abbrev pub all_pairs : (Tree → Tree → Bool) → Pairs → Bool
 all_pairs test no_pairs = true
 all_pairs test (pair k v ps) = test k v && all_pairs test ps
@@ -41,7 +41,7 @@ abbrev mutual
   all_same no_trees (tree u us) = false
   all_same (tree t ts) no_trees = false
 
-  -- each of the first pairs is among the second
+  -- each pair of the first map is in the second
   pub is_within : Pairs → Pairs → Bool
   is_within no_pairs qs = true
   is_within (pair k v ps) qs = any_pair (λ l w. same k l && same v w) qs && is_within ps qs
@@ -68,10 +68,10 @@ abbrev mutual
   pairs_distinct no_pairs = true
   pairs_distinct (pair k v ps) = (distinct k && distinct v) && (all_pairs (λ l w. not (same k l)) ps && pairs_distinct ps)
 
--- equal, maps being finite maps
+-- the values are equal, up to the order of map entries
 abbrev pub Same : Tree → Tree → Type 0
 Same a b = IsTrue (same a b)
 
--- in no map are the keys of two entries `Same`
+-- no map has two entries whose keys are `Same`
 abbrev pub HasDistinctKeys : Tree → Type 0
 HasDistinctKeys t = IsTrue (distinct t)

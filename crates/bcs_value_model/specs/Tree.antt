@@ -1,4 +1,4 @@
--- Value trees, without what memory a `Value` holds.
+-- Values as trees, without the memory layout of `Value`.
 use Rattle.std.specs.Prelude.{ℕ, suc, max, ◌+◌, ℤ, List, Bool}
 
 mutual
@@ -14,7 +14,7 @@ mutual
     items : Trees → Tree
     variant : ℕ → Tree → Tree
     pairs : Pairs → Tree
-    -- a container's value
+    -- the value of a container
     named : Tree → Tree
 
   pub data Trees : Type 0 where
@@ -33,7 +33,7 @@ abbrev pub pair_count : Pairs → ℕ
 pair_count no_pairs = 0
 pair_count (pair k v ps) = suc (pair_count ps)
 
--- the greatest number of `named` on one way down
+-- the greatest number of `named` on a path from the root
 abbrev mutual
   pub depth : Tree → ℕ
   depth unit = 0
@@ -57,7 +57,7 @@ abbrev mutual
   pairs_depth no_pairs = 0
   pairs_depth (pair k v ps) = max (max (depth k) (depth v)) (pairs_depth ps)
 
--- how many shapes a tree has, itself included
+-- the number of nodes: the tree itself and all trees inside it
 abbrev mutual
   pub nodes : Tree → ℕ
   nodes (present t) = suc (nodes t)

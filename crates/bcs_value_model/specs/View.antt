@@ -1,4 +1,4 @@
--- What a `Value` stands for.
+-- The tree that a `Value` represents.
 use Rattle.std.specs.Prelude.{List, [], ◌∷◌, map, string_bytes}
 use Rattle.bcs_value_model.specs.Tree as tree
 use Rattle.bcs_value_model.specs.Tree.{Tree, Trees, Pairs}
@@ -13,7 +13,7 @@ abbrev pub pairs_of : List (Tree × Tree) → Pairs
 pairs_of [] = tree.no_pairs
 pairs_of (p ∷ ps) = tree.pair p.0 p.1 (pairs_of ps)
 
--- one level, with each value inside already seen as its tree
+-- one level, where each inner value has already been replaced with its tree
 abbrev pub tree_step : Value-F Tree → Tree
 tree_step Value-F.Unit = tree.unit
 tree_step (Value-F.Bool b) = tree.truth b

@@ -1,4 +1,4 @@
-//! Copies of values.
+//! Copies values.
 ghost use Rattle.std.specs.Prelude.{◌≡◌, IfOk, OnOk, string_bytes};
 ghost use Rattle.bcs_value_model.specs.Tree.{bytes as bytes_tree, items as items_tree, pairs as pairs_tree, text as text_tree};
 ghost use Rattle.bcs_value_model.specs.View.{entries_pairs, items_trees, tree_of};
@@ -8,7 +8,7 @@ use crate::value::Value;
 use std::alloc::{AllocError, Global};
 
 impl Value {
-    /// An equal value. The memory of a list or of a map is asked for once, by its length.
+    /// Returns an equal value. Each list and map is allocated once, at its full length.
     pub fn copy(&self, alloc: Global) -> Result<Value, AllocError>
         ensures { IfOk result (λ v. tree_of v ≡ tree_of self.now) }
     {
@@ -18,7 +18,7 @@ impl Value {
     }
 }
 
-// A copy is made in the caller's slot, so that a level of a deep value needs little of the stack.
+// The copy is built in the caller's slot, which keeps stack frames small for deep values.
 #[cycle(copy)]
 fn copy_to(value: &Value, slot: &mut Value, alloc: Global) -> Result<(), AllocError>
     ensures { OnOk result (tree_of slot.new ≡ tree_of value.now) }

@@ -1,4 +1,4 @@
-//! Values, the slots in which they are built, copies, and what holds of sameness, distinct keys and fitting.
+//! Values, copies of them, the slots in which they are built, and laws about sameness, distinct keys and fitting.
 #![tactic(auto)]
 
 mod copying;

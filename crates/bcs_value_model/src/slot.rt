@@ -1,6 +1,5 @@
-//! Slots. A slot is the caller's place in which a value is built, part by part, where it would else be returned through
-//! each call of a walk: so a level of a deep value needs little of the stack. These calls stand outside the cycles that
-//! walk, and are compiled alone, so that the frames of a walk stay small.
+//! Slots. Recursive functions build a value in a slot that the caller provides, instead of returning it through each
+//! call. The helpers here are never inlined. Both keep stack frames small for deep values.
 ghost use Rattle.std.specs.Prelude.{◌≡◌, ◌∷◌, ◌++◌, [], OnErr, OnOk};
 ghost use Rattle.bcs_value_model.specs.Tree.{items, named, pairs, present, unit, variant};
 ghost use Rattle.bcs_value_model.specs.View.{entries_pairs, items_trees, tree_of};
@@ -9,7 +8,7 @@ use crate::value::Value;
 use std::alloc::{AllocError, Global};
 use std::mem;
 
-/// Puts an option round the value in the slot. An error comes only for want of memory; the slot then holds `Unit`.
+/// Wraps the value in the slot in an option. Fails only if memory runs out; the slot then holds `Unit`.
 #[inline(never)]
 pub fn wrap_present(alloc: Global, slot: &mut Value) -> Result<(), AllocError>
     ensures wrapped { OnOk result (tree_of slot.new ≡ present (tree_of slot.old)) }
@@ -20,7 +19,7 @@ pub fn wrap_present(alloc: Global, slot: &mut Value) -> Result<(), AllocError>
     Ok(())
 }
 
-/// Puts a container round the value in the slot. An error comes only for want of memory; the slot then holds `Unit`.
+/// Wraps the value in the slot in a container. Fails only if memory runs out; the slot then holds `Unit`.
 #[inline(never)]
 pub fn wrap_named(alloc: Global, slot: &mut Value) -> Result<(), AllocError>
     ensures wrapped { OnOk result (tree_of slot.new ≡ named (tree_of slot.old)) }
@@ -31,7 +30,7 @@ pub fn wrap_named(alloc: Global, slot: &mut Value) -> Result<(), AllocError>
     Ok(())
 }
 
-/// Puts a variant round the value in the slot. An error comes only for want of memory; the slot then holds `Unit`.
+/// Wraps the value in the slot in a variant. Fails only if memory runs out; the slot then holds `Unit`.
 #[inline(never)]
 pub fn wrap_variant(alloc: Global, number: u32, slot: &mut Value) -> Result<(), AllocError>
     ensures wrapped { OnOk result (tree_of slot.new ≡ variant number (tree_of slot.old)) }
@@ -42,7 +41,7 @@ pub fn wrap_variant(alloc: Global, number: u32, slot: &mut Value) -> Result<(), 
     Ok(())
 }
 
-/// Puts the row into the slot.
+/// Puts a list of values into the slot.
 #[inline(never)]
 pub fn put_items(slot: &mut Value, found: Vec<Value>)
     ensures { tree_of slot.new ≡ items (items_trees found.items) }
@@ -50,7 +49,7 @@ pub fn put_items(slot: &mut Value, found: Vec<Value>)
     *slot = Value::Items(found);
 }
 
-/// Puts the entries into the slot.
+/// Puts the entries of a map into the slot.
 #[inline(never)]
 pub fn put_pairs(slot: &mut Value, found: Vec<(Value, Value)>)
     ensures { tree_of slot.new ≡ pairs (entries_pairs found.items) }
@@ -58,8 +57,8 @@ pub fn put_pairs(slot: &mut Value, found: Vec<(Value, Value)>)
     *slot = Value::Pairs(found);
 }
 
-/// Moves the value from the slot to the end of the row, and leaves `Unit`. An error comes only for want of memory; the
-/// row is then unchanged.
+/// Moves the value from the slot to the end of the list, and leaves `Unit` in the slot. Fails only if memory runs out;
+/// the list is then unchanged.
 #[inline(never)]
 pub fn keep(found: &mut Vec<Value>, slot: &mut Value) -> Result<(), AllocError>
     ensures kept { OnOk result (found.new.items ≡ found.old.items ++ slot.old ∷ []) }
@@ -71,8 +70,8 @@ pub fn keep(found: &mut Vec<Value>, slot: &mut Value) -> Result<(), AllocError>
     Ok(())
 }
 
-/// Moves an entry from two slots to the end of the entries, and leaves `Unit` in both. An error comes only for want of
-/// memory; the entries are then unchanged.
+/// Moves an entry from two slots to the end of the entries, and leaves `Unit` in both. Fails only if memory runs out;
+/// the entries are then unchanged.
 #[inline(never)]
 pub fn keep_entry(
     found: &mut Vec<(Value, Value)>,

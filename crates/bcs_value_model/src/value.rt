@@ -1,6 +1,6 @@
 //! Values.
 
-/// A value of a format.
+/// A value of some format.
 #[derive(Debug, Drop)]
 pub enum Value {
     Unit,
@@ -9,16 +9,16 @@ pub enum Value {
     Signed(i128),
     Text(String),
     Bytes(Vec<u8>),
-    /// The option without a value.
+    /// An option without a value.
     Absent,
-    /// The option with a value.
+    /// An option with a value.
     Present(Box<Value>),
-    /// The elements of a list, a tuple, an array, or the fields of a struct in their order.
+    /// The elements of a list, a tuple or an array, or the fields of a struct in their order.
     Items(Vec<Value>),
-    /// An enum's variant by its number, and its payload.
+    /// A variant of an enum: its number and its payload.
     Variant(u32, Box<Value>),
     /// The entries of a map, in any order.
     Pairs(Vec<(Value, Value)>),
-    /// A container's value.
+    /// The value of a container.
     Named(Box<Value>),
 }

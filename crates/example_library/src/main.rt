@@ -1,4 +1,4 @@
-//! A payment's JSON to its canonical bytes and back, and the payment in a JSON of one's own.
+//! Converts the JSON of a payment to BCS and back, and embeds the payment in other JSON.
 #![tactic(auto)]
 
 use bcs_codec::{Limits, Registry, Shown, from_bcs, read_value, to_bcs};

@@ -1,4 +1,4 @@
-//! Bytes, each front of them, and each change of one of them.
+//! Checks bytes, all their prefixes, and all changes of one byte.
 ghost use Rattle.std.specs.Prelude.{◌<◌, length};
 
 use crate::question::Question;
@@ -6,8 +6,8 @@ use crate::row_fault::RowFault;
 use crate::verdicts::encoded_again;
 use std::alloc::Global;
 
-/// Asks each call at the bytes, at each front of them, and with each other byte at each place. Answers how often it
-/// asked.
+/// Runs all calls on the bytes, on each prefix, and with each other byte value at each position. Returns the number of
+/// inputs.
 pub(crate) fn agreeing_changes(
     alloc: Global,
     question: &Question,
@@ -28,7 +28,6 @@ fn ask(alloc: Global, question: &Question, bytes: &[u8], count: &mut u64) -> Res
     Ok(())
 }
 
-// Asks with each other byte at the place.
 fn ask_changed(
     alloc: Global,
     question: &Question,

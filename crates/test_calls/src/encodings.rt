@@ -1,4 +1,4 @@
-//! Rows on the bytes of values.
+//! Rows on encoding.
 ghost use Rattle.std.specs.Prelude.{◌≤◌};
 
 use crate::question::Question;
@@ -13,10 +13,11 @@ use bcs_codec::{
 };
 use std::alloc::Global;
 
-/// The bytes of a value, or why it has none.
+/// The encoding of a value, or why it has none.
 type Encoded = Result<Vec<u8>, EncodeFault>;
 
-/// `quiet_value` makes calls that ask for no memory, and `stand_value` makes none, and is otherwise the same.
+/// `quiet_value` makes calls that shouldn't allocate. `stand_value` does the same work without these calls, for
+/// comparison.
 pub(crate) fn answer(
     alloc: Global,
     setting: &Setting,
@@ -57,7 +58,7 @@ fn answered(
     }
 }
 
-// How many bytes one of the encoders gives.
+// The length of an encoding.
 fn counted(alloc: Global, encoded: Encoded) -> Result<String, RowFault> {
     match encoded {
         Ok(bytes) => Ok(format!(in alloc; "{} bytes", bytes.len())?),
@@ -65,7 +66,7 @@ fn counted(alloc: Global, encoded: Encoded) -> Result<String, RowFault> {
     }
 }
 
-// All encoders give these bytes, which are too many to be told.
+// Checks that all encoders return the same bytes, which are too many to print.
 fn deep(
     alloc: Global,
     question: &Question,
@@ -79,7 +80,7 @@ fn deep(
     Ok(format!(in alloc; "{} bytes", encoded.len())?)
 }
 
-// What is written to a sink of 64 bytes that takes a piece a call, and fails from a call on.
+// Writes to a sink with room for 64 bytes, which accepts `piece` bytes per call and fails from call `fails` on.
 fn written(
     alloc: Global,
     question: &Question,
@@ -106,7 +107,7 @@ fn written(
     Ok(told?)
 }
 
-// The canonical form, by the names that values have in code.
+// The `Debug` output of the canonical form.
 fn formed(alloc: Global, question: &Question, value: &Value) -> Result<String, RowFault> {
     match form_of(alloc, question, value)? {
         Ok(form) => Ok(format!(in alloc; "{form:?}")?),
@@ -121,7 +122,7 @@ fn encoded_told(alloc: Global, question: &Question, value: &Value) -> Result<Str
     }
 }
 
-// The bytes or the fault of `encode`, and all other calls have to give the same.
+// The result of `encode`, after checking that all other calls agree with it.
 fn encoded(alloc: Global, question: &Question, value: &Value) -> Result<Encoded, RowFault> {
     let encoded = of_encode(alloc, question, value)?;
     agree_on(alloc, question, value, &encoded)?;
@@ -170,7 +171,7 @@ fn of_entries(alloc: Global, question: &Question, value: &Value) -> Result<Encod
     granted(encoded, EncodeFault::OutOfMemory)
 }
 
-// The canonical form is the same value.
+// The result of `canonicalise`, after checking that it is the same value.
 fn form_of(
     alloc: Global,
     question: &Question,
@@ -187,7 +188,7 @@ fn form_of(
     Ok(form)
 }
 
-// By way of the canonical form.
+// The encoding of the canonical form.
 fn of_form(alloc: Global, question: &Question, value: &Value) -> Result<Encoded, RowFault> {
     match form_of(alloc, question, value)? {
         Ok(form) => of_encode(alloc, question, &form),
@@ -195,7 +196,7 @@ fn of_form(alloc: Global, question: &Question, value: &Value) -> Result<Encoded,
     }
 }
 
-// A sink that takes a byte a call gets the bytes, and none where there is a fault, want of memory too.
+// The result of `write` with a sink that accepts one byte per call. On a fault, the sink must have received nothing.
 fn of_write(alloc: Global, question: &Question, value: &Value) -> Result<Encoded, RowFault> {
     let Question {
         registry,
@@ -214,7 +215,7 @@ fn of_write(alloc: Global, question: &Question, value: &Value) -> Result<Encoded
     }
 }
 
-// A copy is the value that the bytes have.
+// Whether the bytes decode to this value, and a copy is the same value too.
 fn is_decoded(
     alloc: Global,
     question: &Question,
@@ -236,7 +237,8 @@ fn is_decoded(
     }
 }
 
-// What has bytes has a text, or one that would nest too deep, and what has none is refused for the same reason.
+// Whether `print_value` agrees: a sound value has JSON unless it would nest too deep, and others are refused for the
+// same reason.
 fn is_printed(
     alloc: Global,
     question: &Question,

@@ -5,7 +5,7 @@ use bcs_codec::{EncodeFault, GrowthFault, JsonFault, PrintFault, Reason, Registr
 use std::alloc::{AllocError, Global};
 use std::fmt::Debug;
 
-// Each variant of an enum by its number and its name.
+// The number and name of each variant of an enum.
 pub(crate) fn answer(alloc: Global, words: &[&str]) -> Result<String, RowFault> {
     let told = match words {
         ["RegistryFault"] => registry_faults(alloc),

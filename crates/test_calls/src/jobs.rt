@@ -1,4 +1,4 @@
-//! Rows on command lines: which jobs they are, and how they end over sources and sinks that fail.
+//! Rows on command lines: how they are parsed, and how jobs end if sources or sinks fail.
 ghost use Rattle.std.specs.Prelude.{◌≤◌};
 
 use crate::question::limits_of;
@@ -37,7 +37,7 @@ pub(crate) fn answer(rt: &HostRuntime, question: &str, words: &[&str]) -> Result
     }
 }
 
-// The digits of what the file of this name holds, or the fault with its note.
+// The contents of a named file in hexadecimal, or the fault and its note.
 fn named(rt: &HostRuntime, name: &str) -> Result<String, RowFault> {
     match read_named(rt, name) {
         Ok(text) => Ok(hex::encode(rt.alloc(), &text)?),
@@ -46,7 +46,7 @@ fn named(rt: &HostRuntime, name: &str) -> Result<String, RowFault> {
     }
 }
 
-// The words of a command line behind the program's name.
+// A command line: the program's name, followed by the arguments.
 fn args_of(alloc: Global, arguments: &[&str]) -> Result<Vec<String>, AllocError> {
     let mut words = Vec::new(alloc);
     words.push(String::from_str(alloc, "bcs")?)?;
@@ -56,7 +56,7 @@ fn args_of(alloc: Global, arguments: &[&str]) -> Result<Vec<String>, AllocError>
     Ok(words)
 }
 
-// The job of a command's words without options, and its limits behind them.
+// The work of a command, from its arguments without options, followed by its limits.
 fn work_of(alloc: Global, words: &[&str]) -> Result<Work, RowFault> {
     match words {
         ["check", registry] => work(alloc, Command::Check, registry, ["", "", ""], &[]),
@@ -106,7 +106,7 @@ fn command_of(name: &str) -> Result<Command, RowFault> {
     }
 }
 
-// The job, by the names that it has in code.
+// The `Debug` output of the parsed job.
 fn job(alloc: Global, words: &[&str]) -> Result<String, RowFault> {
     match line(alloc, &args_of(alloc, words)?) {
         Ok(job) => Ok(format!(in alloc; "{job:?}")?),
@@ -114,8 +114,8 @@ fn job(alloc: Global, words: &[&str]) -> Result<String, RowFault> {
     }
 }
 
-// The status of a job over this input, what is put, and the note where there is one. A call gives or takes a byte, and these
-// fail from calls on. Behind that stands whether the input has failed.
+// The status, output and note of a job, and whether reading the input failed. Each call reads or writes one byte; calls
+// fail from `reads` and `puts` on.
 fn ran(alloc: Global, [input, reads, puts]: [&str; 3], words: &[&str]) -> Result<String, RowFault> {
     let fails = [call(reads)?, call(puts)?];
     let work = work_of(alloc, words)?;
@@ -143,7 +143,8 @@ fn put_text(alloc: Global, put: &[u8]) -> Result<String, RowFault> {
     }
 }
 
-// How a command line ends: the status, the output and the standard error, of usage its first word. These fail from calls on.
+// The status, output and standard error of a command line, of a usage error only the first word. Writes fail from calls
+// `puts` and `reports` on.
 fn responded<S: ByteSource>(
     rt: &HostRuntime,
     input: &mut S,
@@ -164,7 +165,7 @@ fn responded<S: ByteSource>(
     Ok(format!(in alloc; "{status} {put} {told}")?)
 }
 
-// The input gives so many bytes a call. Behind the answer stands whether it has failed.
+// Like `responded`, with an input that provides `piece` bytes per call. Adds whether reading failed.
 fn ended(
     rt: &HostRuntime,
     [input, piece, reads]: [&str; 3],
@@ -180,15 +181,15 @@ fn ended(
     Ok(format!(in rt.alloc(); "{told}{failed}")?)
 }
 
-// An input of blanks without end, and how many it gave.
+// Like `responded`, with an endless input of spaces. Adds how many were read.
 fn ended_endless(rt: &HostRuntime, words: &[&str]) -> Result<String, RowFault> {
     let mut source = RepeatSource::new(b' ');
     let told = responded(rt, &mut source, ["-", "-"], words)?;
     Ok(format!(in rt.alloc(); "{told}, {} given", source.given())?)
 }
 
-// Two files of two bytes a call that are compared line by line: what is put, and the status; or the fault, at which file, and
-// behind how many pairs.
+// Compares two files line by line, reading two bytes per call. Returns the output and the status, or the fault, the
+// file, and the number of pairs before it.
 fn paired(
     alloc: Global,
     [first, second]: [&str; 2],
@@ -236,7 +237,7 @@ fn ended_told(
     Ok(told?)
 }
 
-// The whole of a source, of at most so many bytes, and how many it gave.
+// Reads a whole source of at most `limit` bytes. Returns how many bytes the source provided.
 fn taken(
     alloc: Global,
     [text, piece]: [&str; 2],
@@ -254,7 +255,7 @@ fn taken(
     }
 }
 
-// Faults of files with their numbers, names and notes, and the messages of others.
+// The numbers, names and notes of file faults, and the messages of other faults.
 fn messages(alloc: Global) -> Result<String, RowFault> {
     let files = file_messages(alloc)?;
     let lines = line_messages(alloc)?;

@@ -1,4 +1,4 @@
-//! Rows on which values are the same, and on how deep and how large they are.
+//! Rows on equality of values, their depth and their number of nodes.
 
 use crate::row_fault::RowFault;
 use crate::setting::Setting;
@@ -19,7 +19,7 @@ pub(crate) fn answer(
     }
 }
 
-// For each value the places of those that are the same.
+// For each value, the positions of the values that are the same.
 fn alike(alloc: Global, text: &str) -> Result<String, RowFault> {
     let values = values_of(alloc, text)?;
     let mut answer = String::new(alloc);
@@ -49,7 +49,7 @@ fn push_places(
     Ok(())
 }
 
-// Whether a value and its copy are the same as another.
+// Whether a value is the same as another. Its copy must agree.
 fn is_alike(value: &Value, copy: &Value, other: &Value) -> Result<bool, RowFault> {
     let is_same = same(value, other);
     if same(other, value) != is_same {

@@ -1,4 +1,4 @@
-//! Answers rows of tests: it reads one a line, and prints each with its answer behind it.
+//! Runs test rows: reads one per line, and prints each followed by its answer.
 #![tactic(auto)]
 
 mod changes;
@@ -31,7 +31,7 @@ fn main(rt: HostRuntime) -> io::Result<()> {
     let mut setting = Setting::empty(rt.alloc())?;
     for line in rt.lines(rt.alloc()) {
         let line = line?;
-        // Blank lines and lines of notes are printed as they stand.
+        // Blank lines and comments are copied.
         if line.is_empty() || line.starts_with('#') {
             println!(rt; "{line}")?;
         } else {

@@ -22,14 +22,14 @@ pub(crate) fn answer(alloc: Global, question: &str, words: &[&str]) -> Result<St
     }
 }
 
-// The bytes of a number by ULEB128.
+// The ULEB128 encoding of a number.
 fn uleb(alloc: Global, word: &str) -> Result<String, RowFault> {
     let mut out = [0xee; 5];
     let len = put_uleb(number(word)?, &mut out);
     word_of(alloc, &out[..len])
 }
 
-// The number that the bytes begin with by ULEB128, and how many bytes it has.
+// The number that the bytes start with in ULEB128, and its length in bytes.
 fn uleb_taken(alloc: Global, word: &str) -> Result<String, RowFault> {
     match take_uleb(&bytes(alloc, word)?) {
         Ok((number, len)) => Ok(format!(in alloc; "{number} in {len}")?),
@@ -37,14 +37,14 @@ fn uleb_taken(alloc: Global, word: &str) -> Result<String, RowFault> {
     }
 }
 
-// The whole numbers of a format, as of `U8` and `I128`.
+// The integer kind of a format such as `U8` or `I128`.
 fn numbers_of(alloc: Global, format: &str) -> Result<IntegerKind, RowFault> {
     let text = format!(in alloc; "\"{format}\"")?;
     let format = format_from(alloc, &registry_json(alloc, text.as_bytes())?)?;
     IntegerKind::of(&format).ok_or(RowFault::NotUnderstood)
 }
 
-// The bytes of a number of the format.
+// The encoding of a number at the format.
 fn put(alloc: Global, format: &str, text: &str) -> Result<String, RowFault> {
     let mut out = [0xee; GREATEST_LEN];
     let len = match numbers_of(alloc, format)? {
@@ -60,7 +60,7 @@ fn put(alloc: Global, format: &str, text: &str) -> Result<String, RowFault> {
     word_of(alloc, &out[..len])
 }
 
-// The number of the format that the bytes begin with.
+// The number that the bytes start with at the format.
 fn taken(alloc: Global, format: &str, word: &str) -> Result<String, RowFault> {
     let bytes = bytes(alloc, word)?;
     let taken = match numbers_of(alloc, format)? {
@@ -76,7 +76,7 @@ fn taken(alloc: Global, format: &str, word: &str) -> Result<String, RowFault> {
     Ok(taken?)
 }
 
-// The number of the format whose plain decimal text this is.
+// The number of the format that has this plain decimal form.
 fn parsed(alloc: Global, format: &str, text: &str) -> Result<String, RowFault> {
     let parsed = match numbers_of(alloc, format)? {
         IntegerKind::Unsigned(width) => match parse_unsigned(width, text) {

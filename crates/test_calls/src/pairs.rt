@@ -1,4 +1,4 @@
-//! Texts, and which of them denote equal values.
+//! Compares JSON documents pairwise.
 
 use crate::question::Question;
 use crate::row_fault::{RowFault, agree};
@@ -6,7 +6,7 @@ use crate::texts::{bytes_of, value_of};
 use bcs_codec::{compare, same};
 use std::alloc::Global;
 
-/// How many of the pairs of texts denote equal values, each text with itself among them.
+/// The number of ordered pairs of texts that represent equal values, including each text with itself.
 pub(crate) fn agreeing_pairs(
     alloc: Global,
     question: &Question,
@@ -19,7 +19,7 @@ pub(crate) fn agreeing_pairs(
     Ok(count)
 }
 
-// How many texts denote the value of this one.
+// The number of texts that represent the same value as `one`.
 fn equals(alloc: Global, question: &Question, one: &[u8], texts: &[&str]) -> Result<u64, RowFault> {
     let mut count: u64 = 0;
     for other in texts {
@@ -30,7 +30,8 @@ fn equals(alloc: Global, question: &Question, one: &[u8], texts: &[&str]) -> Res
     Ok(count)
 }
 
-// Two texts that denote equal values have the same bytes, and are read as the same value, and no others.
+// Whether two texts represent equal values. Checks that exactly then their bytes are equal and they are read as the
+// same value.
 fn is_equal(
     alloc: Global,
     question: &Question,

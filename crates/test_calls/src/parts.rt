@@ -1,4 +1,4 @@
-//! Rows on parts of bytes.
+//! Rows on parts of encodings.
 
 use crate::question::Question;
 use crate::row_fault::RowFault;
@@ -18,7 +18,7 @@ pub(crate) fn answer(alloc: Global, setting: &Setting, words: &[&str]) -> Result
     led(alloc, &asked, &input, &path)
 }
 
-// Where the steps lead, or where and why the bytes stop being a value.
+// The part that the steps lead to, or where and why the bytes stop being a value.
 fn led(
     alloc: Global,
     question: &Question,
@@ -38,7 +38,7 @@ fn led(
     }
 }
 
-// The part's bytes, which are those of the input at its place.
+// The bytes of the part, after checking that they are those of the input at its place.
 fn found(alloc: Global, input: &[u8], part: Part<'_>) -> Result<String, RowFault> {
     let Part { bytes, place } = part;
     match input.get(place..) {

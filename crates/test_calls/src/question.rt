@@ -7,7 +7,6 @@ use crate::words::number;
 use bcs_codec::{Format, Limits, Registry};
 use std::alloc::Global;
 
-/// Values of which format of a registry are meant, and within which limits.
 #[derive(Drop)]
 pub(crate) struct Question {
     pub registry: Registry,
@@ -17,7 +16,7 @@ pub(crate) struct Question {
 }
 
 impl Question {
-    /// The words after the format are none, or the limits' depth and nodes.
+    /// Parses the words. `limits` is empty, or the depth and the number of nodes.
     pub(crate) fn read(
         alloc: Global,
         registry: &[u8],
@@ -38,7 +37,7 @@ impl Question {
     }
 }
 
-/// The limits of no words, or of a depth and a number of nodes.
+/// The standard limits for no words, or a depth and a number of nodes.
 pub(crate) fn limits_of(words: &[&str]) -> Option<Limits> {
     match words {
         [] => Some(Limits::standard()),

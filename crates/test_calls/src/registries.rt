@@ -25,7 +25,7 @@ pub(crate) fn answer(
     }
 }
 
-// How many containers the registry has. The rows below are about it.
+// Sets the registry for the following rows. Returns its number of containers.
 fn registry(alloc: Global, setting: &mut Setting, text: &str) -> Result<String, RowFault> {
     setting.registry = bytes(alloc, text)?;
     match Registry::read(alloc, &setting.registry) {
@@ -34,7 +34,7 @@ fn registry(alloc: Global, setting: &mut Setting, text: &str) -> Result<String, 
     }
 }
 
-// The format by the names that formats have in code.
+// The `Debug` output of a format.
 fn format_read(alloc: Global, setting: &Setting, text: &str) -> Result<String, RowFault> {
     let registry = Registry::read(alloc, &setting.registry)?;
     match registry.read_format(alloc, &bytes(alloc, text)?) {
@@ -43,7 +43,7 @@ fn format_read(alloc: Global, setting: &Setting, text: &str) -> Result<String, R
     }
 }
 
-// The container by the names that it has in code.
+// The `Debug` output of a container.
 fn held(alloc: Global, setting: &Setting, name: &str) -> Result<String, RowFault> {
     let registry = Registry::read(alloc, &setting.registry)?;
     match registry.container(name) {
@@ -52,20 +52,20 @@ fn held(alloc: Global, setting: &Setting, name: &str) -> Result<String, RowFault
     }
 }
 
-// Whether the registry admits the format, which is read without one.
+// Whether the registry admits the format, which is parsed without a registry.
 fn admitted(alloc: Global, setting: &Setting, text: &str) -> Result<String, RowFault> {
     let registry = Registry::read(alloc, &setting.registry)?;
     let format = format_from(alloc, &registry_json(alloc, &bytes(alloc, text)?)?)?;
     Ok(format!(in alloc; "{}", registry.admits(&format))?)
 }
 
-// What the registry prints as.
+// The printed form of a registry.
 fn printed(alloc: Global, text: &str) -> Result<String, RowFault> {
     let registry = Registry::read(alloc, &bytes(alloc, text)?)?;
     Ok(registry.print(alloc)?)
 }
 
-// Whether the older registry grows to the newer.
+// Whether the older registry grows into the newer.
 fn grown(alloc: Global, older: &str, newer: &str) -> Result<String, RowFault> {
     let older = Registry::read(alloc, older.as_bytes())?;
     let newer = Registry::read(alloc, newer.as_bytes())?;

@@ -1,4 +1,4 @@
-//! Rows that make a call again and again, so that its time can be told from outside.
+//! Rows that repeat a call, so that its time can be measured from outside.
 
 use crate::question::Question;
 use crate::row_fault::{RowFault, agree};
@@ -39,7 +39,7 @@ fn repeated(
     Ok(format!(in alloc; "{} bytes", bytes.len())?)
 }
 
-// How many bytes the answer is about. `None`: the call isn't known, or doesn't answer with the value or its bytes.
+// The length of the encoding that the call worked on, or `None` if the call is unknown or failed.
 fn answered(
     alloc: Global,
     call: &str,

@@ -6,16 +6,16 @@ use hex::FromHexError;
 use std::alloc::{AllocError, AllocFailed};
 use thiserror::Error;
 
-/// Why a row has no answer. Its message is printed in place of one.
+/// Why a row has no answer. Its message is printed instead.
 #[derive(Debug, Drop, Error)]
 pub(crate) enum RowFault {
-    /// The row's words ask nothing that there is.
+    /// The row isn't a known request.
     #[error("not understood")]
     NotUnderstood,
-    /// The registry or the format that the row is about is refused.
+    /// The row's registry or format is refused.
     #[error("{0}")]
     Registry(RegistryFault),
-    /// A call contradicts the others that the row asks.
+    /// A call disagrees with the others of the row.
     #[error("{0} disagrees")]
     Disagreement(&'static str),
     /// Memory ran out.
@@ -59,7 +59,7 @@ impl From<PathFault> for RowFault {
     }
 }
 
-/// What a call answers, but for want of memory, which is the row's whole answer.
+/// The result of a call, unless memory ran out; then the whole row answers with that.
 pub(crate) fn granted<T: Drop, F: Copy + Drop + PartialEq>(
     answer: Result<T, F>,
     no_memory: F,
@@ -71,7 +71,7 @@ pub(crate) fn granted<T: Drop, F: Copy + Drop + PartialEq>(
     }
 }
 
-/// That a call agrees with the others that the row asks.
+/// Checks that a call agrees with the others of the row.
 pub(crate) fn agree(is_so: bool, call: &'static str) -> Result<(), RowFault> {
     if is_so {
         Ok(())

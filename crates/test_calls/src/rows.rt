@@ -1,4 +1,4 @@
-//! What a row may ask.
+//! Dispatches rows.
 
 use crate::row_fault::RowFault;
 use crate::setting::Setting;
@@ -21,7 +21,7 @@ pub(crate) fn answer(
     }
 }
 
-// A row is words with a tab between each two. The first says what is asked.
+// A row consists of words separated by tabs. The first is the request.
 fn asked(rt: &HostRuntime, setting: &mut Setting, row: &str) -> Result<String, RowFault> {
     let row = unrolled(rt.alloc(), row)?;
     let words: Vec<&str> = row.split('\t').collect(rt.alloc())?;

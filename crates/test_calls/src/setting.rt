@@ -1,8 +1,8 @@
-//! What the rows above a row have set.
+//! State set by earlier rows.
 
 use std::alloc::{AllocError, Global};
 
-/// The texts of the last rows `registry` and `values`.
+/// The registry and the values of the last rows `registry` and `values`.
 #[derive(Drop)]
 pub(crate) struct Setting {
     pub registry: Vec<u8>,
@@ -10,7 +10,7 @@ pub(crate) struct Setting {
 }
 
 impl Setting {
-    /// A registry of no containers, and no values.
+    /// An empty registry, and no values.
     pub(crate) fn empty(alloc: Global) -> Result<Setting, AllocError> {
         Ok(Setting {
             registry: Vec::from_slice(alloc, b"{}")?,

@@ -1,4 +1,4 @@
-//! Rows on values of sources that fail, and of sources without end; and what all calls on sources give.
+//! Rows on sources that fail or are endless; and the calls that read from sources.
 
 use crate::question::Question;
 use crate::row_fault::{RowFault, agree, granted};
@@ -10,7 +10,7 @@ use bcs_codec::{
 };
 use std::alloc::{AllocError, Global};
 
-/// A value with its length, or why there is none.
+/// A value and its length, or why there is none.
 pub(crate) type Validated = Result<(Value, u64), DecodeFault>;
 
 pub(crate) fn answer(
@@ -42,7 +42,7 @@ fn answered(
     }
 }
 
-// All of a source, or its front, that gives a byte a call, and fails from a call on.
+// Decodes a whole source, or its prefix. It provides one byte per call, and fails from call `fails` on.
 fn of_failing(
     alloc: Global,
     question: &str,
@@ -65,7 +65,7 @@ fn of_failing(
     Ok(format!(in alloc; "{answer}{failed}")?)
 }
 
-// The front of a source that gives a byte without end.
+// Decodes the prefix of an endless source that repeats `byte`.
 fn of_endless(alloc: Global, asked: &Question, byte: u8) -> Result<String, RowFault> {
     let mut source = RepeatSource::new(byte);
     let mut other = RepeatSource::new(byte);
@@ -75,7 +75,7 @@ fn of_endless(alloc: Global, asked: &Question, byte: u8) -> Result<String, RowFa
     Ok(format!(in alloc; "{answer}, {} given", source.given())?)
 }
 
-/// The front of a source, by `scan_from`, and by `decode_from` of another like it.
+/// Decodes the prefix of a source with `decode_from`, after checking that `scan_from` agrees on an equal source.
 pub(crate) fn of_front<S: ByteSource>(
     alloc: Global,
     asked: &Question,
@@ -92,7 +92,7 @@ pub(crate) fn of_front<S: ByteSource>(
     validated(scanned, decoded)
 }
 
-/// The whole of a source, by `scan_all`, and by `decode_all` of another like it.
+/// Decodes a whole source with `decode_all`, after checking that `scan_all` agrees on an equal source.
 pub(crate) fn of_whole<S: ByteSource>(
     alloc: Global,
     asked: &Question,

@@ -1,4 +1,4 @@
-//! Rows on sources, sinks, and the lines of sources.
+//! Rows on sources, sinks, and lines read from sources.
 ghost use Rattle.std.specs.Prelude.{◌≤◌, IfOk};
 
 use crate::row_fault::RowFault;
@@ -34,7 +34,7 @@ pub(crate) fn answer(alloc: Global, question: &str, words: &[&str]) -> Result<St
     }
 }
 
-// What a call of a source gives, of at most this room: bytes, or a failure, which it tells from then on.
+// The result of one call of a source with a buffer of `room` bytes. After a failure, `failed` must be true.
 fn next<S: ByteSource>(alloc: Global, source: &mut S, room: usize) -> Result<String, RowFault> {
     let mut buffer = [0u8; 300];
     let Some(room) = buffer.get_mut(..room) else {
@@ -108,7 +108,7 @@ fn read(alloc: Global, text: &str, rooms: &[&str]) -> Result<String, RowFault> {
     nexts(alloc, &mut source, rooms)
 }
 
-/// A stream that reads or writes as many bytes a call as it is told, and answers an error where it isn't.
+/// A stream that reads or writes the given number of bytes in each call, and fails where none is given.
 #[derive(Drop)]
 struct Told {
     counts: [Option<usize>; 4],
@@ -152,7 +152,7 @@ impl Write for Told {
     }
 }
 
-// The source is asked once more than its reader is told, and then with no room.
+// Calls the source once more than counts are given, and then with an empty buffer.
 fn of_reader(alloc: Global, counts: &[&str]) -> Result<String, RowFault> {
     let mut reader = Told::of(counts);
     let mut source = ReadSource::new(&mut reader);
@@ -164,7 +164,7 @@ fn of_reader(alloc: Global, counts: &[&str]) -> Result<String, RowFault> {
     Ok(format!(in alloc; "{told} by {}", reader.calls)?)
 }
 
-// Pushes how many bytes of a piece a sink takes, or a failure, which it tells from then on.
+// Appends how many bytes of a piece the sink accepts, or that it fails. After a failure, `failed` must be true.
 fn push_put<K: ByteSink>(
     alloc: Global,
     sink: &mut K,
@@ -181,7 +181,7 @@ fn push_put<K: ByteSink>(
     }
 }
 
-// A sink with room for four bytes.
+// Writes pieces to a sink with room for four bytes.
 fn puts(alloc: Global, [piece, fails]: [&str; 2], pieces: &[&str]) -> Result<String, RowFault> {
     let piece = (number(piece)? as usize).max(1);
     let mut sink = PieceSink::<4>::new(piece, call(fails)?);
@@ -193,7 +193,7 @@ fn puts(alloc: Global, [piece, fails]: [&str; 2], pieces: &[&str]) -> Result<Str
     Ok(format!(in alloc; "{told}{taken}")?)
 }
 
-// A byte a call.
+// Writes a whole text to a sink that accepts one byte per call.
 fn put_whole(alloc: Global, text: &str, fails: &str) -> Result<String, RowFault> {
     let mut sink = PieceSink::<8>::new(1, call(fails)?);
     let whole = put_all(text.as_bytes(), &mut sink);
@@ -215,7 +215,7 @@ fn write(alloc: Global, pieces: &[&str]) -> Result<String, RowFault> {
     Ok(format!(in alloc; "{told}{taken}")?)
 }
 
-// The sink is asked once more than its writer is told, and then with an empty piece.
+// Calls the sink once more than counts are given, and then with an empty piece.
 fn of_writer(alloc: Global, counts: &[&str]) -> Result<String, RowFault> {
     let mut writer = Told::of(counts);
     let mut sink = WriteSink::new(&mut writer);
@@ -227,7 +227,7 @@ fn of_writer(alloc: Global, counts: &[&str]) -> Result<String, RowFault> {
     Ok(format!(in alloc; "{told}by {}", writer.calls)?)
 }
 
-// What each call answers, which allows a line as many bytes as its word says.
+// Reads lines, each with its own limit in bytes.
 fn lines(
     alloc: Global,
     text: &str,
@@ -257,7 +257,7 @@ fn push_lines<S: ByteSource>(
     Ok(())
 }
 
-// The next line, of a long one its length where it has but the letter x; that there is none; or the fault.
+// The next line, the end, or the fault. Of a line of more than 100 letters x, only the length is given.
 fn line<S: ByteSource>(
     alloc: Global,
     buffer: &mut LineBuffer,

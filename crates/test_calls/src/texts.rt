@@ -1,4 +1,4 @@
-//! Rows on the JSON texts of values.
+//! Rows on the JSON of values.
 
 use crate::pairs::agreeing_pairs;
 use crate::question::Question;
@@ -49,7 +49,7 @@ fn answered(
     }
 }
 
-// The bytes and the normal text of what the text denotes, or the fault, for which every call refuses the text.
+// The bytes and the normalised JSON of a text, or the fault. Checks that all calls agree.
 fn meant(alloc: Global, question: &Question, text: &[u8]) -> Result<String, RowFault> {
     match bytes_of(alloc, question, text)? {
         Ok(bytes) => {
@@ -76,7 +76,7 @@ fn agree_to_refuse(
     agree(other == Some(fault), "read_value")
 }
 
-// The normal text of what has these bytes.
+// The normalised JSON of a text that has these bytes.
 fn accepted(
     alloc: Global,
     question: &Question,
@@ -93,7 +93,8 @@ fn accepted(
     Ok(normal)
 }
 
-// The normal text has the same bytes, and is its own normal text; and so the value and the bytes are printed.
+// Checks that the normalised JSON has the same bytes and is unchanged if it is normalised again, and that the value and
+// the bytes print as this JSON.
 fn agree_on(
     alloc: Global,
     question: &Question,
@@ -191,7 +192,7 @@ fn text_of_bytes(
     granted(text, FromFault::OutOfMemory)
 }
 
-// The text of the bytes, or the fault. A value whose text would nest too deep isn't printed either.
+// The JSON of the bytes, or the fault. Checks that `print_value` also refuses a value whose JSON would nest too deep.
 fn shown(alloc: Global, question: &Question, bytes: &[u8]) -> Result<String, RowFault> {
     match text_of_bytes(alloc, question, bytes)? {
         Ok(text) => Ok(text),
@@ -219,7 +220,7 @@ fn is_too_nested(alloc: Global, question: &Question, bytes: &[u8]) -> Result<boo
     }
 }
 
-// Whether the texts denote equal values, or the fault.
+// Whether two texts represent equal values, or the fault.
 fn compared(
     alloc: Global,
     question: &Question,

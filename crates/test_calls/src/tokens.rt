@@ -1,4 +1,4 @@
-//! Rows on JSON texts that are read both from their tokens and by way of a tree.
+//! Rows on JSON that is read both from tokens and through a tree.
 
 use crate::question::Question;
 use crate::row_fault::{RowFault, agree, granted};
@@ -45,7 +45,7 @@ fn is_same(value: &Value, other: &Result<Value, JsonFault>) -> bool {
     }
 }
 
-// `read_value` returns the value of the tree, or refuses it for what is checked later, and otherwise for the same fault.
+// `read_value` must agree with reading by a tree, except for faults that it checks later.
 fn agree_with_call(
     alloc: Global,
     question: &Question,
@@ -64,7 +64,7 @@ fn agree_with_call(
     agree(is_so, "read_value")
 }
 
-// The value that is read from the tokens alone, if this reading doesn't give up.
+// The value read from the tokens alone, unless this reading gives up.
 fn token_value(alloc: Global, question: &Question, text: &[u8]) -> Result<Option<Value>, RowFault> {
     let Question {
         registry,
@@ -78,7 +78,7 @@ fn token_value(alloc: Global, question: &Question, text: &[u8]) -> Result<Option
     }
 }
 
-// The value that is read by way of the text's tree.
+// The value read through a tree.
 fn tree_value(alloc: Global, question: &Question, text: &[u8]) -> Result<Value, JsonFault> {
     let Question {
         registry,

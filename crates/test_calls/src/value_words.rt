@@ -1,11 +1,11 @@
-//! Values as rows write them down.
+//! Values in the notation of rows.
 
 use crate::row_fault::RowFault;
 use crate::words::number;
 use bcs_codec::Value;
 use std::alloc::Global;
 
-/// The values of words with blanks between them. A word that has parts takes them from the last values before it.
+/// The values of words separated by spaces. A word with parts takes them from the last values before it.
 pub(crate) fn values_of(alloc: Global, text: &str) -> Result<Vec<Value>, RowFault> {
     let mut values = Vec::new(alloc);
     for word in text.split_whitespace() {
@@ -18,7 +18,7 @@ pub(crate) fn values_of(alloc: Global, text: &str) -> Result<Vec<Value>, RowFaul
     Ok(values)
 }
 
-/// The one value of words.
+/// The value of words that describe exactly one.
 pub(crate) fn value_of(alloc: Global, text: &str) -> Result<Value, RowFault> {
     let mut values = values_of(alloc, text)?;
     let value = last(&mut values)?;
@@ -42,7 +42,7 @@ fn plain(alloc: Global, word: &str, values: &mut Vec<Value>) -> Result<Value, Ro
     }
 }
 
-// A word's shape, and what stands behind its `:`.
+// A word's kind, and what follows its `:`.
 fn described(
     alloc: Global,
     shape: &str,
@@ -75,7 +75,7 @@ fn signed(digits: &str) -> Result<Value, RowFault> {
     }
 }
 
-// The list of the last values.
+// A list of the last `len` values.
 fn list(alloc: Global, len: u32, values: &mut Vec<Value>) -> Result<Value, RowFault> {
     let mut items = Vec::new(alloc);
     for _ in 0..len {
@@ -85,7 +85,7 @@ fn list(alloc: Global, len: u32, values: &mut Vec<Value>) -> Result<Value, RowFa
     Ok(Value::Items(items))
 }
 
-// The map of the last keys, each with its value behind it.
+// A map of the last `len` entries, each a key followed by its value.
 fn map(alloc: Global, len: u32, values: &mut Vec<Value>) -> Result<Value, RowFault> {
     let mut pairs = Vec::new(alloc);
     for _ in 0..len {

@@ -1,4 +1,4 @@
-//! Rows on which values have which formats.
+//! Rows on which values fit which formats.
 
 use crate::question::{Question, limits_of};
 use crate::row_fault::RowFault;
@@ -21,7 +21,7 @@ pub(crate) fn answer(
     }
 }
 
-// How many values there are. The rows below are about them.
+// Sets the values for the following rows. Returns how many there are.
 fn values(alloc: Global, setting: &mut Setting, text: &str) -> Result<String, RowFault> {
     setting.values = String::from_str(alloc, text)?;
     let values = values_of(alloc, text)?;
@@ -43,7 +43,7 @@ fn signs(alloc: Global, question: &Question, values: &[Value]) -> Result<String,
     Ok(signs)
 }
 
-// `+` of a value that has the format, `~` of one that has it loosely alone, and else `-`.
+// `+` if the value fits the format, `~` if it fits only loosely, and `-` otherwise.
 fn sign(question: &Question, value: &Value) -> Result<&'static str, RowFault> {
     let Question {
         registry,

@@ -1,4 +1,4 @@
-//! Rows on bytes: one verdict, asked of each call.
+//! Rows on bytes, on which all decoding calls must give the same verdict.
 ghost use Rattle.std.specs.Prelude.{◌≤◌};
 
 use crate::changes::agreeing_changes;
@@ -13,8 +13,8 @@ use bcs_codec::{
 };
 use std::alloc::Global;
 
-/// `quiet` makes calls that ask for no memory, and `quiet_slice` those of them on a slice. `stand` and `stand_slice` make
-/// none, and are otherwise the same.
+/// `quiet` makes calls that shouldn't allocate, `quiet_slice` only those on a slice. `stand` and `stand_slice` do the
+/// same work without these calls, for comparison.
 pub(crate) fn answer(
     alloc: Global,
     setting: &Setting,
@@ -52,7 +52,7 @@ fn answered(
     Ok(String::from_str(alloc, "quiet")?)
 }
 
-/// The verdict of all calls, of which `encode` has to give the bytes of the value again.
+/// The verdict of all calls. `encode` must return the bytes of the value again.
 pub(crate) fn encoded_again(
     alloc: Global,
     question: &Question,
@@ -77,8 +77,8 @@ pub(crate) fn encoded_again(
     }
 }
 
-// The value that the bytes begin with, and its length, or where and why they stop being one: by the calls on a slice, and all
-// calls on sources have to give the same, in pieces of 1, 2 and 3 bytes, and of the whole.
+// The value that the bytes start with and its length, or where and why they stop being one. All calls must agree: on a
+// slice, and on sources that provide 1, 2 or 3 bytes per call, or everything.
 fn verdict(alloc: Global, question: &Question, bytes: &[u8]) -> Result<Validated, RowFault> {
     let verdict = of_slice(alloc, question, bytes)?;
     agree_on_sources(alloc, question, bytes, &verdict)?;
@@ -109,7 +109,7 @@ fn scanned(question: &Question, bytes: &[u8]) -> Result<u64, DecodeFault> {
     }
 }
 
-// The whole is the part to which no steps lead.
+// Decodes a slice. `part` without steps must return the whole value.
 fn of_slice(alloc: Global, question: &Question, bytes: &[u8]) -> Result<Validated, RowFault> {
     let Question {
         registry,
@@ -160,8 +160,8 @@ fn is_length(scanned: Result<u64, DecodeFault>, verdict: &Validated) -> bool {
     }
 }
 
-// A source that gives so many bytes a call has the verdict too, whether its front or its whole is asked for. Behind a value its
-// front takes no byte, and the whole one.
+// Checks that a source gives the same verdict, both for its prefix and for the whole. After a value, reading a prefix
+// takes no further byte, and reading the whole takes one if there is one.
 fn agree_in_pieces(
     alloc: Global,
     question: &Question,
@@ -226,7 +226,7 @@ fn is_same(one: &Validated, other: &Validated) -> bool {
     }
 }
 
-// What the whole of so many bytes is, by the verdict on their front: a value exactly if no byte follows.
+// Whether `whole` follows from the verdict on the prefix: the whole is a value exactly if no byte follows.
 fn is_same_whole(whole: &Validated, verdict: &Validated, len: usize) -> bool {
     match verdict {
         Ok((_, length)) if *length != len as u64 => {
@@ -240,7 +240,7 @@ fn is_same_whole(whole: &Validated, verdict: &Validated, len: usize) -> bool {
     }
 }
 
-// Whether a source gave the bytes of a value, and so many behind it.
+// Whether the source has provided the bytes of the value and `behind` more.
 fn gave(source: &PieceSource<'_>, verdict: &Validated, behind: u64) -> bool {
     match verdict {
         Ok((_, length)) => source.given() == length.saturating_add(behind),

@@ -1,9 +1,9 @@
-//! What the words of a row stand for.
+//! The notation of words in rows.
 
 use crate::row_fault::RowFault;
 use std::alloc::Global;
 
-/// The row as it is meant: `(3*ab)` in it stands for `ababab`, and `(3*[#])` for `[2][1][0]`.
+/// Expands repetitions: `(3*ab)` becomes `ababab`, and `(3*[#])` becomes `[2][1][0]`.
 pub(crate) fn unrolled(alloc: Global, row: &str) -> Result<String, RowFault> {
     let mut text = String::new(alloc);
     for (place, part) in row.split('(').enumerate() {
@@ -16,7 +16,7 @@ pub(crate) fn unrolled(alloc: Global, row: &str) -> Result<String, RowFault> {
     Ok(text)
 }
 
-// Pushes what a count, `*`, a text and `)` stand for, and what comes after them.
+// Appends the expansion of `count*text)` and what follows it.
 fn push_repeated(alloc: Global, text: &mut String, part: &str) -> Result<(), RowFault> {
     let Some((group, rest)) = part.split_once(')') else {
         return Err(RowFault::NotUnderstood);
@@ -32,7 +32,7 @@ fn push_repeated(alloc: Global, text: &mut String, part: &str) -> Result<(), Row
     Ok(())
 }
 
-// Pushes the text with how many of it are still to come in the place of each `#`.
+// Appends the text with each `#` replaced by the number of repetitions that remain.
 fn push_numbered(
     alloc: Global,
     text: &mut String,
@@ -48,7 +48,7 @@ fn push_numbered(
     Ok(())
 }
 
-/// A whole number below 4294967296.
+/// An integer below 4294967296.
 pub(crate) fn number(word: &str) -> Result<u32, RowFault> {
     match word.parse::<u32>() {
         Ok(number) => Ok(number),
@@ -56,7 +56,7 @@ pub(crate) fn number(word: &str) -> Result<u32, RowFault> {
     }
 }
 
-/// A call that fails, counted from 1: none of the word `-`.
+/// The number of the first call that fails, counted from 1, or none for `-`.
 pub(crate) fn call(word: &str) -> Result<Option<u64>, RowFault> {
     match word {
         "-" => Ok(None),
@@ -64,7 +64,7 @@ pub(crate) fn call(word: &str) -> Result<Option<u64>, RowFault> {
     }
 }
 
-/// The bytes that a word stands for: those of the hexadecimal digits behind `0x`, or else its own.
+/// The bytes of a word: its hexadecimal digits after `0x`, or else the word itself.
 pub(crate) fn bytes(alloc: Global, word: &str) -> Result<Vec<u8>, RowFault> {
     match word.strip_prefix("0x") {
         Some(digits) => Ok(hex::decode(alloc, digits)?),
@@ -72,7 +72,7 @@ pub(crate) fn bytes(alloc: Global, word: &str) -> Result<Vec<u8>, RowFault> {
     }
 }
 
-/// The word of these bytes: `0x` and their hexadecimal digits.
+/// Bytes as a word: `0x` and hexadecimal digits.
 pub(crate) fn word_of(alloc: Global, bytes: &[u8]) -> Result<String, RowFault> {
     let digits = hex::encode(alloc, bytes)?;
     Ok(format!(in alloc; "0x{digits}")?)

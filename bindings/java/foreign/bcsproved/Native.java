@@ -44,14 +44,23 @@ final class Native {
 
     private Native() {}
 
-    /** The parameters of a call: a handle, a format and limits (a), a number (n), one or two inputs (1, 2), and an output (o). */
+    /**
+     * The parameters of a call: a handle, a format and limits (a), or a handle (h) or a format (f) alone; a number (n); one or two
+     * inputs (1, 2); and an output (o).
+     */
     private static String parameters(Call call) {
         return switch (call) {
             case CHECK -> "a";
             case SCAN -> "a1";
             case COMPARE, PART -> "a12";
             case TO_BCS, FROM_BCS, NORMALISE -> "a1o";
-            case EXPLAIN, TEXT_PLACE, STOP_PLACE -> "an1o";
+            case TEXT_REFUSAL, STOP_REFUSAL -> "a1o";
+            case EXPLAIN, EXAMPLE -> "an1o";
+            case SCHEMA -> "ao";
+            case SHOW -> "hn1o";
+            case FORMAT_PLACE -> "hfo";
+            case PATH_PLACE -> "1o";
+            case GROWTH_LIST, GROWTH_PLACE -> "12o";
             case GROWS -> "12";
             case REGISTRY_PLACE -> "n1o";
             case FAULT_NAME -> "no";
@@ -64,11 +73,13 @@ final class Native {
             layouts.addAll(switch (parameter) {
                 case 'a' -> List.of(ADDRESS, ADDRESS, JAVA_LONG, JAVA_INT, JAVA_INT);
                 case 'n' -> List.of(JAVA_INT);
+                case 'h' -> List.of(ADDRESS);
                 default -> PIECE;
             });
         }
         String name = call.name().toLowerCase(Locale.ROOT);
-        return spreading((parameters(call).startsWith("a") ? "bcs_handle_" : "bcs_") + name, layouts);
+        boolean isOnHandle = parameters(call).startsWith("a") || parameters(call).startsWith("h");
+        return spreading((isOnHandle ? "bcs_handle_" : "bcs_") + name, layouts);
     }
 
     /** A function that takes its arguments in an array. */
@@ -140,6 +151,8 @@ final class Native {
                         add(arguments, arena, format);
                         Collections.addAll(arguments, depth, nodes);
                     }
+                    case 'h' -> arguments.add(MemorySegment.ofAddress(handle));
+                    case 'f' -> add(arguments, arena, format);
                     case 'n' -> arguments.add(number);
                     case '1' -> add(arguments, arena, first);
                     case '2' -> add(arguments, arena, second);

@@ -18,7 +18,9 @@ public final class BcsException extends Exception {
         /** The JSON of a value. */
         JSON,
         BYTES,
-        PATH
+        PATH,
+        /** The format has no such example. */
+        EXAMPLE
     }
 
     private final Kind kind;
@@ -62,8 +64,8 @@ public final class BcsException extends Exception {
 
     /**
      * Where the fault is. Of JSON it is a JSON Pointer (RFC 6901) such as /payload/args/1, which is empty if the document is
-     * refused as a whole; of bytes the names that lead there, such as .payload.args[1]; of a registry the place as the program
-     * {@code bcs} prints it. Null if that isn't known.
+     * refused as a whole; of bytes the names that lead there, such as .payload.args[1]; of a format a JSON Pointer; of a
+     * registry, a path or growth the place as the program {@code bcs} prints it. Null if that isn't known.
      */
     public String pointer() {
         return pointer;

@@ -19,6 +19,7 @@ import java.util.Objects;
 public final class Registry implements AutoCloseable {
     private static final Cleaner CLEANER = Cleaner.create();
     private static final int WHERE = 0, WANTED = 1;
+    private static final byte[] NOTHING = new byte[0];
 
     /** A handle of bcs.h. The last call that uses it frees it, if it is closed. */
     private static final class Handle implements Runnable {
@@ -129,6 +130,62 @@ public final class Registry implements AutoCloseable {
         return Question.text(ask(Call.FROM_BCS, format, data, null, 0, Answer.guess(data, 4)).output());
     }
 
+    /** The value at the beginning of the data, and how many bytes it has. What follows isn't read. */
+    public Prefix decodePrefix(String format, byte[] data) throws BcsException {
+        int length = scan(format, data);
+        // The default limit depends on all of the data, so both steps get the same one.
+        Registry limited = limits != null ? this : withLimits(Limits.forBytes(data.length));
+        return new Prefix(limited.decode(format, java.util.Arrays.copyOf(data, length)), length);
+    }
+
+    /** A JSON Schema of the JSON documents of the format's values. */
+    public String schema(String format) throws BcsException {
+        return Question.text(ask(Call.SCHEMA, format, NOTHING, null, 0, 4096).output());
+    }
+
+    /** The JSON document of a value of the format, as {@code bcs example} prints it. */
+    public String example(String format) throws BcsException {
+        return example(format, "", false);
+    }
+
+    /**
+     * The same with the variant of this name, if it isn't empty, of the enum that the format names. If {@code isFull}, each option,
+     * list and map has an element.
+     */
+    public String example(String format, String variant, boolean isFull) throws BcsException {
+        return Question.text(ask(Call.EXAMPLE, format, Question.utf8(variant), null, isFull ? 1 : 0, 1024).output());
+    }
+
+    /**
+     * The registry in readable form, as {@code bcs show} prints it; or, if the name isn't empty, only that container with what it
+     * depends on. With {@link Form#JSON} it is compact JSON.
+     */
+    public String show(String name, Form form) throws BcsException {
+        long handle = shared.handle.enter();
+        try {
+            Answer answer = Answer.of(Call.SHOW, handle, Question.NONE, Question.utf8(name), null, form.ordinal(), 4096);
+            if (answer.status() != Answer.DONE) {
+                throw new BcsException(Kind.FORMAT, faultName(answer.fault()), -1, "", "no container is called " + name);
+            }
+            return Question.text(answer.output());
+        } finally {
+            shared.handle.leave();
+            Reference.reachabilityFence(shared);
+        }
+    }
+
+    /** All differences between two registries, as {@code bcs grows --list} prints them. */
+    public static java.util.List<String> differences(byte[] older, byte[] newer) throws BcsException {
+        Objects.requireNonNull(older, "older");
+        Objects.requireNonNull(newer, "newer");
+        Answer answer = Answer.of(Call.GROWTH_LIST, older, newer, 0, 4096);
+        return switch (answer.status()) {
+            case Answer.DONE -> Question.text(answer.output()).lines().toList();
+            case Answer.NEWER -> throw refusalOfRegistry(Kind.NEWER, answer.fault(), newer);
+            default -> throw refusalOfRegistry(Kind.REGISTRY, answer.fault(), older);
+        };
+    }
+
     /** The one normal JSON document of the value that a JSON document in UTF-8 represents. */
     public String normalise(String format, byte[] json) throws BcsException {
         return Question.text(ask(Call.NORMALISE, format, json, null, 0, Answer.guess(json, 1)).output());
@@ -196,7 +253,7 @@ public final class Registry implements AutoCloseable {
         Answer answer = Answer.of(Call.GROWS, older, newer, 0, Answer.NO_OUTPUT);
         switch (answer.status()) {
             case Answer.DONE -> { }
-            case Answer.REFUSED -> throw new BcsException(Kind.GROWTH, faultName(answer.fault()), -1, null, null);
+            case Answer.REFUSED -> throw inLine(Kind.GROWTH, "", answer, Answer.of(Call.GROWTH_PLACE, older, newer, 0, 256));
             case Answer.NEWER -> throw refusalOfRegistry(Kind.NEWER, answer.fault(), newer);
             default -> throw refusalOfRegistry(Kind.REGISTRY, answer.fault(), older);
         }
@@ -226,9 +283,10 @@ public final class Registry implements AutoCloseable {
 
     private static BcsException refusal(long handle, Call call, Question question, Answer answer, byte[] first, byte[] second) {
         return switch (answer.status()) {
-            case Answer.FORMAT -> new BcsException(Kind.FORMAT, faultName(answer.fault()), -1, null, null);
+            case Answer.FORMAT -> inLine(Kind.FORMAT, "FORMAT", answer,
+                    Answer.of(Call.FORMAT_PLACE, handle, question, null, null, 0, 256));
             case Answer.LIMITS -> new BcsException(Kind.LIMITS, null, -1, null, null);
-            case Answer.PATH -> new BcsException(Kind.PATH, faultName(answer.fault()), -1, null, null);
+            case Answer.PATH -> inLine(Kind.PATH, "PATH", answer, Answer.of(Call.PATH_PLACE, second, null, 0, 256));
             case Answer.REFUSED -> refused(handle, call.refused, question, answer, first, call == Call.COMPARE ? second : null);
             default -> throw new AssertionError("unknown status " + answer.status());
         };
@@ -236,15 +294,24 @@ public final class Registry implements AutoCloseable {
 
     /** What is known of an input that is refused. If two JSON documents were compared, it may be the other one. */
     private static BcsException refused(long handle, Kind kind, Question question, Answer answer, byte[] input, byte[] other) {
-        Call call = kind == Kind.BYTES ? Call.STOP_PLACE : Call.TEXT_PLACE;
-        byte[] where = Answer.of(call, handle, question, input, null, WHERE, 256).output();
-        if (where == null && other != null) {
+        if (kind == Kind.EXAMPLE) {
+            return new BcsException(kind, faultName(answer.fault()), -1, null, null);
+        }
+        Call call = kind == Kind.BYTES ? Call.STOP_REFUSAL : Call.TEXT_REFUSAL;
+        byte[] told = Answer.of(call, handle, question, input, null, 0, 256).output();
+        if (told == null && other != null) {
             return refused(handle, kind, question, answer, other, null);
         }
-        byte[] wanted = Answer.of(call, handle, question, input, null, WANTED, 256).output();
+        Place place = Place.ofRefusal(told);
         boolean hasPlace = kind == Kind.BYTES && answer.fault() != Answer.SHOWN_TOO_NESTED;
-        return new BcsException(kind, faultName(answer.fault()), hasPlace ? answer.place() : -1, Question.text(where),
-                Question.text(wanted));
+        return new BcsException(kind, faultName(answer.fault()), hasPlace ? answer.place() : -1, place.pointer(), place.expected());
+    }
+
+    /** What is known of a format, a path or a newer registry that is refused. */
+    private static BcsException inLine(Kind kind, String prefix, Answer answer, Answer line) {
+        String reason = faultName(answer.fault());
+        Place place = Place.ofLine(line.output(), prefix, reason);
+        return new BcsException(kind, reason, -1, place.pointer(), place.expected());
     }
 
     private static BcsException refusalOfRegistry(Kind kind, int fault, byte[] registry) {

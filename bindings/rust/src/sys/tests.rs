@@ -1,6 +1,6 @@
 //! The declarations beside the library's header and its names of faults.
 use super::Answer;
-use crate::faults::{GrowthFault, Reason, RegistryFault, TextFault};
+use crate::faults::{ExampleFault, GrowthFault, Reason, RegistryFault, TextFault};
 use crate::limits::Limits;
 use crate::sys;
 use std::collections::BTreeMap;
@@ -44,8 +44,8 @@ fn declarations_are_those_of_the_header() {
     let block = source.split_once("unsafe extern \"C\" {").unwrap().1.split_once("\n}").unwrap().0;
     let calls = block.split(';').filter_map(|call| call.split_once("fn ").map(|(_, call)| c_declaration(call)));
     let calls: Vec<String> = calls.collect();
-    // Those that open, close and grow a registry, ten on a handle, and those of places and names.
-    assert_eq!(calls.len(), 15);
+    // Those that open, close and grow a registry, fourteen on a handle, and those of places, lists and names.
+    assert_eq!(calls.len(), 22);
     assert_eq!(calls[1], "void bcs_close(bcs_handle *);");
     run_c(&calls.concat(), "");
 }
@@ -137,6 +137,8 @@ fn numbers_are_those_of_the_header() {
             ("JSON", sys::JSON),
             ("WHERE", sys::WHERE),
             ("WANTED", sys::WANTED),
+            ("LEAST", sys::LEAST),
+            ("FULL", sys::FULL),
             ("FAULT_NONE", 0),
             ("PATH_BAD_PATH", 601),
             ("SHOWN_TOO_NESTED", sys::SHOWN_TOO_NESTED),
@@ -146,6 +148,7 @@ fn numbers_are_those_of_the_header() {
     here.extend(names_with("REGISTRY", RegistryFault::ALL.iter().map(|it| (it.name(), *it as u32))));
     here.extend(names_with("GROWTH", GrowthFault::ALL.iter().map(|it| (it.name(), *it as u32))));
     here.extend(names_with("TEXT", TextFault::ALL.iter().map(|it| (it.name(), *it as u32))));
+    here.extend(names_with("EXAMPLE", ExampleFault::ALL.iter().map(|it| (it.name(), *it as u32))));
     here.extend(names_with("STOP", Reason::ALL.iter().map(|it| (it.name(), *it as u32))));
     assert_eq!(here, header_constants());
 }
@@ -173,7 +176,8 @@ fn name_here(number: u32) -> Option<&'static str> {
             .map(RegistryFault::name)
             .or_else(|| GrowthFault::of(number).map(GrowthFault::name))
             .or_else(|| TextFault::of(number).map(TextFault::name))
-            .or_else(|| Reason::of(number).map(Reason::name)),
+            .or_else(|| Reason::of(number).map(Reason::name))
+            .or_else(|| ExampleFault::of(number).map(ExampleFault::name)),
     }
 }
 
@@ -192,6 +196,6 @@ fn names_are_those_of_the_library() {
             None => assert_eq!(answer.status, sys::NO, "{number}"),
         }
     }
-    // 6 of registries, 4 of growth, 13 of texts, 14 of bytes, and those of a shown text and of a path.
-    assert_eq!(named, 39);
+    // 6 of registries, 4 of growth, 13 of texts, 14 of bytes, 4 of examples, and those of a shown text and of a path.
+    assert_eq!(named, 43);
 }

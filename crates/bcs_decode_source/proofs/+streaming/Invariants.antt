@@ -3,7 +3,7 @@ use Rattle.bcs_decode_source.proofs.Readers.{Onward}
 use Rattle.bcs_decode_source.proofs.StreamedRows.{ItemsSoFar, EachSoFar, PairsSoFar}
 use Rattle.bcs_decode_source.proofs.+streaming.Given as goal
 
--- a format in a registry has at most 33 levels with those of its container
+-- a format in a registry has at most 33 levels, including those of its container
 abbrev work : ℕ → ℕ → ℕ
 work d n = 10 * (35 * d + n)
 

@@ -1,4 +1,4 @@
-//! Bytes that are gone past by blocks.
+//! Skips bytes in blocks.
 ghost use Rattle.bcs_decode_source.specs.Past.{bytes_run};
 ghost use Rattle.bcs_decode_source.specs.Reads.{Ready, Reads};
 ghost use Rattle.bcs_decode_source.specs.Sees.{OutOfMemoryOnlyInKey};
@@ -9,7 +9,7 @@ use crate::share::BLOCK;
 use bcs_decode_spec::DecodeFault;
 use bcs_io::ByteSource;
 
-/// So many bytes.
+/// Skips `count` bytes.
 #[inline(never)]
 pub fn pass_bytes<S: ByteSource>(reader: &mut Reader<'_, S>, count: u32) -> Result<(), DecodeFault>
     requires ready { Ready S.is_failed S.allowance reader.old }

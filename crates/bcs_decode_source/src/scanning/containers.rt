@@ -1,4 +1,4 @@
-//! Going past what stands in containers, from a source.
+//! Skips containers in a source.
 ghost use Rattle.std.specs.Prelude.{◌≡◌, true, map};
 ghost use Rattle.bcs_registry_model.specs.Container as spec;
 ghost use Rattle.bcs_registry_model.specs.Container.{field_shapes, payload_shape};
@@ -20,7 +20,7 @@ use bcs_decode_spec::{DecodeFault, Reason, Stop};
 use bcs_io::ByteSource;
 use bcs_registry::{Container, Format, Named, VariantFormat};
 
-/// The container of this name.
+/// Skips a value of the container `name`.
 #[inline(never)]
 #[cycle(scanning)]
 pub fn named<S: ByteSource>(
@@ -43,7 +43,7 @@ pub fn named<S: ByteSource>(
     content(reader, found, depth - 1)
 }
 
-/// What stands in a container of the registry.
+/// Skips the contents of a container of the registry.
 #[inline(always)]
 #[cycle(scanning)]
 fn content<S: ByteSource>(
@@ -75,7 +75,7 @@ fn content<S: ByteSource>(
     }
 }
 
-/// What a variant carries.
+/// Skips the contents of a variant.
 #[inline(never)]
 #[cycle(scanning)]
 fn payload<S: ByteSource>(
@@ -95,7 +95,7 @@ fn payload<S: ByteSource>(
     }
 }
 
-/// A value of each field's format in turn.
+/// Skips one value for each field.
 #[inline(never)]
 #[cycle(scanning)]
 fn structure<S: ByteSource>(

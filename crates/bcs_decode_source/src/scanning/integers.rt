@@ -1,4 +1,4 @@
-//! Rows of whole numbers that are gone past by blocks.
+//! Skips lists of integers in blocks.
 ghost use Rattle.std.specs.Prelude.{◌≤◌};
 ghost use Rattle.bcs_decode_spec.specs.Reading.{items_here, skipping};
 ghost use Rattle.bcs_decode_slice.specs.Passing.{whole_here};
@@ -12,8 +12,7 @@ use bcs_decode_spec::{DecodeFault, Reason, Stop};
 use bcs_io::ByteSource;
 use bcs_num::GREATEST_LEN;
 
-/// So many values of so many bytes each, where any bytes will do. They are taken by blocks, of no more values than may
-/// begin.
+/// Skips `count` values of `width` bytes each, whatever the bytes are. A block never exceeds the limit of nodes.
 #[inline(never)]
 pub fn skip_integers<S: ByteSource>(
     reader: &mut Reader<'_, S>,

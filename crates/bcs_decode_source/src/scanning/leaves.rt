@@ -1,4 +1,4 @@
-//! Going past what has no values inside. No step is part of its caller, whose frame stays small.
+//! Skips what contains no other values. Not inlined, to keep the callers' stack frames small.
 ghost use Rattle.std.specs.Prelude.{◌≤◌};
 ghost use Rattle.bcs_decode_slice.specs.Passing.{truth_here, whole_here, text_past, bytes_past};
 ghost use Rattle.bcs_decode_source.specs.Reads.{Ready, Reads};
@@ -25,7 +25,7 @@ pub fn truth<S: ByteSource>(reader: &mut Reader<'_, S>) -> Result<(), DecodeFaul
     Ok(())
 }
 
-/// A whole number of so many bytes.
+/// Skips an integer of `width` bytes.
 #[inline(never)]
 pub fn whole<S: ByteSource>(reader: &mut Reader<'_, S>, width: usize) -> Result<(), DecodeFault>
     requires ready { Ready S.is_failed S.allowance reader.old }

@@ -1,4 +1,4 @@
-//! Going past maps from a source. Of their keys the last one is kept, and no value.
+//! Skips maps in a source. Only the last key is stored, and no value.
 ghost use Rattle.std.specs.Prelude.{◌≡◌, length, None, Some, IfOk};
 ghost use Rattle.bcs_registry_model.specs.View.{shape_of};
 ghost use Rattle.bcs_decode_spec.specs.Reading.{key_here, pairs_here, skipping};
@@ -15,7 +15,7 @@ use bcs_decode_spec::DecodeFault;
 use bcs_io::ByteSource;
 use bcs_registry::Format;
 
-/// A map.
+/// Skips a map.
 #[inline(never)]
 #[cycle(scanning)]
 pub fn pairs<S: ByteSource>(
@@ -31,7 +31,7 @@ pub fn pairs<S: ByteSource>(
     each_entry(reader, key, part, count, depth)
 }
 
-/// So many entries, whose keys rise.
+/// Skips `count` entries, whose keys must ascend.
 #[cycle(scanning)]
 fn each_entry<S: ByteSource>(
     reader: &mut Reader<'_, S>,
@@ -55,7 +55,7 @@ fn each_entry<S: ByteSource>(
     Ok(())
 }
 
-/// A key that may follow the last one. Its bytes are recorded while it is read.
+/// Skips a key, which must be above the last key. Its bytes are recorded while it is read.
 #[inline(never)]
 #[cycle(scanning)]
 fn next_key<S: ByteSource>(

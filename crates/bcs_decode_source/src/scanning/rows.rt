@@ -1,4 +1,4 @@
-//! Going past values in a row from a source.
+//! Skips lists, arrays and tuples in a source.
 ghost use Rattle.std.specs.Prelude.{◌≡◌, true};
 ghost use Rattle.bcs_registry_model.specs.Shape.{tuple as tuple_shape};
 ghost use Rattle.bcs_registry_model.specs.View.{shape_of, formats_shapes};
@@ -18,7 +18,7 @@ use bcs_decode_spec::DecodeFault;
 use bcs_io::ByteSource;
 use bcs_registry::Format;
 
-/// A list or an array.
+/// Skips a list, or an array of `size` elements.
 #[inline(never)]
 #[cycle(scanning)]
 pub fn items<S: ByteSource>(
@@ -35,7 +35,7 @@ pub fn items<S: ByteSource>(
     elements(reader, element, count, depth)
 }
 
-/// So many values: whole numbers by blocks, and others one by one.
+/// Skips `count` values: integers in blocks, and others one by one.
 #[cycle(scanning)]
 fn elements<S: ByteSource>(
     reader: &mut Reader<'_, S>,
@@ -56,7 +56,7 @@ fn elements<S: ByteSource>(
     Ok(())
 }
 
-/// A tuple.
+/// Skips a tuple.
 #[inline(never)]
 #[cycle(scanning)]
 pub fn tuple<S: ByteSource>(

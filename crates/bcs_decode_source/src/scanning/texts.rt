@@ -1,4 +1,4 @@
-//! Texts that are validated by blocks.
+//! Validates strings in blocks.
 ghost use Rattle.std.specs.Prelude.{◌≡◌, ◌+◌, ◌-◌, ◌≤◌, length, take, slice_range, OnOk};
 ghost use Rattle.std.specs.Str.{IsUtf8};
 ghost use Rattle.bcs_decode_spec.specs.Reading.{bytes_here};
@@ -14,18 +14,19 @@ use crate::scanning::valid::valid_len;
 use bcs_decode_spec::{DecodeFault, Reason, Stop};
 use bcs_io::ByteSource;
 
-/// How many bytes are taken at a time.
+/// The number of bytes to read at a time.
 const BLOCK: u32 = 512;
 
-/// How many bytes of a character may be without its last.
+/// The longest incomplete character: all bytes of a UTF-8 character but the last (RFC 3629).
 const HELD: u32 = 3;
 
-/// How many bytes are validated at a time.
+/// The number of bytes to validate at a time.
 const ROOM: usize = 515;
 
-/// A text of so many bytes. Its bytes up to `good` are a text, and those from there up to `done` are held, to be validated
-/// with the next block. Where more are held than a character may be without its last byte, they begin no character,
-/// whatever comes; so the others are gone past only to see that they come.
+/// Validates and skips a string of `count` bytes, a block at a time. The bytes before `good` are valid UTF-8. Those
+/// from `good` to `done` may be the start of a character, and are carried over to the next block. If more than three
+/// are carried over, the string is invalid whatever follows; the remaining bytes are then read only to check that they
+/// exist.
 #[inline(never)]
 pub fn pass_text<S: ByteSource>(reader: &mut Reader<'_, S>, count: u32) -> Result<(), DecodeFault>
     requires ready { Ready S.is_failed S.allowance reader.old }
@@ -53,7 +54,7 @@ pub fn pass_text<S: ByteSource>(reader: &mut Reader<'_, S>, count: u32) -> Resul
     Ok(())
 }
 
-/// Takes so many bytes behind those that are held.
+/// Reads `size` bytes into the block, after the `held` ones carried over.
 #[inline(always)]
 fn read_behind<S: ByteSource>(
     reader: &mut Reader<'_, S>,
@@ -72,8 +73,8 @@ fn read_behind<S: ByteSource>(
     read_exact(reader, &mut block[held..held + size])
 }
 
-/// Validates the first bytes of the block, so many, and moves those behind the text that they begin with to the front.
-/// Answers how long that text is.
+/// Validates the first `size` bytes of the block, moves those after the longest valid prefix to the start, and returns
+/// that prefix's length.
 #[inline(always)]
 fn settle(block: &mut [u8], size: usize) -> usize
     requires within { size ≤ length block.old }

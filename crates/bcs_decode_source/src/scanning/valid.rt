@@ -1,9 +1,9 @@
-//! How far a block is UTF-8.
+//! How much of a block is valid UTF-8.
 ghost use Rattle.std.specs.Prelude.{◌≡◌, ◌-◌, ◌≤◌, length, take, drop};
 ghost use Rattle.std.specs.Str.{IsUtf8};
 ghost use Rattle.bcs_decode_source.specs.Texts.{BeginsNoText};
 
-/// How many bytes the longest front has that is UTF-8.
+/// The length of the longest prefix that is valid UTF-8.
 pub fn valid_len(bytes: &[u8]) -> usize
     ensures within { result ≤ length bytes.now }
     ensures front { IsUtf8 (take result bytes.now) }

@@ -19,7 +19,7 @@ use bcs_io::ByteSource;
 use bcs_registry::Format;
 use bcs_registry_model::{Kind, Scalar};
 
-/// Goes past a value of the format, inside which so many containers may open.
+/// Validates and skips one value of `format`. At most `depth` more containers may be opened.
 #[inline(always)]
 #[cycle(scanning)]
 pub fn value<S: ByteSource>(
@@ -47,7 +47,7 @@ pub fn value<S: ByteSource>(
     }
 }
 
-/// An option.
+/// Skips an option.
 #[inline(never)]
 #[cycle(scanning)]
 fn option<S: ByteSource>(

@@ -1,7 +1,7 @@
 use Rattle.bcs_explain.proofs.Prelude.{◌≡◌, ℕ, ◌+◌, ◌-◌, ◌*◌, ◌<◌, ◌^◌, None, length, max, map, drop, field_shapes, payload_shape, shape_of, formats_shapes, field_of, payload_of, levels, shapes_levels, items_here, pairs_here, skipping, key_bytes, Onward, skip, each, StaysCovered}
 use Rattle.bcs_explain.proofs.+walking.Given as goal
 
--- A measure of the work left. A format in a registry has at most 33 levels, including those of its container.
+-- a measure of the work left: a format in a registry has at most 33 levels, including those of its container
 abbrev work : ℕ → ℕ → ℕ
 work d n = 10 * (35 * d + n)
 

@@ -1,4 +1,4 @@
-//! A sink that takes a piece a call.
+//! A sink that accepts a limited number of bytes in each call.
 ghost use Rattle.std.specs.Prelude.{◌≡◌, ◌+◌, ◌-◌, ◌<◌, ◌≤◌, ◌↔◌, true, false, [], Some, Option, take, min, IsErr, IfOk, OnErr};
 ghost use Rattle.bcs_io.specs.PieceSink.{State, Fails, share, after_taking, after_failing};
 ghost use Rattle.bcs_io.specs.Calls.{one_fewer};
@@ -7,8 +7,8 @@ ghost use Rattle.bcs_io.specs.Taking.{Takes};
 use crate::sink::{ByteSink, SinkFailed};
 use std::marker::Model;
 
-/// Keeps the bytes that it takes in an array of `N`, and takes no memory. A call takes at most
-/// `piece` bytes. It fails from a chosen call on, and where the array has no room.
+/// Stores up to `N` bytes in an array, without allocating. Each call accepts at most `piece` bytes. It fails from a
+/// chosen call on, and when the array is full.
 #[derive(Drop)]
 pub struct PieceSink<const N: usize> {
     bytes: [u8; N],
@@ -18,7 +18,7 @@ pub struct PieceSink<const N: usize> {
     has_failed: bool,
 }
 
-// Clauses see the bytes that it took, and what it does next.
+// Contracts see the stored bytes, and what the sink will do next.
 impl<const N: usize> Model for PieceSink<N> {
     ghost Value = { State };
 
@@ -33,8 +33,7 @@ impl<const N: usize> Model for PieceSink<N> {
 }
 
 impl<const N: usize> PieceSink<N> {
-    /// Nothing is taken yet. The call of `put` with the number `fail_at`, counted from 1, fails,
-    /// and so does every later one; 0 stands for 1.
+    /// An empty sink. Call number `fail_at` of `put`, counted from 1, fails, and so do all later ones; 0 means 1.
     pub fn new(piece: usize, fail_at: Option<u64>) -> Self
         requires { 1 ≤ piece }
         ensures { result ≡ record {
@@ -53,7 +52,7 @@ impl<const N: usize> PieceSink<N> {
         }
     }
 
-    /// The bytes that it took.
+    /// The stored bytes.
     pub fn taken(&self) -> &[u8]
         ensures { result.now ≡ self.now.taken }
     {

@@ -1,4 +1,4 @@
-//! A source that gives a piece a call.
+//! A source that returns a limited number of bytes in each call.
 ghost use Rattle.std.specs.Prelude.{◌≡◌, ◌+◌, ◌-◌, ◌<◌, ◌≤◌, ◌↔◌, ◌^◌, true, false, Some, Option, length, min, IsErr, IfOk, OnErr};
 ghost use Rattle.std.proofs.Common.{arith};
 ghost use Rattle.bcs_io.specs.Calls.{one_fewer};
@@ -8,7 +8,7 @@ ghost use Rattle.bcs_io.specs.Giving.{Gives};
 use crate::source::{ByteSource, SourceFailed};
 use std::marker::Model;
 
-/// Gives the bytes of a slice, at most `piece` of them a call. It fails from a chosen call on.
+/// Returns the bytes of a slice, at most `piece` in each call. It fails from a chosen call on.
 #[derive(Drop)]
 pub struct PieceSource<'a> {
     rest: &'a [u8],
@@ -18,7 +18,7 @@ pub struct PieceSource<'a> {
     has_failed: bool,
 }
 
-// Clauses see the bytes, how many of them it gave, and what it does next.
+// Contracts see the remaining bytes, the number of bytes returned, and what the source will do next.
 impl<'a> Model for PieceSource<'a> {
     ghost Value = { State };
 
@@ -34,8 +34,8 @@ impl<'a> Model for PieceSource<'a> {
 }
 
 impl<'a> PieceSource<'a> {
-    /// Nothing is given yet. The call of `next` with the number `fail_at`, counted from 1, fails,
-    /// and so does every later one; 0 stands for 1.
+    /// A source at the start of `bytes`. Call number `fail_at` of `next`, counted from 1, fails, and so do all later
+    /// ones; 0 means 1.
     pub fn new(bytes: &'a [u8], piece: usize, fail_at: Option<u64>) -> Self
         requires { 1 ≤ piece }
         ensures { result ≡ record {
@@ -55,7 +55,7 @@ impl<'a> PieceSource<'a> {
         }
     }
 
-    /// How many bytes it gave.
+    /// The number of bytes returned so far.
     pub fn given(&self) -> u64
         ensures { result ≡ self.now.given }
     {

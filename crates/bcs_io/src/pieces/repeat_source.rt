@@ -1,4 +1,4 @@
-//! A source of one byte.
+//! A source that repeats one byte.
 ghost use Rattle.std.specs.Prelude.{◌≡◌, ◌+◌, ◌-◌, ◌<◌, false, Some, Ok, length, min, IfOk};
 ghost use Rattle.std.proofs.Common.{arith};
 ghost use Rattle.bcs_io.specs.RepeatSource.{State, rest, allowance_of};
@@ -7,14 +7,14 @@ ghost use Rattle.bcs_io.specs.Giving.{Gives};
 use crate::source::{ByteSource, SourceFailed};
 use std::marker::Model;
 
-/// Gives one byte 18446744073709551615 times. It never fails.
+/// Returns the same byte 18446744073709551615 times. It never fails.
 #[derive(Drop)]
 pub struct RepeatSource {
     byte: u8,
     given: u64,
 }
 
-// Clauses see the byte, and how many times it gave it.
+// Contracts see the byte, and how many times it has been returned.
 impl Model for RepeatSource {
     ghost Value = { State };
 
@@ -22,14 +22,14 @@ impl Model for RepeatSource {
 }
 
 impl RepeatSource {
-    /// Nothing is given yet.
+    /// A source that hasn't returned anything yet.
     pub fn new(byte: u8) -> Self
         ensures { result ≡ record { byte = byte; given = 0 } }
     {
         RepeatSource { byte, given: 0 }
     }
 
-    /// How many bytes it gave.
+    /// The number of bytes returned so far.
     pub fn given(&self) -> u64
         ensures { result ≡ self.now.given }
     {

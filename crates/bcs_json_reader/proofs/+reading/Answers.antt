@@ -44,7 +44,7 @@ pub reading::read-returns-in-TupleArray-clause-placed : goal.reading::read-retur
 reading::read-returns-in-TupleArray-clause-placed t c =
     placed_as c.args.registry.now _ _ c.read_array.result (ap (λ s. parts c.args.registry.now c.args.left (value (of s)) (view c.args.json)) (shape_seen c.args.format.now c.kind.result _ c.kind.ensures c.in-TupleArray.is)) c.read_array.ensures.placed
 
--- ---- JSON that is refused for its own kind
+-- ---- JSON of the wrong kind
 
 pub reading::read_option-returns-in_err-option_of-clause-placed : goal.reading::read_option-returns-in_err-option_of-clause-placed
 reading::read_option-returns-in_err-option_of-clause-placed t c =
@@ -81,7 +81,7 @@ containers::read_enum-returns-in_err-word-clause-placed t c =
     let p = err_from_is_err_and c.from_residual.result c.from_residual.ensures.1 in
     rw p.1 (placed_none c.args.registry.now _ _ p.2.1 (enum_none c.args.left (map choice_of c.args.variants.now.entries) (view c.args.json) _ c.in_err-word.ensures.fault))
 
--- ---- arrays of so many items
+-- ---- arrays of a fixed size
 
 pub reading::read_array-returns-in_err-exactly-in-Array-clause-reports : goal.reading::read_array-returns-in_err-exactly-in-Array-clause-reports
 reading::read_array-returns-in_err-exactly-in-Array-clause-reports t c =
@@ -154,7 +154,7 @@ containers::read_enum-returns-in_err-value-in-Member-clause-placed t c =
     (record { reports = c.read_payload-outcome.ensures.reports; placed = c.read_payload-outcome.ensures.placed })
     (outside_named _ _ _ _ c.as_str-in-Member.ensures.value (record { same = c.in_err-value-in-Member.ensures.same; location = c.in_err-value-in-Member.ensures.location })))
 
--- ---- parts in a row
+-- ---- parts, one after another
 
 pub parts::read_all-returns-in-Some-clause-reports : goal.parts::read_all-returns-in-Some-clause-reports
 parts::read_all-returns-in-Some-clause-reports t c =

@@ -4,7 +4,7 @@ use Rattle.bcs_json_reader.proofs.Rows.{joined}
 use Rattle.bcs_json_reader.proofs.PairRows.{joined_pairs}
 use Rattle.bcs_json_reader.proofs.+reading.Given as goal
 
--- a format in a registry has at most 33 levels with those of its container
+-- a format in a registry has at most 33 levels, including those of its container
 abbrev work : ℕ → ℕ → ℕ
 work d n = 10 * (35 * d + n)
 
@@ -56,7 +56,7 @@ decreases-containers::read_enum l = work l.left 34 + 1
 abbrev pub decreases-containers::read_payload : goal.decreases-containers::read_payload
 decreases-containers::read_payload l = work l.left (levels (payload_shape (payload_of l.payload.now))) + 6
 
--- in each loop the whole is what was read so far, before what is still to be read, and a place there is one of the whole
+-- in each loop, what was read so far and what is left are the whole, and a place in what is left is one in the whole
 
 abbrev pub invariant-parts::read_all-loop-item : goal.invariant-parts::read_all-loop-item
 invariant-parts::read_all-loop-item l =

@@ -1,4 +1,4 @@
-//! Containers as JSON values.
+//! The JSON of containers.
 ghost use Rattle.std.specs.Prelude.{◌≡◌, IfOk};
 ghost use Rattle.bcs_registry_json.specs.Shown.{shown_container};
 ghost use Rattle.bcs_registry_model.specs.View.{container_of};
@@ -11,7 +11,7 @@ use bcs_registry_model::Container;
 use serde_json::Value;
 use std::alloc::{AllocError, Global};
 
-/// A container: a word, or an object with one member.
+/// The JSON of a container: a string, or an object with one member.
 pub fn container_value(alloc: Global, container: &Container) -> Result<Value, AllocError>
     ensures { IfOk result (λ v. view v ≡ shown_container (container_of container.now)) }
 {

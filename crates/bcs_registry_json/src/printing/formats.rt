@@ -1,4 +1,4 @@
-//! Formats and fields as JSON values.
+//! The JSON of formats and fields.
 ghost use Rattle.std.specs.Prelude.{◌≡◌, IfOk, codes, map};
 ghost use Rattle.bcs_registry_json.specs.Shown.{single, shown_format, shown_formats, shown_struct};
 ghost use Rattle.bcs_registry_model.specs.View.{shape_of, formats_shapes, field_of};
@@ -10,7 +10,7 @@ use bcs_registry_model::{Format, Kind, Named};
 use serde_json::{Value, json};
 use std::alloc::{AllocError, Global};
 
-/// The two formats of a finite map.
+/// The JSON of a map format.
 fn map_value(alloc: Global, key: Value, value: Value) -> Result<Value, AllocError>
     ensures { IfOk result (λ v. view v ≡ single (codes "MAP") (object
         (member (codes "KEY") (view key) (member (codes "VALUE") (view value) no_members)))) }
@@ -18,7 +18,7 @@ fn map_value(alloc: Global, key: Value, value: Value) -> Result<Value, AllocErro
     json!(in alloc; {"MAP": {"KEY": key, "VALUE": value}})
 }
 
-/// The format of an array's elements, and how many they are.
+/// The JSON of an array format with `size` elements.
 fn array_value(alloc: Global, content: Value, size: u64) -> Result<Value, AllocError>
     ensures { IfOk result (λ v. view v ≡ single (codes "TUPLEARRAY") (object
         (member (codes "CONTENT") (view content) (member (codes "SIZE") (number (unsigned size)) no_members)))) }
@@ -26,7 +26,7 @@ fn array_value(alloc: Global, content: Value, size: u64) -> Result<Value, AllocE
     json!(in alloc; {"TUPLEARRAY": {"CONTENT": content, "SIZE": size}})
 }
 
-/// A format: a word, or an object with one member.
+/// The JSON of a format: a string, or an object with one member.
 #[cycle(format_value)]
 pub fn format_value(alloc: Global, format: &Format) -> Result<Value, AllocError>
     ensures { IfOk result (λ v. view v ≡ shown_format (shape_of format.now)) }
@@ -52,7 +52,7 @@ pub fn format_value(alloc: Global, format: &Format) -> Result<Value, AllocError>
     }
 }
 
-/// The formats in their order.
+/// The JSON of each format, in the same order.
 #[cycle(format_value)]
 pub fn format_values(alloc: Global, formats: &[Format]) -> Result<Vec<Value>, AllocError>
     ensures { IfOk result (λ v. items_view v.items ≡ shown_formats (formats_shapes formats.now)) }
@@ -64,7 +64,7 @@ pub fn format_values(alloc: Global, formats: &[Format]) -> Result<Vec<Value>, Al
     Ok(values)
 }
 
-/// The fields, each an object of its own, in their order.
+/// The JSON of each field, in the same order: an object with one member.
 pub fn field_values(alloc: Global, fields: &Vec<Named<Format>>) -> Result<Vec<Value>, AllocError>
     ensures { IfOk result (λ v. items_view v.items ≡ shown_struct (map field_of fields.now.items)) }
 {

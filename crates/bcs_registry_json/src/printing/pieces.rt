@@ -1,4 +1,4 @@
-//! The words and objects of which the JSON of a registry is made.
+//! The strings and objects that the JSON of a registry consists of.
 ghost use Rattle.std.specs.Prelude.{◌≡◌, IfOk};
 ghost use Rattle.bcs_registry_json.specs.Shown.{single};
 ghost use Rattle.serde_json.specs.Data.{string};
@@ -7,7 +7,7 @@ ghost use Rattle.serde_json.specs.View.{view};
 use serde_json::{Map, Value};
 use std::alloc::{AllocError, Global};
 
-/// A word, as a string.
+/// A keyword or a name, as a string.
 pub fn word(alloc: Global, text: &str) -> Result<Value, AllocError>
     ensures { IfOk result (λ v. view v ≡ string text.now) }
 {

@@ -1,4 +1,4 @@
-//! Variants and their payloads as JSON values.
+//! The JSON of variants and their payloads.
 ghost use Rattle.std.specs.Prelude.{◌≡◌, IfOk, map};
 ghost use Rattle.bcs_registry_json.specs.Shown.{shown_payload, shown_choices};
 ghost use Rattle.bcs_registry_model.specs.View.{payload_of, choice_of};
@@ -12,7 +12,7 @@ use serde_json::{Map, Value};
 use std::alloc::{AllocError, Global};
 use std::collections::BTreeMap;
 
-/// What a variant carries: a word, or an object with one member.
+/// The JSON of a payload: a string, or an object with one member.
 pub fn payload_value(alloc: Global, payload: &VariantFormat) -> Result<Value, AllocError>
     ensures { IfOk result (λ v. view v ≡ shown_payload (payload_of payload.now)) }
 {
@@ -30,7 +30,7 @@ pub fn payload_value(alloc: Global, payload: &VariantFormat) -> Result<Value, Al
     }
 }
 
-/// The variants as members by the digits of their numbers, so that `"10"` stands before `"2"`.
+/// The variants as members. They are sorted by the digits of their numbers, so `"10"` comes before `"2"`.
 pub fn variant_members(
     alloc: Global,
     variants: &BTreeMap<u32, Named<VariantFormat>>,

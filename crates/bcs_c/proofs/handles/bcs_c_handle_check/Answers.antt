@@ -1,13 +1,12 @@
-use Rattle.bcs_c.proofs.Prelude.{◌≡◌, Some}
-use Rattle.bcs_c.proofs.Once.{answers_handle, whatever_handle}
+use Rattle.bcs_c.proofs.Prelude.{given, on_handle, refused, shape_of}
+use Rattle.bcs_c.proofs.Once.{ask_stands}
 use Rattle.bcs_c.proofs.handles.bcs_c_handle_check.Goals as goal
 
-pub returns-clause-answers : goal.returns-clause-answers
-returns-clause-answers c =
-    let is : Some c.deref.result.now ≡ c.args.handle.now.registry = cc (c.deref.ensures, c.in-Some.ensures.taken) in
-    answers_handle c.args.ask.now c.deref.result.now c.args.handle.now.registry is c.soundness-answer.result _ c.soundness-answer.ensures.answers
+pub returns-in-Err-clause-answers : goal.returns-in-Err-clause-answers
+returns-in-Err-clause-answers c = refused c.in-Err.ensures.err.0
 
-pub returns-clause-good : goal.returns-clause-good
-returns-clause-good c =
-    let is : Some c.deref.result.now ≡ c.args.handle.now.registry = cc (c.deref.ensures, c.in-Some.ensures.taken) in
-    whatever_handle c.args.ask.now c.deref.result.now c.args.handle.now.registry is _ c.soundness-answer.ensures.good
+pub returns-in-Err-clause-good : goal.returns-in-Err-clause-good
+returns-in-Err-clause-good c r l s h memory = absurd (memory (ask_stands (on_handle c.args.handle.now.registry c.args.ask.now) r l s c.in-Err.answer h c.in-Err.ensures.err.0))
+
+pub returns-clause-answers : goal.returns-clause-answers
+returns-clause-answers c = let lent = c.in-Ok.lent in given lent.opened.value lent.limits (shape_of lent.known.format) c.in-Ok.ensures.ok c.plain.ensures

@@ -1,8 +1,9 @@
-use Rattle.bcs_c.proofs.Prelude.{◌≡◌, Some}
-use Rattle.bcs_c.proofs.Once.{answers_handle}
+use Rattle.bcs_c.proofs.Prelude.{on_handle, refused}
+use Rattle.bcs_c.proofs.Once.{answers_asked}
 use Rattle.bcs_c.proofs.handles.bcs_c_handle_explain.Goals as goal
 
+pub returns-in-Err-clause-answers : goal.returns-in-Err-clause-answers
+returns-in-Err-clause-answers c = refused c.in-Err.ensures.err.0
+
 pub returns-clause-answers : goal.returns-clause-answers
-returns-clause-answers c =
-    let is : Some c.deref.result.now ≡ c.args.handle.now.registry = cc (c.deref.ensures, c.in-Some.ensures.taken) in
-    answers_handle c.args.ask.now c.deref.result.now c.args.handle.now.registry is c.explanation-answer.result _ c.explanation-answer.ensures.answers
+returns-clause-answers c = answers_asked (on_handle c.args.handle.now.registry c.args.ask.now) c.in-Ok.lent c.asked.result c.in-Ok.ensures.ok c.asked.ensures c.explanation-answer.result _ c.explanation-answer.ensures.answers

@@ -1,18 +1,21 @@
-use Rattle.bcs_c.proofs.Prelude.{◌≡◌, Some}
-use Rattle.bcs_c.proofs.Once.{answers_handle, whatever_handle}
+use Rattle.bcs_c.proofs.Prelude.{on_handle, refused}
+use Rattle.bcs_c.proofs.Once.{answers_asked, ask_stands, whatever_asked}
 use Rattle.bcs_c.proofs.handles.bcs_c_handle_part.Goals as goal
 
+pub returns-in-Err-clause-answers : goal.returns-in-Err-clause-answers
+returns-in-Err-clause-answers c = refused c.in-Err.ensures.err.0
+
 pub returns-clause-answers : goal.returns-clause-answers
-returns-clause-answers c =
-    let is : Some c.deref.result.now ≡ c.args.handle.now.registry = cc (c.deref.ensures, c.in-Some.ensures.taken) in
-    answers_handle c.args.ask.now c.deref.result.now c.args.handle.now.registry is c.part_place-answer.result _ c.part_place-answer.ensures.answers
+returns-clause-answers c = answers_asked (on_handle c.args.handle.now.registry c.args.ask.now) c.in-Ok.lent c.asked.result c.in-Ok.ensures.ok c.asked.ensures c.path_place-answer.result _ c.path_place-answer.ensures.answers
+
+pub returns-in-Err-clause-only : goal.returns-in-Err-clause-only
+returns-in-Err-clause-only c r l s h steps n t path accepts memory = absurd (memory (ask_stands (on_handle c.args.handle.now.registry c.args.ask.now) r l s c.in-Err.answer h c.in-Err.ensures.err.0))
 
 pub returns-clause-only : goal.returns-clause-only
-returns-clause-only c =
-    let is : Some c.deref.result.now ≡ c.args.handle.now.registry = cc (c.deref.ensures, c.in-Some.ensures.taken) in
-    whatever_handle c.args.ask.now c.deref.result.now c.args.handle.now.registry is _ c.part_place-answer.ensures.only
+returns-clause-only c = whatever_asked (on_handle c.args.handle.now.registry c.args.ask.now) c.in-Ok.lent c.asked.result c.in-Ok.ensures.ok c.asked.ensures _ c.path_place-answer.ensures.only
+
+pub returns-in-Err-clause-stopped : goal.returns-in-Err-clause-stopped
+returns-in-Err-clause-stopped c r l s h steps e o path stops memory = absurd (memory (ask_stands (on_handle c.args.handle.now.registry c.args.ask.now) r l s c.in-Err.answer h c.in-Err.ensures.err.0))
 
 pub returns-clause-stopped : goal.returns-clause-stopped
-returns-clause-stopped c =
-    let is : Some c.deref.result.now ≡ c.args.handle.now.registry = cc (c.deref.ensures, c.in-Some.ensures.taken) in
-    whatever_handle c.args.ask.now c.deref.result.now c.args.handle.now.registry is _ c.part_place-answer.ensures.stopped
+returns-clause-stopped c = whatever_asked (on_handle c.args.handle.now.registry c.args.ask.now) c.in-Ok.lent c.asked.result c.in-Ok.ensures.ok c.asked.ensures _ c.path_place-answer.ensures.stopped

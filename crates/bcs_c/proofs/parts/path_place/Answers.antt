@@ -5,7 +5,7 @@ use Rattle.bcs_c.proofs.parts.path_place.Goals as goal
 pub returns-in-Ok-steps_of-clause-answers : goal.returns-in-Ok-steps_of-clause-answers
 returns-in-Ok-steps_of-clause-answers c =
     let asked = c.args.asked.now in
-    let s = shape_of asked.format in
+    let s = shape_of asked.format.now in
     let same = ap (map step_of) c.as_slice-in-Ok-steps_of.ensures.value ∙ c.in-Ok-steps_of.ensures ∙ ap all_spelled c.as_slice.ensures.value in
     let answers =
     by_steps asked.registry.now asked.limits s c.args.bytes.now c.args.path.now c.step_place.result (all_spelled c.in-Ok.spelled.items)
@@ -16,7 +16,7 @@ returns-in-Ok-steps_of-clause-answers c =
 pub returns-in-Ok-steps_of-clause-only : goal.returns-in-Ok-steps_of-clause-only
 returns-in-Ok-steps_of-clause-only c steps n t path h memory =
     let asked = c.args.asked.now in
-    let s = shape_of asked.format in
+    let s = shape_of asked.format.now in
     let same = ap (map step_of) c.as_slice-in-Ok-steps_of.ensures.value ∙ c.in-Ok-steps_of.ensures ∙ ap all_spelled c.as_slice.ensures.value in
     let answers =
     by_steps asked.registry.now asked.limits s c.args.bytes.now c.args.path.now c.step_place.result (all_spelled c.in-Ok.spelled.items)
@@ -27,7 +27,7 @@ returns-in-Ok-steps_of-clause-only c steps n t path h memory =
 pub returns-in-Ok-steps_of-clause-stopped : goal.returns-in-Ok-steps_of-clause-stopped
 returns-in-Ok-steps_of-clause-stopped c steps e o path h =
     let asked = c.args.asked.now in
-    let s = shape_of asked.format in
+    let s = shape_of asked.format.now in
     let same = ap (map step_of) c.as_slice-in-Ok-steps_of.ensures.value ∙ c.in-Ok-steps_of.ensures ∙ ap all_spelled c.as_slice.ensures.value in
     let answers =
     by_steps asked.registry.now asked.limits s c.args.bytes.now c.args.path.now c.step_place.result (all_spelled c.in-Ok.spelled.items)

@@ -8,7 +8,7 @@ returns-in-Ok-Some c =
     let asked = c.args.asked.now in
     let r = asked.registry.now in
     let value = c.in-Ok-Some.ensures.found in
-    let at = part_at r (map step_of c.args.steps.now) (of (shape_of asked.format)) value.1 in
+    let at = part_at r (map step_of c.args.steps.now) (of (shape_of asked.format.now)) value.1 in
     let gives = subst (λ (x : Option Part). GivesPart r c.args.bytes.now at x) c.in-Ok-Some.field-0-is value.3 in
     found value.0 value.1 value.2 (finds r c.args.bytes.now c.placed.result at c.in-Ok-Some.found gives c.placed.ensures)
 
@@ -17,7 +17,7 @@ returns-in-Ok-None c =
     let asked = c.args.asked.now in
     let r = asked.registry.now in
     let value = c.in-Ok-None.ensures.found in
-    let at = part_at r (map step_of c.args.steps.now) (of (shape_of asked.format)) value.1 in
+    let at = part_at r (map step_of c.args.steps.now) (of (shape_of asked.format.now)) value.1 in
     let gives = subst (λ (x : Option Part). GivesPart r c.args.bytes.now at x) c.in-Ok-None.field-0-is value.3 in
     found value.0 value.1 value.2 (finds_none r c.args.bytes.now c.plain.result at gives c.plain.ensures)
 

@@ -1,9 +1,9 @@
-use Rattle.bcs_c.proofs.Prelude.{no_registry, refused}
-use Rattle.bcs_c.proofs.Once.{answers_text}
+use Rattle.bcs_c.proofs.Prelude.{by_texts, refused}
+use Rattle.bcs_c.proofs.Once.{answers_asked}
 use Rattle.bcs_c.proofs.places.bcs_c_text_place.Goals as goal
 
-pub returns-in-Ok-clause-answers : goal.returns-in-Ok-clause-answers
-returns-in-Ok-clause-answers c = answers_text c.args.ask.now c.in-Ok.registry c.in-Ok.ensures.ok c.rest.result c.text_place.result _ c.rest.ensures c.text_place.ensures.answers
+pub returns-clause-answers : goal.returns-clause-answers
+returns-clause-answers c = answers_asked (by_texts c.args.ask.now) c.in-Ok.lent c.asked.result c.in-Ok.ensures.ok c.asked.ensures c.text_place.result _ c.text_place.ensures.answers
 
 pub returns-in-Err-clause-answers : goal.returns-in-Err-clause-answers
-returns-in-Err-clause-answers c = refused (no_registry c.in-Err.ensures.err)
+returns-in-Err-clause-answers c = refused c.in-Err.ensures.err

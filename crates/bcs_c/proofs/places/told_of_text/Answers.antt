@@ -1,4 +1,4 @@
-use Rattle.bcs_c.proofs.Prelude.{◌∙◌, Err, List, Ok, Result, ap, map, sym, ℕ, IfOk, IfSome, result_ok, pointer_step_of, JsonStep, whole, pointer}
+use Rattle.bcs_c.proofs.Prelude.{◌∙◌, Err, List, Ok, Result, ap, map, sym, ℕ, IfOk, IfSome, result_ok, pointer_step_of, JsonStep, MisspellsAt, shape_of, subst, whole, pointer}
 use Rattle.bcs_c.specs.Places.{placed}
 use Rattle.bcs_c.proofs.places.told_of_text.Goals as goal
 
@@ -7,10 +7,11 @@ some_of_ok (Ok x) h f = f x h
 some_of_ok (Err e) h f = tt
 
 pub returns-then-has_no_way : goal.returns-then-has_no_way
-returns-then-has_no_way c what refuses = whole c.args.fault refuses (sym c.has_no_way.ensures ∙ c.if-has_no_way.true) c.new.ensures.items
+returns-then-has_no_way c what other refused = whole c.args.refusal.now.fault (refused.0 other) (sym c.has_no_way.ensures ∙ c.if-has_no_way.true) c.new.ensures.items
 
-pub returns-in_ok-steps : goal.returns-in_ok-steps
-returns-in_ok-steps c =
-    rw c.ok.ensures.value (some_of_ok c.pointer_of.result c.pointer_of.ensures (λ x is what refuses.
-    placed (map pointer_step_of c.in_ok-steps.steps.items) c.in_ok-steps.field-0-0 c.in_ok-steps.ensures.place
+pub returns-in-Some : goal.returns-in-Some
+returns-in-Some c =
+    rw c.ok.ensures.value (some_of_ok c.pointer_of.result c.pointer_of.ensures (λ x is what other refused.
+    placed (map pointer_step_of c.in-Some.steps.items) c.args.refusal.now.fault
+    (subst (λ o. IfSome o (λ v. MisspellsAt c.args.asked.now.registry.now c.args.asked.now.limits (shape_of c.args.asked.now.format.now) c.args.text.now (map pointer_step_of v.items) c.args.refusal.now.fault)) c.in-Some.is refused.1)
     (is ∙ ap (λ (steps : List JsonStep). pointer (map pointer_step_of steps)) c.deref.ensures.value)))

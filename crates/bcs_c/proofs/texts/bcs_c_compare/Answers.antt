@@ -1,9 +1,9 @@
-use Rattle.bcs_c.proofs.Prelude.{no_registry, refused}
-use Rattle.bcs_c.proofs.Once.{answers_text}
+use Rattle.bcs_c.proofs.Prelude.{by_texts, refused}
+use Rattle.bcs_c.proofs.Once.{answers_asked}
 use Rattle.bcs_c.proofs.texts.bcs_c_compare.Goals as goal
 
-pub returns-in-Ok : goal.returns-in-Ok
-returns-in-Ok c = answers_text c.args.ask.now c.in-Ok.registry c.in-Ok.ensures.ok c.rest.result c.comparison.result _ c.rest.ensures c.comparison.ensures
+pub returns : goal.returns
+returns c = answers_asked (by_texts c.args.ask.now) c.in-Ok.lent c.asked.result c.in-Ok.ensures.ok c.asked.ensures c.comparison.result _ c.comparison.ensures
 
 pub returns-in-Err : goal.returns-in-Err
-returns-in-Err c = refused (no_registry c.in-Err.ensures.err)
+returns-in-Err c = refused c.in-Err.ensures.err

@@ -1,27 +1,23 @@
-use Rattle.bcs_c.proofs.Prelude.{Bool, subst, shape_of, Compares, given, refused, different, equal}
+use Rattle.bcs_c.proofs.Prelude.{Bool, subst, shape_of, Compares, different, equal}
 use Rattle.bcs_c.proofs.Refusals.{texts_refused}
 use Rattle.bcs_c.proofs.texts.comparison.Goals as goal
 
-pub returns-in-Err : goal.returns-in-Err
-returns-in-Err c = refused c.in-Err.ensures.err
-
 pub returns-in-Ok-true : goal.returns-in-Ok-true
 returns-in-Ok-true c =
-    let asked = c.in-Ok.asked in
-    let s = shape_of asked.format in
+    let asked = c.args.asked.now in
+    let s = shape_of asked.format.now in
     let compares = subst (λ (x : Bool). Compares asked.registry.now asked.limits s c.args.first.now c.args.second.now x) c.in-Ok-true.field-0-test c.in-Ok-true.ensures.compares in
-    given asked.registry.now asked.limits s c.in-Ok.ensures.ok (equal compares c.plain.ensures)
+    equal compares c.plain.ensures
 
 pub returns-in-Ok-false : goal.returns-in-Ok-false
 returns-in-Ok-false c =
-    let asked = c.in-Ok.asked in
-    let s = shape_of asked.format in
+    let asked = c.args.asked.now in
+    let s = shape_of asked.format.now in
     let compares = subst (λ (x : Bool). Compares asked.registry.now asked.limits s c.args.first.now c.args.second.now x) c.in-Ok-false.field-0-test c.in-Ok-false.ensures.compares in
-    given asked.registry.now asked.limits s c.in-Ok.ensures.ok (different compares c.plain-in-Ok-false.ensures)
+    different compares c.plain-in-Ok-false.ensures
 
-pub returns : goal.returns
-returns c =
-    let asked = c.in-Ok.asked in
-    given asked.registry.now asked.limits (shape_of asked.format) c.in-Ok.ensures.ok
-    (texts_refused asked.registry.now asked.limits (shape_of asked.format) c.args.first.now c.args.second.now
-    c.in-Err-compare.fault c.text_refusal.result c.in-Err-compare.ensures.fault c.text_refusal.ensures.memory c.text_refusal.ensures.refusal)
+pub returns-in-Err : goal.returns-in-Err
+returns-in-Err c =
+    let asked = c.args.asked.now in
+    texts_refused asked.registry.now asked.limits (shape_of asked.format.now) c.args.first.now c.args.second.now
+    c.in-Err.fault c.text_refusal.result c.in-Err.ensures.fault c.text_refusal.ensures.memory c.text_refusal.ensures.refusal

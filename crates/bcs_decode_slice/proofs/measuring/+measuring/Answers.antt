@@ -22,7 +22,7 @@ array_size-returns-clause-fixed t c =
     IfSome_then c.followed_by.result c.followed_by.ensures.sum (λ z sum.
     (goes_as (skip r d (array_shape s n)) (0 + n * e.bytes) z.bytes (1 + n * e.nodes) z.nodes (omega (arith, sum.0, product.0)) (omega (arith, sum.1, product.1)) goes, omega (arith, sum.1)))
 
--- ---- rows
+-- ---- element lists
 
 pub row_size-loop-place-init : goal.row_size-loop-place-init
 row_size-loop-place-init t c = record {

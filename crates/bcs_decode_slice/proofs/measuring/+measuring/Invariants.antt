@@ -3,7 +3,7 @@ use Rattle.bcs_decode_slice.proofs.PassingParts.{each}
 use Rattle.bcs_decode_slice.proofs.Reaching.{Reaches}
 use Rattle.bcs_decode_slice.proofs.measuring.+measuring.Given as goal
 
--- each format that is looked at is one look less
+-- each format that is examined reduces `looks` by one
 abbrev pub decreases-value_size : goal.decreases-value_size
 decreases-value_size l = 4 * l.looks.now
 

@@ -4,7 +4,7 @@ use Rattle.bcs_decode_slice.proofs.PassingParts.{option_stop, option_some, optio
 use Rattle.bcs_decode_slice.proofs.Openings.{content_stop, content_on}
 use Rattle.bcs_decode_slice.proofs.scanning.+scanning.Goals as goal
 
--- ---- values in a row
+-- ---- sequences of values
 
 pub elements-returns-in_err-value-clause-passes : goal.elements-returns-in_err-value-clause-passes
 elements-returns-in_err-value-clause-passes t c =
@@ -89,7 +89,7 @@ named-returns-clause-passes t c =
     (named_past r c.args.name.now _ _ _ c.args.depth _ _ _ c.in-Some.container.now c.in_ok-enter.ensures.positive c.in_ok-enter.ensures.passes (content_found r c.args.name.now c.container.result c.in-Some.container c.container.ensures.found c.in-Some.is))
     c.content.ensures.passes
 
--- ---- containers in a row
+-- ---- sequences of containers
 
 pub containers-returns-in_err-enter-clause-passes : goal.containers-returns-in_err-enter-clause-passes
 containers-returns-in_err-enter-clause-passes t c name is =
@@ -125,7 +125,7 @@ pub containers-returns-clause-passes : goal.containers-returns-clause-passes
 containers-returns-clause-passes t c name is =
     c.loop.invariant.whole name is ∙ items_end (skip c.args.registry.now c.args.depth (name_shape name)) c.args.count c.loop.counter _ _ _ c.loop-test.false
 
--- ---- what stands in containers
+-- ---- contents of containers
 
 pub content-laid-requires : goal.content-laid-requires
 content-laid-requires t c =

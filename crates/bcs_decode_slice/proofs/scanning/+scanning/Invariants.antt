@@ -2,7 +2,7 @@ use Rattle.bcs_decode_slice.proofs.Prelude.{◌≡◌, ℕ, List, ◌+◌, ◌-�
 use Rattle.bcs_decode_slice.proofs.PassingParts.{each}
 use Rattle.bcs_decode_slice.proofs.scanning.+scanning.Given as goal
 
--- a format in a registry has at most 33 levels with those of its container
+-- a format in a registry has at most 33 levels, including those of its container
 abbrev work : ℕ → ℕ → ℕ
 work d n = 10 * (35 * d + n)
 

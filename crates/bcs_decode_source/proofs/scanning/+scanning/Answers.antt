@@ -81,7 +81,7 @@ values::option-returns-else-branch-clause-reads g t c =
     Leads-done {g = held_past f c.in_ok-flag_node.field-0} (Leads-on (Leads-none {f = option_node skipping f} {g = option_node skipping f} c.requires.ready (λ b. refl)) c.in_ok-flag_node.ensures.reads (λ b t h. option_on f _ _ b c.in_ok-flag_node.field-0 _ _ t h))
     (λ b. absent_is f c.in_ok-flag_node.field-0 _ _ b c.if-branch.false)
 
--- ---- rows
+-- ---- lists
 
 pub rows::items-returns-in_err-count-clause-reads : goal.rows::items-returns-in_err-count-clause-reads
 unfolding items_node
@@ -417,7 +417,7 @@ maps::next_key-returns-clause-reads g t c =
       same = search rules;
     }
 
--- ---- want of memory
+-- ---- out of memory
 
 pub values::value-returns-in-Opt-clause-memory : goal.values::value-returns-in-Opt-clause-memory
 values::value-returns-in-Opt-clause-memory g t c =

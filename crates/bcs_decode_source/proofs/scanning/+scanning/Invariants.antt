@@ -2,7 +2,7 @@ use Rattle.bcs_decode_source.proofs.Prelude.{◌≡◌, ℕ, ◌+◌, ◌-◌, �
 use Rattle.bcs_decode_source.proofs.Leading.{Leads, LeadsTo}
 use Rattle.bcs_decode_source.proofs.scanning.+scanning.Given as goal
 
--- a format in a registry has at most 33 levels with those of its container
+-- a format in a registry has at most 33 levels, including those of its container
 abbrev work : ℕ → ℕ → ℕ
 work d n = 10 * (35 * d + n)
 

@@ -1,7 +1,7 @@
 use Rattle.std.proofs.Common.{◌+◌, ◌*◌, ◌≤◌}
 use Rattle.bcs_display_example.proofs.filling.+filling.Given as goal
 
--- each value takes a node of those that are left
+-- Each value takes at least one node from the budget.
 
 abbrev pub decreases-fill : goal.decreases-fill
 decreases-fill l = 4 * l.left.now + 1

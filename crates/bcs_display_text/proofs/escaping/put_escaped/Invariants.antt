@@ -4,7 +4,7 @@ use Rattle.bcs_display_text.specs.Escaped.{escaped, escaped_unit}
 use Rattle.bcs_display_text.proofs.EscapedUnits.{units_left}
 use Rattle.bcs_display_text.proofs.escaping.put_escaped.Given as goal
 
--- what was put so far, before the units that are left
+-- the output so far, followed by the escaped remaining units
 abbrev pub invariant-loop-unit : goal.invariant-loop-unit
 invariant-loop-unit l = record {
   text : IsUtf8 (encode_utf16_rest l.unit-iterator);

@@ -2,7 +2,7 @@ use Rattle.bcs_io.proofs.Prelude.{common_steps, ◌≡◌, ◌∙◌, ◌+◌, �
 use Rattle.bcs_io.proofs.TakingLemmas.{Took-then}
 use Rattle.bcs_io.proofs.putting.put_all.Goals as goal
 
--- what was taken before, and the front of the rest of the piece that was taken now
+-- the bytes accepted before, followed by those accepted in this call
 pub loop-at-preserved : goal.loop-at-preserved
 loop-at-preserved g c =
     let l = c.loop-at in

@@ -3,7 +3,7 @@ use Rattle.std.proofs.lemmas.List.{length-append}
 use Rattle.bcs_io.proofs.GivingLemmas.{Gave-then}
 use Rattle.bcs_io.proofs.taking.take_all.Goals as goal
 
--- what was given before, and one byte more than may still come
+-- the bytes read before, and one byte more than the limit allows
 pub returns-then-left-count-clause-too_large : goal.returns-then-left-count-clause-too_large
 returns-then-left-count-clause-too_large g c is =
     let l = c.loop-count in

@@ -1,11 +1,7 @@
-use Rattle.bcs_json.proofs.Prelude.{rules}
+use Rattle.bcs_json.proofs.Prelude.{err_from_is_err_and, memory_alone, shape_of}
 use Rattle.bcs_json.proofs.encoding.to_bcs.Goals as goal
 
-pub returns-in_err-bytes-clause-fault : goal.returns-in_err-bytes-clause-fault
-returns-in_err-bytes-clause-fault c = search rules
-
 pub returns-in_err-bytes-clause-memory : goal.returns-in_err-bytes-clause-memory
-returns-in_err-bytes-clause-memory c = search rules
-
-pub returns-clause-bytes : goal.returns-clause-bytes
-returns-clause-bytes c = search rules
+returns-in_err-bytes-clause-memory c =
+    let p = err_from_is_err_and c.from_residual.result c.from_residual.ensures.1 in
+    rw (p.1, p.2) (memory_alone c.args.registry.now c.args.limits.now (shape_of c.args.format.now) c.args.text.now c.in_err-bytes.field-0.0.fault c.in_err-bytes.ensures.refused.0)

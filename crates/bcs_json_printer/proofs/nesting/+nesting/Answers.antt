@@ -4,7 +4,7 @@ use Rattle.bcs_json_printer.proofs.ShownDepths.{le_zero, field_more, distinct_mo
 use Rattle.bcs_json_printer.proofs.SentRows.{entry_nodes, part_nodes}
 use Rattle.bcs_json_printer.proofs.nesting.+nesting.Goals as goal
 
--- ---- the parts of a row are smaller than the row
+-- ---- the parts of a list are smaller than the list
 
 pub all_nest_within-shown_nests_within-requires : goal.all_nest_within-shown_nests_within-requires
 all_nest_within-shown_nests_within-requires t c = (omega (arith, part_nodes c.args.items.now c.loop-item.item-index c.item-item.result (omega arith) c.item-item.is), tt)
@@ -21,7 +21,7 @@ pairs_nest_within-shown_nests_within-requires t c = (omega (arith, (entry_nodes 
 pub pairs_nest_within-shown_nests_within-requires-else-not-shown_nests_within : goal.pairs_nest_within-shown_nests_within-requires-else-not-shown_nests_within
 pairs_nest_within-shown_nests_within-requires-else-not-shown_nests_within t c = (omega (arith, (entry_nodes c.args.pairs.now c.loop-k.k-index c.loop-k-item.result (omega arith) c.loop-k-item.is).1), tt)
 
--- ---- what is shown
+-- ---- the JSON
 
 pub content_nests_within-variant_nests_within-requires : goal.content_nests_within-variant_nests_within-requires
 content_nests_within-variant_nests_within-requires t c =

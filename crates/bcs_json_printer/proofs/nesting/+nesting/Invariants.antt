@@ -1,7 +1,7 @@
 use Rattle.bcs_json_printer.proofs.Prelude.{◌≡◌, ◌+◌, ◌*◌, true, map, drop, nat_le, items_depth, members_depth, field_of, formats_shapes, shape_of, are_distinct, nodes, pairs_nodes, trees_nodes, entries_pairs, items_trees, tree_of, shown_all, shown_each, shown_fields, shown_pairs}
 use Rattle.bcs_json_printer.proofs.nesting.+nesting.Given as goal
 
--- a value's nodes, and below it those of its parts
+-- the nodes of a value, and fewer for its parts
 abbrev pub decreases-shown_nests_within : goal.decreases-shown_nests_within
 decreases-shown_nests_within l = 3 * nodes (tree_of l.value.now)
 
@@ -26,7 +26,7 @@ decreases-fields_nest_within l = 3 * trees_nodes (items_trees l.items.now) + 1
 abbrev pub decreases-pairs_nest_within : goal.decreases-pairs_nest_within
 decreases-pairs_nest_within l = 3 * pairs_nodes (entries_pairs l.pairs.now) + 1
 
--- what is left decides
+-- the rest decides
 abbrev pub invariant-all_nest_within-loop-item : goal.invariant-all_nest_within-loop-item
 invariant-all_nest_within-loop-item l =
     nat_le (items_depth (shown_all l.registry (items_trees l.items) (shape_of l.element))) l.limit

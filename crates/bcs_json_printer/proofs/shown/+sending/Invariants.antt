@@ -2,7 +2,7 @@ use Rattle.bcs_json_printer.proofs.Prelude.{◌≡◌, ◌+◌, ◌*◌, ◌<◌
 use Rattle.bcs_json_printer.proofs.Places.{shown_at}
 use Rattle.bcs_json_printer.proofs.shown.+sending.Given as goal
 
--- a value's nodes, and below it those of its parts
+-- the nodes of a value, and fewer for its parts
 abbrev pub decreases-send_value : goal.decreases-send_value
 decreases-send_value g l = 3 * nodes (tree_of l.value.now)
 
@@ -30,7 +30,7 @@ decreases-send_fields g l = 3 * trees_nodes (items_trees l.items.now) + 1
 abbrev pub decreases-send_pairs : goal.decreases-send_pairs
 decreases-send_pairs g l = 3 * pairs_nodes (entries_pairs l.pairs.now) + 1
 
--- whatever ends it well from here ends it well from the start
+-- an end that is right from here is right from the start
 abbrev pub invariant-send_all-loop-item : goal.invariant-send_all-loop-item
 invariant-send_all-loop-item g l = record {
   whole : (end : Log) → SendsItems (shown_all l.registry (items_trees (drop l.item-index l.items)) (shape_of l.element)) (g.S.Serializer.written l.out) end

@@ -2,7 +2,7 @@ use Rattle.bcs_json_reader.proofs.Prelude.{◌≡◌, ℕ, List, length, Ok, int
 use Rattle.bcs_json_reader.proofs.Rows.{joined}
 use Rattle.bcs_json_reader.proofs.numbers.read_numbers.Given as goal
 
--- the whole is what was read so far, before what is still to be read, and a place there is one of the whole
+-- what was read so far and what is left are the whole, and a place in what is left is one in the whole
 abbrev pub invariant-loop-item : goal.invariant-loop-item
 invariant-loop-item l =
     ((registry : Entries) (left : ℕ) → read_all (read_data registry left (of (whole_shape l.format))) (items_view l.fn.items.items)

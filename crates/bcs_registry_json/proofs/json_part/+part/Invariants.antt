@@ -11,7 +11,7 @@ decreases-next_items l = 2 * l.depth + 1
 abbrev pub decreases-next_members : goal.decreases-next_members
 decreases-next_members l = 2 * l.depth + 1
 
--- what was read, before what the tokens that are left give, is what all give
+-- the values read so far, followed by those in the remaining tokens, are those in all tokens
 abbrev pub invariant-next_items-items : goal.invariant-next_items-items
 invariant-next_items-items l =
     (n : ℕ) × (length l.reader ≤ n)

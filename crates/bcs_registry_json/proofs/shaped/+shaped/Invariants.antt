@@ -13,6 +13,6 @@ decreases-is_tuple_array_shaped l = depth (view l.value.now)
 abbrev pub decreases-is_tuple_shaped : goal.decreases-is_tuple_shaped
 decreases-is_tuple_shaped l = depth (view l.value.now)
 
--- what is left decides
+-- the result depends on the remaining elements only
 abbrev pub invariant-is_tuple_shaped-loop-part : goal.invariant-is_tuple_shaped-loop-part
 invariant-is_tuple_shaped-loop-part l = are_formats true (items_view l.part-items) ≡ are_formats true (items_view (drop l.part-index l.part-items))

@@ -15,4 +15,4 @@ returns-in_ok-refused_text-in-Err c =
     let is = c.in_ok-refused_text-in-Err.ensures in
     placed_answer _ text 2 _ c.placed.result (set.status ∙ is.1.same_status) (set.output ∙ is.1.same_output)
     (with_place c.args.work.now _ _ set.place c.place_of_refusal-place.ensures)
-    (refused Normalise _ _ c.in-Err.fault (inr refl) (is_asked text Normalise c.requires.command c.requires.asked c.requires.within) (c.in-Err.ensures.fault is.0))
+    (refused Normalise _ _ c.in-Err.refusal.fault (inr refl) (is_asked text Normalise c.requires.command c.requires.asked c.requires.within) (c.in-Err.ensures.refused.0 is.0))

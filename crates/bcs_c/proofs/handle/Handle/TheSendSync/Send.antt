@@ -1,13 +1,13 @@
--- A handle may go to another thread, since a registry may, and so may the right to free its block.
+-- A handle may move to another thread, since a registry may, and so may the right to free its block.
 use Rattle.bcs_c.proofs.Steps.{full_share, lone, bare, Ptr, block_ptr, null_ptr, lies_at, shape, to, Global, Option, None, Some}
 use Rattle.bcs_c.proofs.Prelude.{Keyless, Exit, unchanged, leaves, hidden, under, IsSend, AllSend, Quiet, owning_send, part_keyless, struct_send, sendable, fields, exits_of, frees, holds, the_row, the_type}
 use Rattle.std.proofs.alloc.Global.TheSendSync as allocator
-use Rattle.bcs_c.proofs.RegistrySend.{registry}
+use Rattle.bcs_c.proofs.RegistrySend.{opened}
 use Rattle.bcs_c.proofs.Holdings.{R}
 
 -- nothing that a handle owns names a thread
 lies : (p : Ptr) (x : R.Denot) → Keyless (lies_at R full_share p x)
-lies (block_ptr b o) x = part_keyless R registry full_share x b o
+lies (block_ptr b o) x = part_keyless R opened full_share x b o
 lies null_ptr x = tt
 
 owned : (alloc : Global) (p : Ptr) (kept : Option R.Denot) → Keyless (holds alloc p kept)

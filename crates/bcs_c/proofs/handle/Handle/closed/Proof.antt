@@ -1,4 +1,4 @@
--- A closed handle has null, and owns nothing.
+-- A closed handle is null and owns nothing.
 use Rattle.bcs_c.proofs.Steps.{◌≡◌, List, [], ◌∷◌, ◌++◌, refl, sym, subst, Val, SProp, ent, emp, id⊢, ftrue, WpFn, ‵, raw, ◌⊛◌, ◌$◌, ◌∵◌, !, qed, by, move, keep, split, fsplit, fjoin, suffices, use0, feq_i, no_more, and_then, lit, returns, enter, alloc_all, pass_all, free_all, look_at, get, sets, agg, fact, fact_i, tables, yes, owns, types_at, plain, Ptr, null_ptr, ptr_val, nothing, Stays, stay_dropped, walk_of, Goes-dropped, handle_tells, proved_at, leaves, None}
 use Rattle.bcs_c.proofs.Holdings.{Z, allocator, handle_good, handle_in}
 use Rattle.bcs_c.proofs.RawBoxes.{both}

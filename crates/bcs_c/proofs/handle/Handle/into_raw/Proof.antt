@@ -1,4 +1,4 @@
--- Null is told from a block, whose pointer comes out with what the handle owned.
+-- Distinguishes null from a block, whose pointer is returned with what the handle owned.
 use Rattle.bcs_c.proofs.Steps.{◌≡◌, List, [], ◌∷◌, ◌++◌, refl, sym, ap, ◌∙◌, subst, lit<, Val, vcons, vnil, SProp, ent, emp, id⊢, ftrue, WpFn, ‵, raw, ◌⊛◌, at_ret, ◌$◌, ◌∵◌, !, qed, by, move, keep, split, fsplit, fjoin, suffices, use0, use1, stop, fld, lit, of_opd, bin, no_more, and_then, first, branches, exec, returns, enter, alloc_all, pass_all, free_all, look_at, get, get_in, sets, sets_last, env, live, agg, sub, whole, fact, fact_i, tables, yes, layout, RattleType, owns, Ptr, block_ptr, null_ptr, ptr_val, tests_null, types_at, type_at, plain, nothing, Stays, stay_dropped, walk_of, Goes-dropped, after, Good, Some-of, none_of, proved_at, leaves, and_tt, None, Some}
 use Rattle.bcs_c.proofs.Prelude.{ghosts, the_row}
 use Rattle.bcs_c.proofs.Holdings.{R, Z, L, RawBox, handle_good, handle_out, either}

@@ -1,4 +1,4 @@
--- The pointer goes into the handle, and what the box owned with it.
+-- Stores the pointer in the handle, which then owns what the box owned.
 use Rattle.bcs_c.proofs.Steps.{◌≡◌, List, [], ◌∷◌, ◌++◌, refl, sym, subst, Val, vptr, SProp, ent, emp, id⊢, ftrue, WpFn, ‵, raw, ◌⊛◌, ◌$◌, ◌∵◌, !, qed, by, move, keep, split, fsplit, fjoin, suffices, use0, stop, fld, of_opd, no_more, and_then, returns, enter, alloc_all, pass_all, free_all, look_at, get, get_in, sets, agg, sub, whole, fact, fact_i, tables, yes, owns, types_at, plain, block_ptr, nothing, Stays, stay_dropped, walk_of, Goes-dropped, proved_at, leaves, Some}
 use Rattle.bcs_c.proofs.Prelude.{ghosts, Handle}
 use Rattle.bcs_c.proofs.Holdings.{R, Z, L, RawBox, handle_in}

@@ -1,4 +1,4 @@
--- `into_box` makes the box again by std's call.
+-- `into_box` makes the box again with std's function.
 use Rattle.bcs_c.proofs.Steps.{◌≡◌, List, [], ◌∷◌, ◌++◌, refl, sym, ap, subst, a_type, dcons, dnil, Val, vptr, inst_fn, ftrue, flft, SProp, ent, id⊢, WpFn, ‵, raw, ◌⊛◌, some, later, at_ret, ◌$◌, ◌∵◌, !, qed, by, move, keep, drop, split, split3, join, fsplit, fjoin, pick, suffices, use1, await, rewrite, feq_i, stop, fld, of_opd, no_more, and_then, first, blocks, exec, returns, enter, alloc_all, pass_all, free_all, look_at, get, get_in, sets, lands_last, env, sub, whole, fact, ◌⊑◌, tables, no, RattleType, owns, block_ptr, types_at, plain, nothing, only, param, layout, bounded, param_laws, Lasts, lasts, triple_of, calls_at_last, framed, Stays, stay_dropped, walk_of, Goes-blank, after, Good, proved_at, leaves}
 use Rattle.std.proofs.BoxSteps.Form as box
 use Rattle.bcs_c.proofs.Prelude.{box_out, box_in, met, ended, clauses}
@@ -8,7 +8,7 @@ use Rattle.bcs_c.specs.contracts.raw_box.RawBox.into_box.Key.{name as #self}
 use Rattle.bcs_c.proofs.raw_box.RawBox.into_box.Statement.{statement}
 use Rattle.bcs_c.proofs.raw_box.RawBox.into_box.Code as code
 
--- T is the type of what the box holds and A that of its allocator, with the methods g and d of A and how each is dropped, dx and dd
+-- T is the type of the box's content, and A that of its allocator with the methods g and d; dx and dd drop them
 pub into_box_spec : {M : Type 1} → statement M
 into_box_spec 𝓤 𝓛 𝓜 𝓡 wired T A L LA g d dx dd allocator glue glued =
     let H = 𝓛.H in let 𝓣 = tables 𝓤 H 𝓜 𝓡 𝓡.env in let R : RattleType = param 0 T in let Z : RattleType = param 1 A in let LZ = param_laws 1 A LA in
@@ -23,7 +23,7 @@ into_box_spec 𝓤 𝓛 𝓜 𝓡 wired T A L LA g d dx dd allocator glue glued 
     let w : Val = both (vptr b o) h in let typed = raw_good R Z LZ g b o h fits in
     let k = triple_of 𝓛 (callee.signature T A g d dd) (callee.spec T A g d dd 𝓛 𝓜.mem 𝓡.returns) in
     let y : k.Ghost = ((κs, qs, tt, (a, (block_ptr b o, tt)), (h ∷ [], (vptr b o ∷ [], tt))), v.value) in
-    -- the tokens, the allocator, the pointer and what the box owned are what the call asks for
+    -- the call requires the tokens, the allocator, the pointer and what the box owned
     move ! (4 ∷ []) $ use1 𝓛 (raw (fact 𝓤 (κs.0 ⊑ T.lives)) ⊛ raw (fact 𝓤 (κs.1.0 ⊑ A.lives)) ⊛ ‵ ftrue) (id⊢ 𝓤 _) $ split3 ! $ move ! (2 ∷ []) $ drop ! $
     move ! (1 ∷ 2 ∷ []) $ join ! $ move ! (1 ∷ 0 ∷ []) $ join ! $
     move ! (2 ∷ []) $ feq_i ! (List Val) (vptr b o ∷ []) (vptr b o ∷ []) refl $ fjoin ! $ move ! (2 ∷ 0 ∷ []) $ fjoin ! $ move ! (2 ∷ 0 ∷ []) $ join ! $ join ! $

@@ -1,4 +1,4 @@
--- `of` takes the box apart by std's call, and makes a struct of the two parts.
+-- `of` takes the box apart with std's function, and makes a struct of the two parts.
 use Rattle.bcs_c.proofs.Steps.{◌≡◌, List, [], ◌∷◌, ◌++◌, refl, sym, ap, ◌∙◌, subst, bare, a_type, dcons, dnil, Val, vptr, vstruct, of_list, inst_fn, ftrue, fsep, flft, SProp, ent, emp, fst∗, never, id⊢, WpFn, sem, ‵, raw, ◌⊛◌, some, later, ◌$◌, ◌∵◌, !, qed, by, move, keep, drop, split, split3, join, fsplit, fjoin, fpick, pick, suffices, use0, use1, await, rewrite, feq_l, stop, fld, of_opd, no_more, and_then, returns, enter, alloc_all, pass_all, free_all, look_at, get, get_in, sets, lands_as, agg, sub, whole, fact, fact_i, tables, RawPtr, no, RattleType, owns, Ptr, block_ptr, null_ptr, ptr_val, in_a_block, types_at, plain, nothing, only, heard, param, layout, bounded, param_laws, Tuple, triple_of, calls_at, framed, Stays, stay_dropped, walk_of, Goes-blank, handle_tells, box_owns, proved_at, leaves}
 use Rattle.std.proofs.BoxSteps.Form as box
 use Rattle.bcs_c.proofs.Prelude.{box_out, box_in}
@@ -10,7 +10,7 @@ use Rattle.bcs_c.specs.contracts.raw_box.RawBox.of.Key.{name as #self}
 use Rattle.bcs_c.proofs.raw_box.RawBox.of.Statement.{statement}
 use Rattle.bcs_c.proofs.raw_box.RawBox.of.Code as code
 
--- T is the type of what the box holds and A that of its allocator, with the methods g and d of A and how each is dropped, dx and dd
+-- T is the type of the box's content, and A that of its allocator with the methods g and d; dx and dd drop them
 pub of_spec : {M : Type 1} → statement M
 of_spec 𝓤 𝓛 𝓜 𝓡 wired T A L LA g d dx dd allocator glue glued =
     let H = 𝓛.H in let 𝓣 = tables 𝓤 H 𝓜 𝓡 𝓡.env in let R : RattleType = param 0 T in let Z : RattleType = param 1 A in let LZ = param_laws 1 A LA in
@@ -25,7 +25,7 @@ of_spec 𝓤 𝓛 𝓜 𝓡 wired T A L LA g d dx dd allocator glue glued =
     let w : Val = box.word E h b o in let typed = raw_good R Z LZ g b o h fits in
     let k = triple_of 𝓛 (callee.signature T A g d dd dx) (callee.spec T A g d dd dx 𝓛 𝓜.mem 𝓡.returns) in
     let y : k.Ghost = ((κs, qs, tt, (v, tt), (w ∷ [], tt)), tt) in let Pair = Tuple (RawPtr ∷ Z ∷ []) in
-    -- the box and the tokens are what the call asks for
+    -- the call requires the box and the tokens
     fjoin ! $ move ! (1 ∷ 0 ∷ []) $ join ! $ join ! $ use1 𝓛 (raw (k.pre y)) (id⊢ 𝓤 _) $
     suffices ! (Run (w ∷ [])) (subst (λ (us : List Val). ent 𝓤 (Run (w ∷ [])) (Run us)) (sym (λ i. ws i ++ [])) (id⊢ 𝓤 (Run (w ∷ [])))) $
     enter ! 𝓣.C 𝓣.Λ fn (w ∷ []) Post $ alloc_all ! (λ l. pass_all ! refl (typed, tt) $ sets ! (of_opd ! (get ! refl)) refl typed $

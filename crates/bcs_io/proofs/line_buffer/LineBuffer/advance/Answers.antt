@@ -22,7 +22,7 @@ returns-in-Some-clause-line g c _ =
     Reads-line g.S.ByteSource.content g.S.ByteSource.is_failed g.S.ByteSource.allowance c.args.limit c.args.source.now c.loop-count.source
     c.args.self.now c.loop-count.self c.take_line.new.self c.in-Some.count c.loop-count.invariant.reads c.in-Some.ensures (omega arith) c.take_line.ensures
 
--- the first line feed stands behind more bytes than are allowed
+-- the first line feed comes after more bytes than the limit
 pub returns-then-limit-count-clause-too_long : goal.returns-then-limit-count-clause-too_long
 returns-then-limit-count-clause-too_long g c _ =
     let found = c.in-Some.ensures in

@@ -1,0 +1,265 @@
+/** Binary Canonical Serialization by serde-reflection registries. README.md says what is proved, and what is trusted. */
+
+/** A text, as a string or in UTF-8. */
+export type Text = string | Bytes;
+
+/**
+ * A format of a registry: a container's name; a format as an object, as `{ SEQ: 'U8' }`; or its JSON text, which begins with
+ * `{` or `"`, as `'"U64"'`. Of a registry whose types are known, a name is one of theirs.
+ */
+export type Format<T extends Types = AnyTypes> = (keyof T & string) | FormatText | FormatObject;
+
+export type FormatText = `{${string}` | `"${string}`;
+
+export type FormatWord =
+  | 'UNIT' | 'BOOL' | 'STR' | 'BYTES' | 'CHAR' | 'F32' | 'F64'
+  | 'U8' | 'U16' | 'U32' | 'U64' | 'U128'
+  | 'I8' | 'I16' | 'I32' | 'I64' | 'I128';
+
+export type FormatObject =
+  | { TYPENAME: string }
+  | { OPTION: FormatPart }
+  | { SEQ: FormatPart }
+  | { MAP: { KEY: FormatPart; VALUE: FormatPart } }
+  | { TUPLE: FormatPart[] }
+  | { TUPLEARRAY: { CONTENT: FormatPart; SIZE: number } };
+
+export type FormatPart = FormatWord | FormatObject;
+
+/**
+ * A value as `decode` gives it. Whole numbers of 64 and 128 bits are `bigint`, narrower ones `number`. `BYTES` and lists of `U8`
+ * are `Uint8Array`, a `MAP` is a `Map`, an option is `null` or `{ some: value }`, a struct an object of its fields, a variant its
+ * name or `{ Name: payload }`.
+ */
+export type Value =
+  | null
+  | boolean
+  | number
+  | bigint
+  | string
+  | Uint8Array
+  | ArrayBuffer
+  | Value[]
+  | Map<Value, Value>
+  | { [name: string]: Value };
+
+/** Typed arrays of integers that `encode` accepts at lists of integers, item by item. */
+export type IntegerArray =
+  | Int8Array | Int16Array | Uint16Array | Int32Array | Uint32Array | BigInt64Array | BigUint64Array;
+
+/**
+ * A value as `encode` accepts it. README.md lists what each format accepts: an integer is a `bigint`, a `number` that is a safe
+ * integer, or a string in plain decimal; `BYTES` and lists of `U8` are a `Uint8Array`, an `ArrayBuffer` or hexadecimal digits. Any
+ * other type throws a `BcsError` of the kind `value`.
+ */
+export type ValueInput =
+  | Value
+  | Uint8ClampedArray
+  | IntegerArray
+  | readonly ValueInput[]
+  | ReadonlyMap<ValueInput, ValueInput>
+  | { readonly [name: string]: ValueInput };
+
+/**
+ * By the names of a registry's containers, what `encode` accepts and what `decode` returns. `bcs-types` writes them; with
+ * `--plain-options`, what `decode` returns with `{ plainOptions: true }`.
+ */
+export type Types = { [name: string]: { encode: unknown; decode: unknown; plain?: unknown } };
+
+/** Those of a registry whose types aren't known. */
+export type AnyTypes = { [name: string]: { encode: ValueInput; decode: Value; plain: Value } };
+
+/** What `encode` accepts for a format, or `decode` returns: by the types where it is a container's name. */
+export type ValueOf<T extends Types, F, Call extends 'encode' | 'decode' | 'plain'> = F extends FormatText | FormatObject
+  ? AnyTypes[string][Call]
+  : F extends keyof T
+    ? T[F] extends { [call in Call]: infer V } ? V : Value
+    : never;
+
+export interface Limits {
+  /** How many containers may be open at once: at most 500, which is the default. */
+  depth?: number;
+  /**
+   * How many nodes a value may have. By default the nodes of bytes are limited to 16 for each byte of the input and 1,000,000 more,
+   * at most 4294967295, and those of values and their JSON to 4294967295.
+   */
+  nodes?: number;
+}
+
+/** Limits by name, for `withLimits`. */
+export const Limits: {
+  /** The limits of the specification, also for bytes: 500 open containers and 4294967295 nodes. */
+  readonly standard: () => { depth: number; nodes: number };
+};
+
+export type Kind =
+  /** The registry, the newer registry of two, or the format is refused. */
+  | 'registry' | 'newer' | 'format'
+  /** The depth is above 500. */
+  | 'limits'
+  /** The JSON text or the bytes are no value of the format. */
+  | 'text' | 'bytes'
+  /** A part of the value that `encode` got has a type that its format doesn't accept, or nests too deep. */
+  | 'value'
+  /** The path is none. */
+  | 'path'
+  /** The newer registry doesn't keep what the older one has. */
+  | 'growth'
+  /** The format has no such example. */
+  | 'example'
+  /** The machine's memory or stack didn't suffice. */
+  | 'memory' | 'stack';
+
+/** What a call refuses. */
+export class BcsError extends Error {
+  constructor(kind: Kind, reason: string, place?: number, told?: { pointer?: string; expected?: string });
+  readonly kind: Kind;
+  /** The fault's name, as the program `bcs` prints it: `BadBool`. For the kind `value` it is `WrongType` or `TooNested`. */
+  readonly reason: string;
+  /** Where bytes stop being a value, counted from the front. */
+  readonly place?: number;
+  /**
+   * Where it is: of a value or a text a JSON Pointer, as `/payload/args/1`, which is empty where it is refused as a whole; of bytes
+   * the way to where they stop, as `.payload.args[1]`; of a format a JSON Pointer; of a registry, a path or growth its place as the
+   * program `bcs` prints it.
+   */
+  readonly pointer?: string;
+  /**
+   * What was wanted there, or what is wrong with it, in words for people, which may change. For the kind `value` it names the format
+   * and the type that was found: `U64 takes an integer, not Uint8Array`.
+   */
+  readonly expected?: string;
+}
+
+/** A piece of a value's bytes. */
+export interface Piece {
+  /** How many bytes come before it. */
+  place: number;
+  /** All its bytes, as hexadecimal digits. */
+  bytes: string;
+  kind: 'truth' | 'unsigned' | 'signed' | 'length' | 'text' | 'bytes' | 'octets' | 'option' | 'variant';
+  /** The format, for a length that of what it counts; `U8` for a list of it; the names of an enum and its variant. */
+  what: string;
+  /** A number's decimal digits are a text; lengths and numbers of variants are numbers. */
+  value: boolean | number | string;
+  /** The way from the whole value, `.`, by names. */
+  name: string;
+  /** The path that `part` takes, or `null` where none leads there. */
+  path: string | null;
+}
+
+/** What stands behind the pieces of a value. */
+export interface End {
+  end: number;
+}
+
+/** What stands behind the pieces where the bytes stop being a value. */
+export interface Stop {
+  refused: string;
+  place: number;
+  want: string;
+  name: string;
+  path: string | null;
+}
+
+/** Bytes that are passed to a call, which copies them first. Numbers are from 0 to 255. */
+export type Bytes = Uint8Array | Uint8ClampedArray | ArrayBuffer | readonly number[];
+
+/** What `JSON.parse` makes of a text. */
+export type Json = null | boolean | number | string | Json[] | { [name: string]: Json };
+
+/**
+ * A registry is read once, and holds memory of the module until it is closed or collected. Where its types are known, values
+ * of its containers have them. `Registry<any>` is one of any types.
+ */
+export interface Registry<T extends Types = AnyTypes> {
+  /** The names of its containers. */
+  readonly names: (keyof T & string)[];
+  /** The same registry with other limits. */
+  withLimits(limits: Limits): Registry<T>;
+  /** Gives the registry's memory back, also of those that `withLimits` made of it. From then on calls throw. */
+  close(): void;
+  /** Returns if the format is good. */
+  check(format: Format<T>): void;
+  /** The bytes of a value, which is converted by its format: a wrong type throws a `BcsError` of the kind `value`. */
+  encode<F extends Format<T>>(format: F, value: ValueOf<T, F, 'encode'>): Uint8Array;
+  /** The bytes of the value that a JSON text denotes. */
+  encodeText(format: Format<T>, text: Text): Uint8Array;
+  /** The value whose bytes are the whole input. */
+  decode<F extends Format<T>>(format: F, bytes: Bytes, options?: { json?: false }): ValueOf<T, F, 'decode'>;
+  /** The same as `JSON.parse` makes it of its normal text, so that `JSON.stringify` takes it: wide numbers are strings. */
+  decode(format: Format<T>, bytes: Bytes, options: { json: true }): Json;
+  /** The same with options as `null` or their value, except where that could mean two values, as in nested options. */
+  decode<F extends Format<T>>(format: F, bytes: Bytes, options: { plainOptions: true }): ValueOf<T, F, 'plain'>;
+  /** The value at the beginning of the input, and how many bytes it has. What follows isn't read. */
+  decodePrefix<F extends Format<T>>(
+    format: F, bytes: Bytes, options?: { json?: false },
+  ): { value: ValueOf<T, F, 'decode'>; length: number };
+  decodePrefix(format: Format<T>, bytes: Bytes, options: { json: true }): { value: Json; length: number };
+  decodePrefix<F extends Format<T>>(
+    format: F, bytes: Bytes, options: { plainOptions: true },
+  ): { value: ValueOf<T, F, 'plain'>; length: number };
+  /** The same with the normal JSON text of the value. */
+  decodePrefixText(format: Format<T>, bytes: Bytes): { text: string; length: number };
+  /** The normal JSON text of that value. */
+  decodeText(format: Format<T>, bytes: Bytes): string;
+  /** The one normal JSON text of the value that a JSON text denotes. */
+  normalise(format: Format<T>, text: Text): string;
+  /** Whether two JSON texts denote equal values. */
+  equal(format: Format<T>, first: Text, second: Text): boolean;
+  /** A JSON Schema of the JSON of the format's values. */
+  schema(format: Format<T>): { [keyword: string]: Json };
+  /** A value of the format to start from, as `decode` returns it. */
+  example<F extends Format<T>>(format: F, options?: ExampleOptions & { json?: false }): ValueOf<T, F, 'decode'>;
+  example(format: Format<T>, options: ExampleOptions & { json: true }): Json;
+  example<F extends Format<T>>(format: F, options: ExampleOptions & { plainOptions: true }): ValueOf<T, F, 'plain'>;
+  /** The JSON text of such a value, as the program `bcs example` prints it. */
+  exampleText(format: Format<T>, options?: ExampleOptions): string;
+  /** The registry in readable form, or one container with what it depends on; with `json` as compact JSON. */
+  show(name?: string, options?: { json?: boolean }): string;
+  /** How many bytes the value at the front of the input has. */
+  scan(format: Format<T>, bytes: Bytes): number;
+  /** The part to which a path leads, and its place; `undefined` where it leads nowhere. */
+  part(format: Format<T>, bytes: Bytes, path: Text): { place: number; bytes: Uint8Array } | undefined;
+  /** The pieces of the input, and behind them their end, or where they stop being a value. */
+  explain(format: Format<T>, bytes: Bytes): (Piece | End | Stop)[];
+  /** The same as lines, as the program `bcs explain` prints them. */
+  explainText(format: Format<T>, bytes: Bytes, form?: 'ways' | 'paths' | 'tree' | 'json'): string;
+}
+
+export interface ExampleOptions {
+  /** Selects a variant of the enum that the format names. */
+  variant?: string;
+  /** Gives each option, list and map an element. */
+  full?: boolean;
+}
+
+export interface Bcs {
+  /** A registry, from its JSON text; `registry<Types>(text)` with the types that `bcs-types` wrote of it. */
+  registry<T extends Types = AnyTypes>(text: Text): Registry<T>;
+  /** Returns if the newer registry keeps all that the older one has. */
+  grows(older: Text, newer: Text): void;
+  /** All differences from an older registry to a newer one, a line for each. */
+  differences(older: Text, newer: Text): string[];
+  /** The name of a fault of `bcs.h`, or `undefined` where no fault has the number. */
+  faultName(fault: number): string | undefined;
+}
+
+/** Whether this engine has what `bcs.wasm` needs, or with 64 what `bcs64.wasm` needs. */
+export function isSupported(bits?: 32 | 64): boolean;
+
+/** Bytes by base64 (RFC 4648, section 4), as Sui has them. */
+export function toBase64(bytes: Bytes): string;
+
+/** The bytes of such a text; what is none is a `TypeError`. */
+export function fromBase64(text: string): Uint8Array;
+
+/** A type of the engine, if these declarations are used with a library that declares it, such as that of Node or of browsers. */
+type Declared<Name extends string> = typeof globalThis extends { [name in Name]: { prototype: infer T } } ? T : never;
+type CompiledModule = typeof globalThis extends { WebAssembly: { Module: { prototype: infer T } } } ? T : never;
+
+/** The module's bytes, a `Response` with them, or a compiled module. */
+export type Wasm = ArrayBuffer | ArrayBufferView | CompiledModule | Declared<'Response'>;
+
+/** Makes the calls from the module that is passed, or from the `bcs.wasm` beside the imported file. */
+export function load(wasm?: Wasm | Promise<Wasm>): Promise<Bcs>;
