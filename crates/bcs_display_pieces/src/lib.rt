@@ -20,6 +20,7 @@ mod placing;
 mod steps;
 mod stopping;
 mod table;
+mod wrong_steps;
 
 pub use by_name::path_of_name;
 pub use by_pointer::path_of_pointer;
@@ -27,3 +28,4 @@ pub use explanation::{Explanation, explain_text};
 pub use led::Led;
 pub use nowhere::nowhere_on_path;
 pub use placing::stop_place;
+pub use wrong_steps::{wrong_name_line, wrong_pointer_line};

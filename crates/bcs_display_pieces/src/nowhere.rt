@@ -84,8 +84,8 @@ pub(crate) fn entry_line(alloc: Global, number: u64, step: &str) -> Result<Vec<u
     Ok(line)
 }
 
-// The line as far as its colon.
-fn line_to(
+/// The line as far as its colon and a blank.
+pub(crate) fn line_to(
     alloc: Global,
     notation: Notation,
     number: u64,
