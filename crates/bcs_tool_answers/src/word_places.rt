@@ -6,8 +6,9 @@ use crate::places::place_of_line;
 use bcs_display_errors::{
     format_line, line_in, place_of_container, place_of_growth, place_of_path, registry_line,
 };
+use bcs_display_pieces::{wrong_name_line, wrong_pointer_line};
 use bcs_registry::{Registry, RegistryFault};
-use bcs_tool_command_line::{Command, Work};
+use bcs_tool_command_line::{Command, Notation, Work};
 use std::alloc::{AllocError, Global};
 
 /// Where the job's own words are refused, for this fault. It is empty at a quiet job, where the fault has no place, and
@@ -50,7 +51,17 @@ fn words_line(
     match fault {
         JobFault::Registry(fault) => registries_line(alloc, work, fault),
         JobFault::Growth(_) => Ok(None),
-        JobFault::BadPath => Ok(place_of_path(alloc, work.path.as_str())?),
+        JobFault::BadPath => Ok(steps_line(alloc, work)?),
+    }
+}
+
+// The first step that is none.
+fn steps_line(alloc: Global, work: &Work) -> Result<Option<Vec<u8>>, AllocError> {
+    let word = work.path.as_str();
+    match work.options.notation {
+        Notation::Path => place_of_path(alloc, word),
+        Notation::Names => Ok(Some(wrong_name_line(alloc, word)?)),
+        Notation::Pointer => Ok(Some(wrong_pointer_line(alloc, word)?)),
     }
 }
 
