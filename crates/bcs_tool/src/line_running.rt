@@ -11,7 +11,7 @@ use crate::run_fault::RunFault;
 use crate::run_places::place_of_tally;
 use crate::tally::Tally;
 use bcs_io::{ByteSink, ByteSource, LineBuffer, TakeFault, put_all};
-use bcs_tool_answers::{Asked, answer_values};
+use bcs_tool_answers::{Asked, answer_line};
 use bcs_tool_command_line::{Outcome, Work};
 use std::alloc::Global;
 
@@ -80,7 +80,7 @@ fn put_line<K: ByteSink>(
     requires within { length line.now ≤ size_limit }
     ensures { PutsLine K.taken K.is_failed work.now line.now out.old out.new result }
 {
-    let Ok(answer) = answer_values(alloc, work, asked, line) else {
+    let Ok(answer) = answer_line(alloc, work, asked, line) else {
         return Err(RunFault::Take(TakeFault::OutOfMemory));
     };
     match put_all(answer.output.as_slice(), out) {

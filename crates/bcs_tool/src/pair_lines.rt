@@ -9,7 +9,7 @@ use crate::line_reading::read_line;
 use crate::run_fault::RunFault;
 use crate::tally::Tally;
 use bcs_io::{ByteSink, ByteSource, LineBuffer, TakeFault, put_all};
-use bcs_tool_answers::{Asked, Ending, answer_pair};
+use bcs_tool_answers::{Asked, Ending, answer_line_pair};
 use bcs_tool_command_line::Work;
 use std::alloc::Global;
 
@@ -80,7 +80,7 @@ fn put_pair<K: ByteSink>(
     requires asked { IsAskedBy work.now asked.now }
     ensures { PutsPair K.taken K.is_failed work.now first.now second.now out.old out.new result }
 {
-    let Ok(answer) = answer_pair(alloc, work, asked, first, second) else {
+    let Ok(answer) = answer_line_pair(alloc, work, asked, first, second) else {
         return Err(RunFault::Take(TakeFault::OutOfMemory));
     };
     match put_all(answer.output.as_slice(), out) {

@@ -75,6 +75,30 @@ pub fn damaged(
     Ok(unplaced(alloc, 2, text))
 }
 
+/// The pieces of a line: with an empty line behind them, or for JSON as one line, the array of their objects.
+pub fn ended(alloc: Global, form: Form, answer: Answer) -> Result<Answer, AllocError>
+    ensures { IfOk result (λ a. PrintsWithoutPlace a answer.status a.output.items) }
+{
+    let Answer { status, mut output, .. } = answer;
+    if form == Form::Json {
+        output = array_line(alloc, &output)?;
+    } else {
+        output.push(b'\n')?;
+    }
+    Ok(unplaced(alloc, status, output))
+}
+
+// The objects of these lines as an array on one line. No object has a line feed in it.
+fn array_line(alloc: Global, lines: &[u8]) -> Result<Vec<u8>, AllocError> {
+    let objects = lines.strip_suffix(b"\n").unwrap_or(lines);
+    let mut array = Vec::from_slice(alloc, b"[")?;
+    for byte in objects {
+        array.push(if *byte == b'\n' { b',' } else { *byte })?;
+    }
+    array.extend_from_slice(b"]\n")?;
+    Ok(array)
+}
+
 /// A word on a line of its own.
 pub fn told(alloc: Global, status: u8, word: &str) -> Result<Answer, AllocError>
     ensures { IfOk result (λ a. PrintsWithoutPlace a status (line_of word.now)) }

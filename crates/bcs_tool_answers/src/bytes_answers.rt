@@ -6,7 +6,7 @@ ghost use Rattle.bcs_tool_answers.specs.Answers.{TakesBytes, refusal_line};
 ghost use Rattle.bcs_tool_answers.specs.Places.{AnswersBytes, IsAnswer, MayReport};
 ghost use Rattle.bcs_tool_answers.specs.Preparing.{IsAskedBy};
 
-use crate::answer::{Answer, damaged, placed, refused, shown, unplaced};
+use crate::answer::{Answer, damaged, ended, placed, refused, shown, unplaced};
 use crate::base64_input::bytes_of_base64;
 use crate::blanks::without_blanks;
 use crate::input_places::{place_of_base64, place_of_digits};
@@ -164,7 +164,7 @@ fn answer_decode(
     }
 }
 
-// The pieces of the value whose bytes these are; where they are none, those before they stop being one.
+// The pieces of the value whose bytes these are; or those before they stop being one.
 fn answer_explain(
     alloc: Global,
     work: &Work,
@@ -189,8 +189,17 @@ fn answer_explain(
         bytes,
     )?;
     let Explanation { text, stop } = explained;
-    match stop {
-        None => Ok(unplaced(alloc, 0, text)),
-        Some(stop) => damaged(alloc, work.options.display.form, text, stop),
+    let form = work.options.display.form;
+    let answer = match stop {
+        None => unplaced(alloc, 0, text),
+        Some(stop) if work.options.json_refusals => {
+            return answer_stop(alloc, work, asked, bytes, stop);
+        }
+        Some(stop) => damaged(alloc, form, text, stop)?,
+    };
+    if work.options.lines {
+        ended(alloc, form, answer)
+    } else {
+        Ok(answer)
     }
 }
