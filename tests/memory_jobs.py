@@ -4,6 +4,7 @@ from memory_of_program import Job
 
 S = '{"S":{"NEWTYPESTRUCT":"I16"}}'
 I16, U8, BOOL = '"I16"', '"U8"', '"BOOL"'
+ACCENTED = '{"S":{"STRUCT":[{"é":"I16"}]}}'
 LIST = '{"SEQ":"I16"}'
 PAIRS = '{"MAP":{"KEY":"U16","VALUE":"BOOL"}}'
 NESTED = '{"L":{"STRUCT":[{"next":{"OPTION":{"TYPENAME":"L"}}}]}}'
@@ -76,6 +77,10 @@ MAPS = [
     Job(0, "equal", ["same", "{}", PAIRS, "@map", "@map"]),
     Job(0, "[[256,false],[1,true]]", ["decode", "--raw", "{}", PAIRS, "@map_bytes"]),
     Job(0, "\1", ["part", "--raw", "{}", PAIRS, "key:0100", "@map_bytes"]),
+    Job(0, "\1", ["part", "--raw", "--name", "[key:0100]", "{}", PAIRS, "@map_bytes"]),
+    Job(0, "\1", ["part", "--raw", "--pointer", "/1/1", "{}", PAIRS, "@map_bytes"]),
+    Job(0, "\xcc\xed", ["part", "--raw", "--name", ".\\u00e9", ACCENTED, "S", "@bytes"]),
+    Job(1, "", ["part", "--raw", "--quiet", "--name", "[key:0200]", "{}", PAIRS, "@map_bytes"]),
     Job(2, "refused: TooNested", ["decode", "--raw", NESTED, "L", "@nested"]),
     Job(0, "ok 500", ["scan", "--raw", NESTED, "L", "@nested"]),
 ]
