@@ -142,7 +142,7 @@ func TestRefusals(t *testing.T) {
 		{encode("Point", `{"x":1,"~/":["","0"]}`), Error{KindJSON, "BadHex", -1, "/~0~1/1", "an odd number of digits"}},
 		{encode("Point", `{"x":256,"~/":[]}`), Error{KindJSON, "BadNumber", -1, "/x", number}},
 		{encode("Point", `{"x":1}`), Error{KindJSON, "MissingField", -1, "", "no member is called ~/"}},
-		{encode(`"U8"`, ""), Error{KindJSON, "NotJson", -1, "", "line 1, column 0: serde_json stops reading there"}},
+		{encode(`"U8"`, ""), Error{KindJSON, "NotJson", -1, "", "line 1, column 0: the text stops being JSON there"}},
 		{equal(`{"x":1,"~/":[]}`, `{"x":"","~/":[]}`), Error{KindJSON, "BadNumber", -1, "/x", number}},
 		{equal(`{"x":"","~/":[]}`, `{}`), Error{KindJSON, "BadNumber", -1, "/x", number}},
 		{decode("Point", "07010205"), Error{KindBytes, "EndOfInput", 4, ".~/[0]", "wanted 2 bytes of BYTES"}},

@@ -26,7 +26,7 @@ static const struct refused texts[] = {
     ROW("\"F64\"", "1.5", "", "no value of F64 is supported"),
     ROW("{\"SEQ\":\"BOOL\"}", "[true,true,true,true,true,true,true,true,true,true,1]", "/10", "wanted BOOL, true or false"),
     ROW("{\"MAP\":{\"KEY\":\"U8\",\"VALUE\":\"U8\"}}", "[[1,2],[1,3]]", "", "two keys of a map are equal"),
-    ROW("\"U8\"", "x", "", "line 1, column 1: serde_json stops reading there"),
+    ROW("\"U8\"", "x", "", "line 1, column 1: the text stops being JSON there"),
     ROW("\"U8\"", "[" HUNDRED("[") HUNDRED("]") "]", "", "arrays and objects nest more than 100 deep"),
     {OF("{\"SEQ\":\"BOOL\"}"), OF("[true]"), "", "the value has more nodes than --nodes allows, 1", BCS_DEPTH, 1},
     {OF(SHAPE), OF("\"Dot\""), "", "more containers are open than allowed", 0, BCS_NODES},

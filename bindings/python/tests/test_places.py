@@ -40,7 +40,7 @@ class Places(unittest.TestCase):
         self.tells(ValueTypeError, "/~0~1/1", types, self.registry.encode, "Point", {"x": 1, "~/": [b"", 7]})
         self.tells(TextError, "", "wanted BOOL, true or false", self.registry.encode_text, '"BOOL"', "7")
         told = self.tells(
-            TextError, "", "line 1, column 1: serde_json stops reading there", self.registry.encode_text, '"U8"', "x"
+            TextError, "", "line 1, column 1: the text stops being JSON there", self.registry.encode_text, '"U8"', "x"
         )
         self.assertEqual(told.reason, "NotJson")
 
@@ -74,7 +74,7 @@ class Places(unittest.TestCase):
         for text, pointer, expected in [
             ('{"S":{"ENUM":{"x":{"A":"UNIT"}}}}', "/S/ENUM/x", "wanted a plain decimal number below 4294967296"),
             ({"S": {"STRUCT": [{"side": {"TYPENAME": "Sid"}}]}}, "S, field side", "no container is called Sid"),
-            ("{", "line 1, column 1", "serde_json stops reading there"),
+            ("{", "line 1, column 1", "the text stops being JSON there"),
         ]:
             self.tells(RegistryError, pointer, expected, Registry, text)
 

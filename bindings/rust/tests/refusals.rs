@@ -218,7 +218,7 @@ fn errors_tell_the_place() {
         ("Point", r#"{"x":1}"#, "", "no member is called ~/"),
         ("Shape", r#"{"Circle":true}"#, "/Circle", "wanted a whole number from 0 to 18446744073709551615 (U64)"),
         (r#"{"MAP":{"KEY":"U8","VALUE":"U8"}}"#, "[[1,2],[1,3]]", "", "two keys of a map are equal"),
-        (r#""U8""#, "x", "", "line 1, column 1: serde_json stops reading there"),
+        (r#""U8""#, "x", "", "line 1, column 1: the text stops being JSON there"),
     ];
     for (format, text, pointer, words) in texts {
         let error = registry.encode(format, text).unwrap_err();

@@ -11,6 +11,7 @@ mod placing;
 mod steps;
 mod stopping;
 mod table;
+mod variants;
 
 pub use explanation::{Explanation, explain_text};
 pub use placing::stop_place;
