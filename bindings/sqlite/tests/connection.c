@@ -173,7 +173,7 @@ static void hostile(void) {
 static void places(void) {
     sqlite3 *database = opened();
     is_error(database, "select bcs_equal('{}','{\"SEQ\":\"U8\"}','[1]','[1,256]')",
-             "bcs: no value of the format: BadNumber at /1: wanted a whole number from 0 to 255 (U8)");
+             "bcs: no value of the format: BadNumber at /1: found 256, wanted a whole number from 0 to 255 (U8)");
     is_error(database, "select bcs_encode('{\"A\":{\"STRUCT\":[{\"\\u0000\\n\\\\\\\"%s\xc3\xa9\\u20ac\\ud83d\\ude00\":\"U8\"}]}}','A',"
              "'{\"\\u0000\\n\\\\\\\"%s\xc3\xa9\\u20ac\\ud83d\\ude00\":true}')",
              "bcs: no value of the format: BadShape at /\\u0000\\u000a\\\\\\\"%s\\u00e9\\u20ac\\ud83d\\ude00: "
