@@ -20,6 +20,7 @@ mod placing;
 mod steps;
 mod stopping;
 mod table;
+mod variants;
 mod wrong_steps;
 
 pub use by_name::path_of_name;
