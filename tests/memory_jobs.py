@@ -9,9 +9,9 @@ PAIRS = '{"MAP":{"KEY":"U16","VALUE":"BOOL"}}'
 NESTED = '{"L":{"STRUCT":[{"next":{"OPTION":{"TYPENAME":"L"}}}]}}'
 OPENED = "fault: open"
 NO_FILE = "in the file no.file: No such file or directory"
-NOT_JSON = "at line 1, column 1: NotJson: serde_json stops reading there"
+NOT_JSON = "at line 1, column 1: NotJson: the text stops being JSON there"
 TOO_MANY_NODES = "at .: TooManyNodes: wanted I16; --nodes allows 1"
-WRONG_NUMBER = "BadNumber: wanted a whole number from -32768 to 32767 (I16)"
+WRONG_NUMBER = "BadNumber: found 32768, wanted a whole number from -32768 to 32767 (I16)"
 VARIANTS = '{"E":{"ENUM":{"0":{"B":"UNIT"},"1":{"A":{"NEWTYPE":"U8"}}}}}'
 FULL = '{"MAP":{"KEY":{"OPTION":{"TUPLE":["U8"]}},"VALUE":{"TYPENAME":"E"}}}'
 TALLY = "lines with status 0: {}, with status 1: {}, with status 2: {}".format
@@ -171,7 +171,7 @@ REFUSALS = [
         2,
         "refused: NotJson",
         ["normalise", "{}", I16, "@open"],
-        place="at line 2, column 0: NotJson: serde_json stops reading there",
+        place="at line 2, column 0: NotJson: the text stops being JSON there",
         left_out=5,
     ),
     Job(

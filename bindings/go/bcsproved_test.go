@@ -134,7 +134,8 @@ func TestRefusals(t *testing.T) {
 	_, badPath := registry.Part("Point", []byte{7, 0}, "x//")
 	_, tooNested := open(t, deep).Decode("C", deepData)
 	_, badRegistry := Open([]byte(`{"A":{"STRUCT":[{"x":{"TYPENAME":"B"}}]}}`))
-	number := "wanted a whole number from 0 to 255 (U8)"
+	wanted := "wanted a whole number from 0 to 255 (U8)"
+	number, text := "found 256, "+wanted, "found \"\", "+wanted
 	for _, row := range []struct {
 		err    error
 		wanted Error
@@ -142,14 +143,14 @@ func TestRefusals(t *testing.T) {
 		{encode("Point", `{"x":1,"~/":["","0"]}`), Error{KindJSON, "BadHex", -1, "/~0~1/1", "an odd number of digits"}},
 		{encode("Point", `{"x":256,"~/":[]}`), Error{KindJSON, "BadNumber", -1, "/x", number}},
 		{encode("Point", `{"x":1}`), Error{KindJSON, "MissingField", -1, "", "no member is called ~/"}},
-		{encode(`"U8"`, ""), Error{KindJSON, "NotJson", -1, "", "line 1, column 0: serde_json stops reading there"}},
-		{equal(`{"x":1,"~/":[]}`, `{"x":"","~/":[]}`), Error{KindJSON, "BadNumber", -1, "/x", number}},
-		{equal(`{"x":"","~/":[]}`, `{}`), Error{KindJSON, "BadNumber", -1, "/x", number}},
+		{encode(`"U8"`, ""), Error{KindJSON, "NotJson", -1, "", "line 1, column 0: the text stops being JSON there"}},
+		{equal(`{"x":1,"~/":[]}`, `{"x":"","~/":[]}`), Error{KindJSON, "BadNumber", -1, "/x", text}},
+		{equal(`{"x":"","~/":[]}`, `{}`), Error{KindJSON, "BadNumber", -1, "/x", text}},
 		{decode("Point", "07010205"), Error{KindBytes, "EndOfInput", 4, ".~/[0]", "wanted 2 bytes of BYTES"}},
 		{decode("Point", "070000"), Error{KindBytes, "TrailingBytes", 2, "", ""}},
 		{decode(`"BOOL"`, "02"), Error{KindBytes, "BadBool", 0, ".", "wanted BOOL"}},
 		{decode(`"BOOL"`, ""), Error{KindBytes, "EndOfInput", 0, ".", "wanted BOOL"}},
-		{badScan, Error{KindBytes, "UnknownVariant", 0, ".", "wanted number of a variant"}},
+		{badScan, Error{KindBytes, "UnknownVariant", 0, ".", "wanted number of a variant; found 1; variants: 0 Dot, 2 Circle"}},
 		{badPart, Error{KindBytes, "BadBool", 1, "[0]", "wanted BOOL"}},
 		{tooNested, Error{KindBytes, "TooNested", -1, "", ""}},
 		{badPath, Error{KindPath, "BadPath", -1, "", ""}},

@@ -1,5 +1,6 @@
 //! A format, or NAME of `show`, that names no container.
 
+use crate::container_hints::container_hint;
 use crate::names::Name;
 use bcs_registry::{Registry, RegistryFault};
 use bcs_registry_json::format_text::format_from;
@@ -18,9 +19,9 @@ pub fn place_of_word(
     if registry.container(word).is_some() {
         return Ok(None);
     }
-    let name = Name::of(word);
+    let (name, hint) = (Name::of(word), container_hint(alloc, registry.containers(), word)?);
     let line = format!(in alloc;
-        "at FORMAT: UnknownName: no container is called {name}; a format without a name is written as JSON, as '\"U64\"'"
+        "at FORMAT: UnknownName: no container is called {name}; a format without a name is written as JSON, as '\"U64\"'{hint}"
     )?;
     Ok(Some(line.into_bytes()))
 }
@@ -35,8 +36,9 @@ pub fn place_of_container(
     if registry.container(name).is_some() {
         return Ok(None);
     }
+    let hint = container_hint(alloc, registry.containers(), name)?;
     let name = Name::of(name);
-    let line = format!(in alloc; "at NAME: UnknownName: no container is called {name}")?;
+    let line = format!(in alloc; "at NAME: UnknownName: no container is called {name}{hint}")?;
     Ok(Some(line.into_bytes()))
 }
 
@@ -52,7 +54,8 @@ pub fn place_of_name(
     let Some(name) = first_unknown(&format, registry.containers()) else {
         return Ok(None);
     };
+    let hint = container_hint(alloc, registry.containers(), name)?;
     let name = Name::of(name);
-    let line = format!(in alloc; "at FORMAT: UnknownName: no container is called {name}")?;
+    let line = format!(in alloc; "at FORMAT: UnknownName: no container is called {name}{hint}")?;
     Ok(Some(line.into_bytes()))
 }

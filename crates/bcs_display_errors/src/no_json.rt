@@ -57,7 +57,7 @@ pub(crate) fn stop_line(alloc: Global, front: &str, text: &[u8]) -> Option<Vec<u
     }
     let (line, column) = (error.line(), error.column());
     let told = format!(in alloc;
-        "{front} line {line}, column {column}: NotJson: serde_json stops reading there"
+        "{front} line {line}, column {column}: NotJson: the text stops being JSON there"
     );
     Some(told.ok()?.into_bytes())
 }

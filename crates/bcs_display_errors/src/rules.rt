@@ -1,5 +1,6 @@
 //! Where a registry breaks a rule.
 
+use crate::container_hints::container_hint;
 use crate::content::Content;
 use crate::names::Name;
 use crate::owners::{Owner, Slot};
@@ -143,9 +144,10 @@ impl<'a> Search<'a> {
             return Ok(());
         }
         if let Some(name) = first_unknown(format, self.containers) {
+            let hint = container_hint(self.alloc, self.containers, name)?;
             let name = Name::of(name);
             self.unknown = Some(format!(in self.alloc;
-                "at {owner}{slot}: UnknownName: no container is called {name}"
+                "at {owner}{slot}: UnknownName: no container is called {name}{hint}"
             )?);
         }
         Ok(())

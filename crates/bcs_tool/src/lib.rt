@@ -25,7 +25,7 @@ pub use bcs_io::{ByteSink, ByteSource, ReadSource, TakeFault, WriteSink, put_all
 pub use bcs_tool_answers::laws;
 pub use bcs_tool_command_line::{
     Coding, Color, Command, Display, FileFault, FileRefusal, Inputs, Job, JobOptions, LineFault,
-    OpenCause, Origin, Outcome, UnreadFile, Work,
+    Misuse, Notation, OpenCause, Origin, Outcome, UnreadFile, Work,
 };
 pub use command_line::line;
 pub use entry::{args_of, program, start};

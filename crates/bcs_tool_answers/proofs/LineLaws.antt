@@ -17,7 +17,7 @@ module _ (work : Work) where
   in_turn all.none = (refl, refl)
   in_turn (all.next l ls s ss o os h more) = (s, ss, o, os, h, more, refl, refl)
 
-  pub one_for_all : (lines : List (List ℕ)) (statuses others outputs again : List ℕ) → IsExact work.command work.options.list → AnswersAll work lines statuses outputs
+  pub one_for_all : (lines : List (List ℕ)) (statuses others outputs again : List ℕ) → IsExact work.command work.options.notation work.options.list → AnswersAll work lines statuses outputs
       → AnswersAll work lines others again → (statuses ≡ others) × (outputs ≡ again)
   one_for_all [] statuses others outputs again exact h k =
       let p = in_turn h in

@@ -67,6 +67,7 @@ pub use Rattle.bcs_tool_command_line.specs.declared.coding.Coding.{Coding}
 pub use Rattle.bcs_tool_command_line.specs.declared.coding.Coding.TheVariants.{Base64, Hexadecimal, Raw}
 pub use Rattle.bcs_tool_command_line.specs.declared.command.Command.{Command}
 pub use Rattle.bcs_tool_command_line.specs.declared.command.Command.TheVariants.{Check, Decode, Encode, Example, Explain, Normalise, Same, Scan, Schema, Show}
+pub use Rattle.bcs_tool_command_line.specs.declared.notation.Notation.{Notation}
 pub use Rattle.bcs_tool_command_line.specs.declared.work.Work.{Work}
 pub use Rattle.bcs_value_model.proofs.Equivalence.{same-refl}
 pub use Rattle.bcs_value_model.specs.Limits.{Bounds}
@@ -83,6 +84,7 @@ pub use Rattle.bcs_tool_answers.specs.Input.{GivesBytes, input_fault_name, is_bl
 unfoldable pub use Rattle.bcs_tool_answers.specs.Input.{base64_text}
 pub use Rattle.bcs_tool_answers.specs.LineAnswers.{AnswersAll, count_of, greatest}
 pub use Rattle.bcs_tool_answers.specs.PairAnswers.{AnswersPair, AnswersPairs}
+pub use Rattle.bcs_tool_answers.specs.Notations.{are_marked, is_name, is_pointer, SpellsNoSteps, SpellsSteps}
 pub use Rattle.bcs_tool_answers.specs.Places.{IsAnswer, MayReport, nothing, Places, PrintsWithoutPlace, told}
 pub use Rattle.bcs_tool_answers.specs.Preparing.{IsAskedBy}
 pub use Rattle.bcs_tool_answers.specs.Validating.{is_json_word, IsFormatWord, IsPathOf, IsRegistry, job_fault_name, name_of, NamesNone, ReadsInput, RefusesCheck, RefusesEarly, RefusesFormatted, RefusesFormatWord, RefusesGrowth, RefusesJobOf, RefusesPart, works_on_values}

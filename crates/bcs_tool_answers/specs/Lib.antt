@@ -1,3 +1,4 @@
+pub mod Notations
 pub mod Validating
 pub mod Input
 pub mod Answers

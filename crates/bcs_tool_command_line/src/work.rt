@@ -15,7 +15,7 @@ pub struct Work {
     pub second: Vec<u8>,
     /// FORMAT as it is; empty if the command has none.
     pub format: String,
-    /// PATH as it is; empty if the command has none.
+    /// PATH as it is, or the value of `--name` or of `--pointer`; empty if the command has none.
     pub path: String,
     /// Whether bytes are read and written as they are, not as hexadecimal digits.
     pub raw: bool,
