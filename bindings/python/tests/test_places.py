@@ -69,7 +69,14 @@ class Places(unittest.TestCase):
         damaged = bytes.fromhex("0701020507")
         told = self.tells(BytesError, ".~/[0]", "wanted 2 bytes of BYTES", self.registry.decode, "Point", damaged[:-2])
         self.assertEqual(told.place, 3)
-        self.tells(BytesError, ".", "wanted number of a variant; found 1; variants: 0 Dot, 2 Circle", self.registry.scan, "Shape", b"\1")
+        self.tells(
+            BytesError,
+            ".",
+            "wanted number of a variant; found 1; variants: 0 Dot, 2 Circle",
+            self.registry.scan,
+            "Shape",
+            b"\1",
+        )
         self.tells(BytesError, "[0]", "wanted BOOL", self.registry.part, {"SEQ": "BOOL"}, b"\1\2", ".")
 
     def test_registries(self) -> None:
