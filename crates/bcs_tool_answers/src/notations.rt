@@ -28,10 +28,7 @@ pub(crate) fn read_steps(
 fn is_name(word: &str) -> bool
     ensures { result ≡ is_name word.now }
 {
-    matches!(
-        word.as_bytes().first(),
-        Some(b'.' | b'[' | b'?' | b':')
-    )
+    matches!(word.as_bytes().first(), Some(b'.' | b'[' | b'?' | b':'))
 }
 
 // Whether the text is a JSON Pointer (RFC 6901).
