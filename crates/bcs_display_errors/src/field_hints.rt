@@ -12,7 +12,7 @@ use std::collections::BTreeSet;
 /// fields.
 pub(crate) fn missing_hint<'a>(
     alloc: Global,
-    fields: &BTreeSet<&str>,
+    fields: &BTreeSet<&'a str>,
     members: &'a Map<String, Json>,
     missing: &'a str,
 ) -> Result<Hint<'a>, AllocError> {

@@ -188,7 +188,7 @@ fn struct_expectation<'a>(
 fn unknown_field<'a>(
     alloc: Global,
     fields: &'a [Named<Format>],
-    names: &BTreeSet<&str>,
+    names: &BTreeSet<&'a str>,
     members: &'a Map<String, Json>,
 ) -> Result<Option<Expected<'a>>, AllocError> {
     for (name, _) in members {

@@ -1,5 +1,5 @@
-//! Where texts and words are refused, in a line for people: a registry that hasn't the shape or breaks a rule, one that
-//! didn't grow, FORMAT, NAME, PATH, and the JSON text of a value.
+//! Lines that tell people where something is refused, and what was expected there: a registry with a wrong shape or a
+//! broken rule, one that doesn't extend an older one, FORMAT, NAME, PATH, and the JSON document of a value.
 #![tactic(auto)]
 
 mod container_hints;

@@ -19,11 +19,11 @@ impl fmt::Display for VariantList<'_> {
             return f.write_str("; the enum has no variants");
         }
         f.write_str("; variants: ")?;
-        let mut separator = "";
-        for variant in variants.values().take(LISTED) {
-            let name = Name::of(variant.name.as_str());
-            write!(f, "{separator}{name}")?;
-            separator = ", ";
+        for (place, variant) in variants.values().take(LISTED).enumerate() {
+            if place > 0 {
+                f.write_str(", ")?;
+            }
+            write!(f, "{}", Name::of(variant.name.as_str()))?;
         }
         match variants.len().saturating_sub(LISTED) {
             0 => Ok(()),

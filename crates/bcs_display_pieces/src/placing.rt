@@ -71,7 +71,11 @@ struct StopKeeper {
 }
 
 impl StopKeeper {
-    fn keep(&mut self, trail: &Trail<'_, '_, '_>, expected: Expected<'_>) -> Result<(), AllocError> {
+    fn keep(
+        &mut self,
+        trail: &Trail<'_, '_, '_>,
+        expected: Expected<'_>,
+    ) -> Result<(), AllocError> {
         self.halt = Halt::at(self.alloc, trail, expected)?;
         self.container = String::from_str(self.alloc, container_name(trail))?;
         Ok(())

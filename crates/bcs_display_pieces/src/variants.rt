@@ -39,13 +39,13 @@ fn put_list(
         return out.extend_from_slice(b"; the enum has no variants");
     }
     out.extend_from_slice(b"; variants: ")?;
-    let mut separator = "";
-    for (number, variant) in variants.iter().take(LISTED) {
-        out.extend_from_slice(separator.as_bytes())?;
+    for (place, (number, variant)) in variants.iter().take(LISTED).enumerate() {
+        if place > 0 {
+            out.extend_from_slice(b", ")?;
+        }
         put_decimal(u128::from(*number), out)?;
         out.push(b' ')?;
         put_cut(variant.name.as_str(), out)?;
-        separator = ", ";
     }
     let more = variants.len().saturating_sub(LISTED);
     if more == 0 {
