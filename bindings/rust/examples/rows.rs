@@ -160,13 +160,7 @@ fn part(registry: &Registry, format: &Format, input: &[u8], path: &[u8]) -> Resu
     Ok(told_of_part(registry.part(format, input, path)?, input))
 }
 
-fn part_named(
-    registry: &Registry,
-    format: &Format,
-    input: &[u8],
-    name: &[u8],
-    notation: &str,
-) -> Result<Told, Error> {
+fn part_named(registry: &Registry, format: &Format, input: &[u8], name: &[u8], notation: &str) -> Result<Told, Error> {
     let part = match notation {
         "name" => registry.part_by_name(format, input, name)?,
         "pointer" => registry.part_by_pointer(format, input, name)?,

@@ -381,8 +381,8 @@ impl Registry {
         notation: u32,
         name: &[u8],
     ) -> Result<Option<Part<'b>>, Error> {
-        let question = self.of_bytes(format, bytes);
-        let found = done_unless_no(self.open.part_named(question, notation, name, bytes)).map_err(|error| match error.kind() {
+        let answer = self.open.part_named(self.of_bytes(format, bytes), notation, name, bytes);
+        let found = done_unless_no(answer).map_err(|error| match error.kind() {
             ErrorKind::Path => error,
             _ => self.in_bytes(error, format, bytes),
         });
