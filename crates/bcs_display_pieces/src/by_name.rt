@@ -72,11 +72,7 @@ fn read_first<'t>(
 ) -> Result<Option<(PathStep, &'t str)>, AllocError> {
     match follower.inside() {
         Inside::Fields(fields) => Ok(field_step(fields, rest)),
-        Inside::Variants(variants) => Ok(variant_step(
-            variants,
-            follower.at().ahead.bytes,
-            rest,
-        )),
+        Inside::Variants(variants) => Ok(variant_step(variants, follower.at().ahead.bytes, rest)),
         Inside::Option(_) => Ok(option_step(rest)),
         Inside::List(_) | Inside::Array(_, _) | Inside::Tuple(_) => Ok(item_step(rest)),
         Inside::Map(key, content) => {

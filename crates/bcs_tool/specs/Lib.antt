@@ -4,6 +4,8 @@ pub mod Pairs
 pub mod PairLines
 pub mod Scanning
 pub mod Endings
+pub mod HeldOutput
+pub mod Delivering
 pub mod Visible
 pub use Rattle.bcs_tool_answers.specs.Validating
 pub use Rattle.bcs_tool_answers.specs.Input

@@ -5,13 +5,14 @@ ghost use Rattle.bcs_tool_command_line.specs.CommandLine.{texts_of};
 ghost use Rattle.bcs_tool_command_line.specs.Jobs.{IsJobOf};
 ghost use Rattle.bcs_tool_command_line.specs.LineFaults.{IsFaultOf};
 ghost use Rattle.bcs_tool_command_line.specs.AcceptedArguments.{AcceptsArguments};
-ghost use Rattle.bcs_tool.specs.Endings.{IsWordsFault, Performs, ReportsFault, PrintsReport};
+ghost use Rattle.bcs_tool.specs.Delivering.{Finishes};
+ghost use Rattle.bcs_tool.specs.Endings.{IsWordsFault, ReportsFault};
 ghost use Rattle.bcs_tool.specs.Visible.{breaks_lines};
 
 use crate::reporting::report_fault;
 use crate::responding::respond;
 use bcs_io::{ByteSink, ByteSource, ReadSource, WriteSink};
-use bcs_tool_command_line::{Job, LineFault, Outcome};
+use bcs_tool_command_line::{Job, LineFault};
 use std::env;
 use std::env::Env;
 use std::io::{BufReader, ErrorKind};
@@ -70,10 +71,9 @@ pub fn start<R: Files + Env + AllocGlobal, S: ByteSource, O: ByteSink, E: ByteSi
     ensures job { IfOk words (λ given. AcceptsArguments (texts_of given.items) →
         ((input.new ≡ input.old) × ReportsFault O.taken O.is_failed E.taken E.is_failed
         (not (breaks_lines (texts_of given.items))) LineFault.OutOfMemory out.old out.new errors.old errors.new result)
-        ⊎ ((job : Job) × (outcome : Outcome) × IsJobOf (texts_of given.items) job
-        × Performs S.content S.is_failed S.allowance O.taken O.is_failed R.File.remaining
-        job input.old input.new out.old out.new outcome
-        × PrintsReport E.taken E.is_failed outcome errors.old errors.new result)) }
+        ⊎ ((job : Job) × IsJobOf (texts_of given.items) job
+        × Finishes S.content S.is_failed S.allowance O.taken O.is_failed E.taken E.is_failed R.File.remaining R.File.contents
+        job input.old input.new out.old out.new errors.old errors.new result)) }
 {
     match words {
         Ok(words) => respond(rt, words.as_slice(), input, out, errors),

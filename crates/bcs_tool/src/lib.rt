@@ -2,14 +2,17 @@
 #![tactic(auto)]
 
 mod command_line;
+mod delivering;
 mod entry;
 mod files;
+mod held_output;
 mod interruption;
 mod line_reading;
 mod line_running;
 mod pair_lines;
 mod pair_places;
 mod pair_running;
+mod performing;
 mod put_answer;
 mod reporting;
 mod responding;

@@ -20,21 +20,22 @@ abbrev pub refusals_misuse : Option Text → Option Misuse
 refusals_misuse None = None
 refusals_misuse (Some form) = if bytes_eq form (codes "json") then None else Some UnknownRefusals
 
+-- and if it was given without `--lines`
+abbrev pub alone_misuse : Bool → Option Misuse
+alone_misuse has_refusals = if has_refusals then Some RefusalsAlone else None
+
 abbrev pub line_misuse : List Row → Option Misuse
 line_misuse found = if is_set (codes "lines") found
     then (if is_raw (coding_found found) then Some RawLines
     else (if has_value (codes "output") found then Some OutputLines else refusals_misuse (first_of (codes "refusals") found)))
-    else (if has_value (codes "refusals") found then Some RefusalsAlone else None)
+    else alone_misuse (has_value (codes "refusals") found)
 
 -- ---- options of single commands
 
 -- the value of `--color`, if it was given, is one of three
-abbrev pub when_misuse : Option Text → Option Misuse
-when_misuse None = None
-when_misuse (Some text) = if bytes_eq text (codes "auto") || (bytes_eq text (codes "always") || bytes_eq text (codes "never")) then None else Some UnknownColor
-
-abbrev pub color_misuse : List Row → Option Misuse
-color_misuse found = when_misuse (first_of (codes "color") found)
+abbrev pub color_misuse : Option Text → Option Misuse
+color_misuse None = None
+color_misuse (Some text) = if bytes_eq text (codes "auto") || (bytes_eq text (codes "always") || bytes_eq text (codes "never")) then None else Some UnknownColor
 
 -- whether there is a third argument without a name, and a fourth
 abbrev pub positional_misuse : Notation → Bool → Bool → Option Misuse
@@ -47,7 +48,7 @@ part_misuse found = if has_value (codes "name") found && has_value (codes "point
     else positional_misuse (notation_found found) (has_value (codes "PATH") found) (has_value (codes "FILE") found)
 
 abbrev pub command_misuse : Command → List Row → Option Misuse
-command_misuse Explain found = color_misuse found
+command_misuse Explain found = color_misuse (first_of (codes "color") found)
 command_misuse Part found = part_misuse found
 command_misuse _ found = None
 

@@ -1,7 +1,7 @@
 //! Arguments that clap accepts one by one, but that don't go together.
-ghost use Rattle.std.specs.Prelude.{◌≡◌};
+ghost use Rattle.std.specs.Prelude.{◌≡◌, option_map};
 ghost use Rattle.clap.specs.Words.{found_of, rows_of};
-ghost use Rattle.bcs_tool_command_line.specs.Misuses.{color_misuse, line_misuse, misuse_in, misuse_text, part_misuse, positional_misuse};
+ghost use Rattle.bcs_tool_command_line.specs.Misuses.{alone_misuse, color_misuse, line_misuse, misuse_in, misuse_text, part_misuse, positional_misuse, refusals_misuse};
 
 use crate::arguments::{coding_of, has_value, is_set, notation_of};
 use crate::command::Command;
@@ -59,7 +59,7 @@ pub fn misuse_in(command: Command, given: &ArgMatches<'_>) -> Option<Misuse>
         return Some(misuse);
     }
     match command {
-        Command::Explain => color_misuse(given),
+        Command::Explain => color_misuse(given.get_str("color")),
         Command::Part => part_misuse(given),
         _ => None,
     }
@@ -69,26 +69,41 @@ pub fn misuse_in(command: Command, given: &ArgMatches<'_>) -> Option<Misuse>
 fn line_misuse(given: &ArgMatches<'_>) -> Option<Misuse>
     ensures { result ≡ line_misuse (rows_of (found_of given.now)) }
 {
-    if is_set(given, "lines") {
-        if coding_of(given).is_raw() {
-            return Some(Misuse::RawLines);
-        }
-        if has_value(given, "output") {
-            return Some(Misuse::OutputLines);
-        }
-    } else if has_value(given, "refusals") {
-        return Some(Misuse::RefusalsAlone);
+    if !is_set(given, "lines") {
+        return alone_misuse(has_value(given, "refusals"));
     }
-    match given.get_str("refusals") {
+    if coding_of(given).is_raw() {
+        Some(Misuse::RawLines)
+    } else if has_value(given, "output") {
+        Some(Misuse::OutputLines)
+    } else {
+        refusals_misuse(given.get_str("refusals"))
+    }
+}
+
+fn alone_misuse(has_refusals: bool) -> Option<Misuse>
+    ensures { result ≡ alone_misuse has_refusals }
+{
+    if has_refusals {
+        Some(Misuse::RefusalsAlone)
+    } else {
+        None
+    }
+}
+
+fn refusals_misuse(form: Option<&str>) -> Option<Misuse>
+    ensures { result ≡ refusals_misuse (option_map (λ t. t.now) form.entry) }
+{
+    match form {
         None | Some("json") => None,
         Some(_) => Some(Misuse::UnknownRefusals),
     }
 }
 
-fn color_misuse(given: &ArgMatches<'_>) -> Option<Misuse>
-    ensures { result ≡ color_misuse (rows_of (found_of given.now)) }
+fn color_misuse(when: Option<&str>) -> Option<Misuse>
+    ensures { result ≡ color_misuse (option_map (λ t. t.now) when.entry) }
 {
-    match given.get_str("color") {
+    match when {
         None | Some("auto" | "always" | "never") => None,
         Some(_) => Some(Misuse::UnknownColor),
     }

@@ -1,8 +1,7 @@
 //! Arguments as clap gets them.
 ghost use Rattle.std.specs.Prelude.{◌≡◌, IfOk, map};
-ghost use Rattle.std.specs.Borrow.{Bor};
 ghost use Rattle.bcs_tool_command_line.specs.CommandLine.{texts_of};
-ghost use Rattle.bcs_tool_command_line.specs.Spelling.{spelled, spelled_word};
+ghost use Rattle.bcs_tool_command_line.specs.Spelling.{may_be_option, spelled, spelled_word};
 
 use std::alloc::{AllocError, Global};
 
@@ -11,24 +10,27 @@ pub fn spelled<'a>(alloc: Global, words: &'a [String]) -> Result<Vec<&'a str>, A
     ensures { IfOk result (λ v. map (λ t. t.now) v.items ≡ spelled (texts_of words.now)) }
 {
     let mut full = Vec::with_capacity(alloc, words.len())?;
-    let mut may_be_option = true;
+    let mut goes_on = true;
     for word in words {
         let word = word.as_str();
-        may_be_option = may_be_option && word != "--";
-        full.push(if may_be_option {
-            spelled_word(word)
-        } else {
-            word
-        })?;
+        goes_on = may_be_option(goes_on, word);
+        full.push(spelled_word(goes_on, word))?;
     }
     Ok(full)
 }
 
-// `--color` without a value means `--color=always`. clap would take the next argument for its value.
-fn spelled_word(word: &str) -> &str
-    ensures { result.now ≡ spelled_word word.now }
+// Whether options may still come: not after `--`.
+fn may_be_option(goes_on: bool, word: &str) -> bool
+    ensures { result ≡ may_be_option goes_on word.now }
 {
-    if word == "--color" {
+    goes_on && word != "--"
+}
+
+// `--color` without a value means `--color=always`. clap would use the next argument as its value.
+fn spelled_word(may_be_option: bool, word: &str) -> &str
+    ensures { result.now ≡ spelled_word may_be_option word.now }
+{
+    if may_be_option && word == "--color" {
         "--color=always"
     } else {
         word

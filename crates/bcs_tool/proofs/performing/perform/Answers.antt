@@ -1,6 +1,6 @@
 use Rattle.bcs_tool.proofs.Prelude.{◌≡◌, ◌∙◌, List, Option, ap, refl, subst, sym, ℕ, String, Global, if_some_holds, ReportsPlace, file_place, ComparesLines, file_note, PerformsOne, PerformsPairs, lacks_file, over_one, over_pairs}
 use Rattle.std.specs.Prelude.{string_bytes}
-use Rattle.bcs_tool.proofs.responding.perform.Goals as goal
+use Rattle.bcs_tool.proofs.performing.perform.Goals as goal
 
 pub returns-in-Err : goal.returns-in-Err
 returns-in-Err g c =

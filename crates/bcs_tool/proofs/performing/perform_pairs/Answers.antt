@@ -1,5 +1,5 @@
 use Rattle.bcs_tool.proofs.Prelude.{List, refl, subst, ℕ, file_text, IsUnopened, pairs_over_file, pairs_over_input, second_unopened, IsOutcomeOf}
-use Rattle.bcs_tool.proofs.responding.perform_pairs.Goals as goal
+use Rattle.bcs_tool.proofs.performing.perform_pairs.Goals as goal
 
 -- the standard input
 pub returns-in_default : goal.returns-in_default
