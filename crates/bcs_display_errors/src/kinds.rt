@@ -170,18 +170,40 @@ fn struct_expectation<'a>(
     let Json::Object(members) = json else {
         return Ok(Some(Expected::Words("wanted an object with a member for each field")));
     };
+    let names = names_of(alloc, fields)?;
+    match missing_field(alloc, fields, &names, members)? {
+        Some(missing) => Ok(Some(missing)),
+        None => unknown_field(alloc, fields, &names, members),
+    }
+}
+
+// The names of the fields, so that each member is looked up once, and not compared with all of them.
+fn names_of<'a>(
+    alloc: Global,
+    fields: &'a [Named<Format>],
+) -> Result<BTreeSet<&'a str>, AllocError> {
     let mut names = BTreeSet::new(alloc);
     for field in fields {
         names.insert(field.name.as_str())?;
     }
+    Ok(names)
+}
+
+// The first field that no member has.
+fn missing_field<'a>(
+    alloc: Global,
+    fields: &'a [Named<Format>],
+    names: &BTreeSet<&'a str>,
+    members: &'a Map<String, Json>,
+) -> Result<Option<Expected<'a>>, AllocError> {
     for field in fields {
         let name = field.name.as_str();
         if !members.contains_key(name) {
-            let hint = missing_hint(alloc, &names, members, name)?;
+            let hint = missing_hint(alloc, names, members, name)?;
             return Ok(Some(Expected::Hinted("no member is called", Name::of(name), hint)));
         }
     }
-    unknown_field(alloc, fields, &names, members)
+    Ok(None)
 }
 
 // The first member that is no field.
