@@ -54,7 +54,8 @@ def is_named(question: Question, data: bytes, piece: dict[str, Any]) -> bool:
     # (a name may have a key that is cut, and a path may not)
     if "..." in piece["path"]:
         return True
-    return named.status == "done" and part_in(named, data) == part_in(question.ask("part", data, piece["path"].encode()), data)
+    by_path = question.ask("part", data, piece["path"].encode())
+    return named.status == "done" and part_in(named, data) == part_in(by_path, data)
 
 
 def part_in(answer: Answer, data: bytes) -> bytes:
