@@ -119,6 +119,43 @@ func TestParts(t *testing.T) {
 	}
 }
 
+func TestPartsByNames(t *testing.T) {
+	registry := open(t, shapes)
+	data := unhex(t, "0702020001009999")
+	for _, row := range []struct {
+		find  func(string, []byte, string) (*Part, error)
+		name  string
+		place int
+		part  string
+	}{{registry.PartByName, ".", 0, "070202000100"}, {registry.PartByName, ".x", 0, "07"},
+		{registry.PartByName, ".~/[0]", 2, "020001"}, {registry.PartByName, ".~/[2]", -1, ""}, {registry.PartByName, ".y", -1, ""},
+		{registry.PartByPointer, "", 0, "070202000100"}, {registry.PartByPointer, "/x", 0, "07"},
+		{registry.PartByPointer, "/~0~1/1", 5, "00"}, {registry.PartByPointer, "/~0~1/2", -1, ""}, {registry.PartByPointer, "/", -1, ""}} {
+		part, err := row.find("Point", data, row.name)
+		switch {
+		case err != nil:
+			t.Errorf("%q: %v", row.name, err)
+		case row.place < 0 && part != nil:
+			t.Errorf("%q leads somewhere: %v", row.name, part)
+		case row.place >= 0 && (part == nil || part.Place != row.place || hex.EncodeToString(part.Data) != row.part):
+			t.Errorf("%q: %v", row.name, part)
+		}
+	}
+	_, badName := registry.PartByName("Point", data, "x")
+	_, badPointer := registry.PartByPointer("Point", data, "/~2")
+	_, badPart := registry.PartByName(`{"SEQ":"BOOL"}`, []byte{1, 2}, ".")
+	for _, row := range []struct {
+		err    error
+		wanted Error
+	}{{badName, Error{KindPath, "BadPath", -1, "", ""}}, {badPointer, Error{KindPath, "BadPath", -1, "", ""}},
+		{badPart, Error{KindBytes, "BadBool", 1, "[0]", "wanted BOOL"}}} {
+		var refused *Error
+		if !errors.As(row.err, &refused) || *refused != row.wanted {
+			t.Errorf("%v, and not %v", row.err, row.wanted)
+		}
+	}
+}
+
 func TestRefusals(t *testing.T) {
 	registry := open(t, shapes)
 	closed := open(t, shapes)

@@ -167,6 +167,12 @@ fn paths_are_refused() {
     for path in ["", "-", "/0", "0/", "01", "key:012", "./0", "some"] {
         assert_eq!(plain().part(list, &[0], path).unwrap_err(), ErrorKind::Path, "{path}");
     }
+    for name in ["", "a", "/0"] {
+        assert_eq!(plain().part_by_name(list, &[0], name).unwrap_err(), ErrorKind::Path, "{name}");
+    }
+    for pointer in ["a", ".", "/~", "/~2"] {
+        assert_eq!(plain().part_by_pointer(list, &[0], pointer).unwrap_err(), ErrorKind::Path, "{pointer}");
+    }
     assert_eq!(ErrorKind::Path.name(), Some("BadPath"));
 }
 

@@ -48,6 +48,8 @@ CALLS = [
             "bcs_fault('{}', '\"U8\"', ?)",
             "bcs_part('{}', '\"U8\"', ?, '.')",
             "bcs_part_place('{}', '\"U8\"', ?, '.')",
+            "bcs_part_by_name('{}', '\"U8\"', ?, '.')",
+            "bcs_part_by_pointer('{}', '\"U8\"', ?, '')",
             "bcs_explain('{}', '\"U8\"', ?, 'json')",
         ]
     ),

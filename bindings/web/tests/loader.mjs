@@ -198,6 +198,9 @@ test('refusals by kind, reason and place', () => {
   assert.throws(() => none.decode('"BOOL"', bytesOfHex('02')), refusal('bytes', 'BadBool', 0));
   assert.throws(() => none.scan('"STR"', bytesOfHex('8000')), refusal('bytes', 'LongForm', 0));
   assert.throws(() => none.part('"U8"', bytesOfHex('07'), 'a//b'), refusal('path', 'BadPath'));
+  assert.throws(() => none.partByName('"U8"', bytesOfHex('07'), 'a'), refusal('path', 'BadPath'));
+  assert.throws(() => none.partByPointer('"U8"', bytesOfHex('07'), '/~2'), refusal('path', 'BadPath'));
+  assert.throws(() => none.partByName('"BOOL"', bytesOfHex('02'), '.'), refusal('bytes', 'BadBool', 0));
   assert.throws(() => none.withLimits({ depth: 501 }).encodeText('"U8"', '7'), refusal('limits', 'the depth is above 500'));
   assert.throws(() => shapes.withLimits({ depth: 1 }).decode('Chain', bytesOfHex('0100')), refusal('bytes', 'TooDeep', 1));
   const many = none.withLimits({ nodes: 1000 });
@@ -426,6 +429,10 @@ test('scans, parts and pieces', () => {
   const map = '{"MAP":{"KEY":"U16","VALUE":"BOOL"}}';
   assert.deepEqual(none.part(map, bytesOfHex('02000100010001'), 'key:0100'), { place: 6, bytes: Uint8Array.of(1) });
   assert.equal(none.part(map, bytesOfHex('02000100010001'), 'key:0101'), undefined);
+  assert.deepEqual(none.partByName(map, bytesOfHex('02000100010001'), '[key:0100]'), { place: 6, bytes: Uint8Array.of(1) });
+  assert.equal(none.partByName(map, bytesOfHex('02000100010001'), '[key:0101]'), undefined);
+  assert.deepEqual(none.partByPointer(map, bytesOfHex('02000100010001'), '/1/1'), { place: 6, bytes: Uint8Array.of(1) });
+  assert.equal(none.partByPointer(map, bytesOfHex('02000100010001'), '/1/0'), undefined);
   assert.deepEqual(shapes.explain({ SEQ: { TYPENAME: 'Shape' } }, bytesOfHex('02020500')), [
     { bytes: '02', kind: 'length', name: '.', path: '.', place: 0, value: 2, what: 'SEQ' },
     { bytes: '02', kind: 'variant', name: '[0]', path: '0/inner', place: 1, value: 2, what: 'Shape::Circle' },
