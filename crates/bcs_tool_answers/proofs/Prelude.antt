@@ -28,6 +28,7 @@ pub use Rattle.bcs_decode_spec.specs.Stopping.{Stops, StopsAll}
 pub use Rattle.bcs_decode_spec.specs.declared.reason.Reason.{Reason}
 pub use Rattle.bcs_decode_spec.specs.declared.stop.Stop.{Stop}
 pub use Rattle.bcs_display_pieces.specs.EndsAt.{EndsAt}
+pub use Rattle.bcs_display_pieces.specs.PartTexts.{is_name, is_pointer}
 pub use Rattle.bcs_encode_spec.proofs.FormLaws.{bytes_decide_same, forms_same}
 pub use Rattle.bcs_encode_spec.specs.Encodes.{Encodes, IsForm}
 pub use Rattle.bcs_encode_spec.specs.Plain.{plain}
@@ -84,7 +85,7 @@ pub use Rattle.bcs_tool_answers.specs.Input.{GivesBytes, input_fault_name, is_bl
 unfoldable pub use Rattle.bcs_tool_answers.specs.Input.{base64_text}
 pub use Rattle.bcs_tool_answers.specs.LineAnswers.{AnswersAll, count_of, greatest}
 pub use Rattle.bcs_tool_answers.specs.PairAnswers.{AnswersPair, AnswersPairs}
-pub use Rattle.bcs_tool_answers.specs.Notations.{are_marked, is_name, is_pointer, SpellsNoSteps, SpellsSteps}
+pub use Rattle.bcs_tool_answers.specs.Notations.{SpellsNoSteps, SpellsSteps}
 pub use Rattle.bcs_tool_answers.specs.Places.{IsAnswer, MayReport, nothing, Places, PrintsWithoutPlace, told}
 pub use Rattle.bcs_tool_answers.specs.Preparing.{IsAskedBy}
 pub use Rattle.bcs_tool_answers.specs.Validating.{is_json_word, IsFormatWord, IsPathOf, IsRegistry, job_fault_name, name_of, NamesNone, ReadsInput, RefusesCheck, RefusesEarly, RefusesFormatted, RefusesFormatWord, RefusesGrowth, RefusesJobOf, RefusesPart, works_on_values}
