@@ -43,11 +43,26 @@ hostile/bcs encode registry.json |Alpha Beta Gamma
 bcs encode registry.json Alpha val|value.json
 bcs part registry.json Alpha |
 bcs example --variant |
+bcs example registry.json Gamma --variant |Off On
+bcs example registry.json Gamma --full --variant=O|Off On
+bcs example registry.json Beta --variant |
+bcs example bad.json Gamma --variant |
+bcs part registry.json Beta beta.hex --name |.field
+bcs part registry.json Gamma gamma.hex --name ::|::On
+bcs part registry.json Gamma gamma.hex --base64 --name |
+bcs part registry.json Gamma bad.json --name |
+bcs part registry.json Gamma gamma.hex --ra|--raw
+bcs decode --lines --refusals |json
+bcs explain --color=al|always
+bcs explain --color reg|registry.json
+bcs explain registry.json Beta --color=|always auto never
+bcs check registry.json -o val|value.json
 bcs same registry.json Alpha value.json reg|registry.json
 """
 
 REGISTRY = """\
-{"Alpha":"UNITSTRUCT","Beta":{"STRUCT":[{"field":"U8"}]},"Gamma":{"ENUM":{"0":{"Off":"UNIT"}}},"a b":"UNITSTRUCT"}
+{"Alpha":"UNITSTRUCT","Beta":{"STRUCT":[{"field":"U8"}]},
+"Gamma":{"ENUM":{"0":{"Off":"UNIT"},"1":{"On":{"NEWTYPE":"U8"}}}},"a b":"UNITSTRUCT"}
 """
 
 # It gets the file with the completions and the words of the line. (`compopt` asks bash for the names of files.)
@@ -101,6 +116,13 @@ def output(command: list[str | pathlib.Path], environment: dict[str, str] | None
 
 def one_line(text: str) -> str:
     return " ".join(text.split())
+
+
+def pieces_of(word: str) -> list[str]:
+    """How bash splits a word on the line."""
+    if not word or "'" in word or '"' in word:
+        return [word]
+    return re.findall(r"=|:+|[^=:]+", word)
 
 
 class Packaging:
@@ -169,6 +191,8 @@ class Packaging:
         (self.folder / "a folder/other.json").write_text(other_registry, encoding="utf-8")
         (self.folder / "bad.json").write_text("[\n", encoding="utf-8")
         (self.folder / "value.json").write_text("null\n", encoding="utf-8")
+        (self.folder / "beta.hex").write_text("07\n", encoding="utf-8")
+        (self.folder / "gamma.hex").write_text("0107\n", encoding="utf-8")
 
     def ask(self, line: str, *command: str) -> str:
         """Runs a shell in the folder, and returns what it prints."""
@@ -187,8 +211,12 @@ class Packaging:
     def offered_by_bash(self, line: str) -> list[str]:
         words = [found[0] for found in re.finditer(r"""('[^']*'|"[^"]*"|[^ '"])+""", line)]
         words += [""] if line.endswith(" ") else []
+        # Bash splits a word at = and :, and what is offered replaces what stands behind the last of them.
+        pieces = [piece for word in words for piece in pieces_of(word)]
+        kept = re.sub(r"[^:]*$", "", pieces[-1] if "=" in words[-1] else words[-1])
         file = str(self.shared / "bash-completion/completions/bcs")
-        return self.ask(line, "bash", "--norc", "-c", ASK_BASH, "bash", file, *words).splitlines()
+        offered = self.ask(line, "bash", "--norc", "-c", ASK_BASH, "bash", file, *pieces).splitlines()
+        return [kept + word for word in offered]
 
     def offered_by_fish(self, line: str) -> list[str]:
         file = str(self.shared / "fish/vendor_completions.d/bcs.fish")

@@ -29,7 +29,9 @@ PLANTED = [
         "a wrong standard error", "check -- {", "echo refused: NotJson; echo at line 1, column 2: NotJson >&2; exit 2"
     ),
     Planted("a wrong table", "explain examples/sui_registry.json TransactionData examples/sui_stake.hex", "exit 0"),
-    Planted("a missing output", "encode examples/sui_registry.json TransactionData examples/sui_transfer.json", "exit 0"),
+    Planted(
+        "a missing output", "encode examples/sui_registry.json TransactionData examples/sui_transfer.json", "exit 0"
+    ),
     Planted(
         "a wrong example", 'example {"S":{"STRUCT":[{"a":{"OPTION":"U8"}},{"b":{"SEQ":"BOOL"}}]}} S --full', "exit 0"
     ),

@@ -181,6 +181,12 @@ class Calls:
             raise SystemExit("driver: a part isn't at its place")
         return "-", place, len(data), b""
 
+    def part_named(self, *question: Any) -> Answer | None:
+        """SQL has the bytes of such a part, without their place."""
+        *asked, name, notation = question
+        data = self.ask(f"bcs_part_by_{notation}(?, ?, ?, ?, ?, ?)", *asked, self.text(name))
+        return None if data is None else ("-", 0, len(data), data)
+
     def explain(self, *question: Any) -> Answer:
         """The text, and for invalid bytes the fault and its place. bcs_fault must report the same, except for the
         path."""
@@ -202,7 +208,8 @@ def answer(calls: Calls, line: str) -> tuple[str, ...]:
     registry, format = (bytes.fromhex(word) for word in words[:2])
     if format[:1] not in (b"{", b'"'):
         raise Unsayable
-    rest = [word if call == "explain" and place == 1 else bytes.fromhex(word) for place, word in enumerate(words[4:])]
+    plain = {"explain": 1, "part_named": 2}.get(call)
+    rest = [word if place == plain else bytes.fromhex(word) for place, word in enumerate(words[4:])]
     told = getattr(calls, call)(
         calls.database.registry(registry), calls.text(format), (int(words[3]), int(words[2])), *rest
     )

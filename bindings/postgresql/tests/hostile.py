@@ -51,6 +51,8 @@ CALLS = [
     "bcs_scan(%s, %s, %s, {})",
     "bcs_fault(%s, %s, %s, {})",
     "bcs_part_place(%s, %s, %s, '.', {})",
+    "length(bcs_part_by_name(%s, %s, %s, '.', {}))",
+    "length(bcs_part_by_pointer(%s, %s, %s, '', {}))",
     "length(bcs_decode(%s, %s, %s, {})::text)",
     "length(bcs_decode_json(%s, %s, %s, {})::text)",
     "length(bcs_explain(%s, %s, %s, 'json', {}))",

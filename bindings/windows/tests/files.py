@@ -88,7 +88,7 @@ def ask_long_names(program: Program, room: str) -> None:
 
 def ask_devices(program: Program) -> None:
     """And what isn't a name."""
-    not_json = "at line 1, column 0: NotJson: serde_json stops reading there\n"
+    not_json = "at line 1, column 0: NotJson: the text stops being JSON there\n"
     program.gives(2, "refused: NotJson\n", not_json, "check", "NUL")
     program.gives(0, "ok 0\n", "", "scan", "--raw", "{}", '"UNIT"', "NUL")
     for name in "a<b", "a|b", "a?", "*":

@@ -12,6 +12,7 @@ use bcs_decode_parts::variants::after_number;
 use bcs_num::{Width, parse_unsigned};
 use bcs_registry::{Format, Named, Registry, VariantFormat};
 use bcs_value::Limits;
+use hex::FromHexError;
 use std::alloc::{AllocError, Global};
 use std::collections::BTreeMap;
 
@@ -72,11 +73,7 @@ fn read_first<'t>(
 ) -> Result<Option<(PathStep, &'t str)>, AllocError> {
     match follower.inside() {
         Inside::Fields(fields) => Ok(field_step(fields, rest)),
-        Inside::Variants(variants) => Ok(variant_step(
-            variants,
-            follower.at().ahead.bytes,
-            rest,
-        )),
+        Inside::Variants(variants) => Ok(variant_step(variants, follower.at().ahead.bytes, rest)),
         Inside::Option(_) => Ok(option_step(rest)),
         Inside::List(_) | Inside::Array(_, _) | Inside::Tuple(_) => Ok(item_step(rest)),
         Inside::Map(key, content) => {
@@ -144,7 +141,7 @@ fn entry_step<'t>(
         Some((digits, more)) => (digits, count_of(more)),
         None => (text, Some(0)),
     };
-    let (Ok(first), Some(more)) = (hex::decode(alloc, digits), more) else {
+    let (Some(first), Some(more)) = (bytes_of(alloc, digits)?, more) else {
         return Ok(None);
     };
     if more == 0 {
@@ -157,6 +154,19 @@ fn entry_step<'t>(
     match entries.only_key(cut) {
         Some(key) => Ok(Some((PathStep::Key(Vec::from_slice(alloc, key)?), behind))),
         None => Ok(None),
+    }
+}
+
+// The bytes with these hexadecimal digits. `None`: they are no such digits.
+fn bytes_of(alloc: Global, digits: &str) -> Result<Option<Vec<u8>>, AllocError> {
+    match hex::decode(alloc, digits) {
+        Ok(bytes) => Ok(Some(bytes)),
+        Err(FromHexError::OutOfMemory) => Err(AllocError),
+        Err(
+            FromHexError::OddLength
+            | FromHexError::InvalidHexCharacter { .. }
+            | FromHexError::InvalidStringLength,
+        ) => Ok(None),
     }
 }
 

@@ -38,23 +38,44 @@ pub fn path_of_pointer(
         entry: None,
     };
     let mut number: u64 = 0;
-    let mut last = "";
     for text in pointer.split('/') {
         // A pointer begins with `/`, so nothing comes before the first one.
-        if number > 0 && !position.take(alloc, text)? {
-            return Led::nowhere(alloc, position.line(alloc, number, text)?);
+        if number > 0 {
+            if let Some(line) = position.follow(alloc, number, text)? {
+                return Led::nowhere(alloc, line);
+            }
         }
-        last = text;
         number = number.saturating_add(1);
     }
     if position.entry.is_some() {
-        let line = position.line(alloc, number.saturating_sub(1), last)?;
+        let line = entry_line(alloc, number.saturating_sub(1), last_step(pointer))?;
         return Led::nowhere(alloc, line);
     }
     Ok(Led::to(position.follower.into_path()))
 }
 
+fn last_step(pointer: &str) -> &str {
+    match pointer.rsplit_once('/') {
+        Some((_, step)) => step,
+        None => pointer,
+    }
+}
+
 impl<'r, 'a> Position<'r, 'a> {
+    // Takes a step, and returns a line about it if it leads nowhere.
+    fn follow(
+        &mut self,
+        alloc: Global,
+        number: u64,
+        text: &str,
+    ) -> Result<Option<Vec<u8>>, AllocError> {
+        if self.take(alloc, text)? {
+            Ok(None)
+        } else {
+            Ok(Some(self.line(alloc, number, text)?))
+        }
+    }
+
     // Takes a step, and returns whether it leads anywhere.
     fn take(&mut self, alloc: Global, text: &str) -> Result<bool, AllocError> {
         if let Some(key) = self.entry {
@@ -62,7 +83,9 @@ impl<'r, 'a> Position<'r, 'a> {
                 return Ok(false);
             }
             self.entry = None;
-            return self.follower.take(PathStep::Key(Vec::from_slice(alloc, key)?));
+            return self
+                .follower
+                .take(PathStep::Key(Vec::from_slice(alloc, key)?));
         }
         self.follower.enter_containers()?;
         if let Inside::Map(key, content) = self.follower.inside() {
@@ -96,7 +119,9 @@ impl<'r, 'a> Position<'r, 'a> {
             // These are strings.
             Inside::List(Format::U8) | Inside::Array(Format::U8, _) => Ok(None),
             Inside::List(_) | Inside::Array(_, _) | Inside::Tuple(_) => Ok(item_step(text)),
-            Inside::Option(_) | Inside::Map(_, _) | Inside::Container(_) | Inside::Nothing => Ok(None),
+            Inside::Option(_) | Inside::Map(_, _) | Inside::Container(_) | Inside::Nothing => Ok(
+                None,
+            ),
         }
     }
 

@@ -6,21 +6,25 @@ use bcs_registry::{Format, Named, VariantFormat};
 use std::alloc::AllocError;
 use std::collections::BTreeMap;
 
-// The number of characters that are printed of a name.
-const LONGEST: usize = 64;
+// The number of characters that are printed of a name, with its escapes.
+const LONGEST: usize = 200;
 
 // The number of names that are printed.
 const MOST: usize = 16;
 
-/// Appends at most `LONGEST` characters of the text, escaped, and whether it is cut.
+/// Appends the whole characters of the text, escaped, that fit into `LONGEST`, and whether it is cut.
 pub(crate) fn put_cut(text: &str, line: &mut Vec<u8>) -> Result<(), AllocError> {
-    for (count, (place, _)) in text.char_indices().enumerate() {
-        if count == LONGEST {
-            put_escaped(text.get(..place).unwrap_or(""), line)?;
+    let start = line.len();
+    for (place, sign) in text.char_indices() {
+        let before = line.len();
+        let end = place.saturating_add(sign.len_utf8());
+        put_escaped(text.get(place..end).unwrap_or(""), line)?;
+        if line.len().saturating_sub(start) > LONGEST {
+            line.truncate(before);
             return line.extend_from_slice(b"...(cut)");
         }
     }
-    put_escaped(text, line)
+    Ok(())
 }
 
 /// Appends the names of fields.

@@ -8,8 +8,10 @@ use std::alloc::{AllocError, Global};
 pub(crate) fn unescaped(alloc: Global, name: &str) -> Result<String, AllocError> {
     if name.contains('\\') {
         let quoted = format!(in alloc; "\"{name}\"")?;
-        if let Ok(Value::String(text)) = Value::from_str(alloc, quoted.as_str()) {
-            return Ok(text);
+        match Value::from_str(alloc, quoted.as_str()) {
+            Ok(Value::String(text)) => return Ok(text),
+            Err(error) if error.is_memory() => return Err(AllocError),
+            _ => {}
         }
     }
     String::from_str(alloc, name)

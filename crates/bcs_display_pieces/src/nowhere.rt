@@ -46,7 +46,10 @@ fn line_of_step(
     let text = match step {
         PathStep::Item(index) => format!(in alloc; "{index}")?,
         PathStep::Inner => String::from_str(alloc, "inner")?,
-        PathStep::Key(key) => format!(in alloc; "key:{}", hex::encode(alloc, key.as_slice())?.as_str())?,
+        PathStep::Key(key) => format!(in alloc;
+            "key:{}",
+            hex::encode(alloc, key.as_slice())?.as_str()
+        )?,
     };
     nowhere_line(alloc, Notation::Path, number, text.as_str(), at)
 }
@@ -68,7 +71,13 @@ pub(crate) fn nowhere_line(
         }
         Inside::Option(_) => put_option(notation, at.ahead.bytes, &mut line)?,
         Inside::List(element) => put_list(notation, element, at.ahead.bytes, &mut line)?,
-        Inside::Array(element, size) => put_row(notation, "an array of ", element, size, &mut line)?,
+        Inside::Array(element, size) => put_row(
+            notation,
+            "an array of ",
+            element,
+            size,
+            &mut line,
+        )?,
         Inside::Tuple(formats) => put_count("a tuple of ", formats.len() as u64, &mut line)?,
         Inside::Map(_, _) => put_map(notation, at.ahead.bytes, &mut line)?,
         Inside::Container(name) => put_container(name, &mut line)?,
@@ -182,16 +191,18 @@ fn put_container(name: &str, line: &mut Vec<u8>) -> Result<(), AllocError> {
     line.extend_from_slice(b"; inner leads into it")
 }
 
-// What has no parts.
+// A value without parts.
 fn put_leaf(here: &Here<'_>, line: &mut Vec<u8>) -> Result<(), AllocError> {
-    let Here::Value(format) = here else {
-        return line.extend_from_slice(b"nothing is inside");
-    };
-    match format.kind() {
-        Kind::Scalar(scalar) => {
-            line.extend_from_slice(b"nothing is inside of ")?;
-            line.extend_from_slice(scalar.word().as_bytes())
-        }
-        _ => line.extend_from_slice(b"nothing is inside"),
+    line.extend_from_slice(word_of(here).as_bytes())?;
+    line.extend_from_slice(b" has no parts")
+}
+
+fn word_of(here: &Here<'_>) -> &'static str {
+    match here {
+        Here::Value(format) => match format.kind() {
+            Kind::Scalar(scalar) => scalar.word(),
+            _ => "a value",
+        },
+        _ => "UNIT",
     }
 }

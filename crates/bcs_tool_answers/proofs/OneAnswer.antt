@@ -116,7 +116,7 @@ module _ (work : Work) (input : List ℕ) where
   one_late command.Same exact s z p q h k = one_valued Compared (λ r f. one_pair r work.limits f work.second.items input) s z p q h k
   one_late command.Part exact s z p q (path, spells, h) (other, also, k) =
       let by_path : (steps : List Step) → SpellsSteps work.options.notation (string_bytes work.path) steps → SpellsPath (string_bytes work.path) steps =
-          λ steps is. subst (λ (n : Notation). SpellsSteps n (string_bytes work.path) steps) exact is in
+      λ steps is. subst (λ (n : Notation). SpellsSteps n (string_bytes work.path) steps) exact is in
       let same : other ≡ path = one_path (string_bytes work.path) other path (by_path other also) (by_path path spells) in
       one_valued (λ r f. Parted work input r f path) (λ r f orderly. one_parted work input r f orderly path) s z p q h
       (subst (λ (t : List Step). Valued (λ r f. Parted work input r f t) z q) same k)

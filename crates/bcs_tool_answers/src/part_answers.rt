@@ -58,12 +58,7 @@ fn answer_named(
 }
 
 // Where the names lead. Any steps will do for the answer, since only reading tells whether they are those that are meant.
-fn led_by_names(
-    alloc: Global,
-    work: &Work,
-    asked: &Asked,
-    bytes: &[u8],
-) -> Result<Led, AllocError>
+fn led_by_names(alloc: Global, work: &Work, asked: &Asked, bytes: &[u8]) -> Result<Led, AllocError>
     requires named { work.now.options.notation ≢ Notation.Path }
 {
     let Asked {

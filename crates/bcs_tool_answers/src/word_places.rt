@@ -4,10 +4,12 @@ ghost use Rattle.bcs_tool_answers.specs.Places.{MayReport};
 use crate::job_fault::JobFault;
 use crate::places::place_of_line;
 use bcs_display_errors::{
-    format_line, line_in, place_of_container, place_of_growth, place_of_path, registry_line,
+    format_line, line_in, place_of_container, place_of_growth, place_of_path, place_of_variant,
+    registry_line,
 };
+use bcs_display_example::{ExampleOptionsFault, ExampleTextFault};
 use bcs_display_pieces::{wrong_name_line, wrong_pointer_line};
-use bcs_registry::{Registry, RegistryFault};
+use bcs_registry::{Format, Registry, RegistryFault};
 use bcs_tool_command_line::{Command, Notation, Work};
 use std::alloc::{AllocError, Global};
 
@@ -40,6 +42,28 @@ pub fn place_of_difference(
     match place_of_growth(alloc, older.containers(), newer.containers()) {
         Ok(line) => place_of_line(alloc, line),
         Err(AllocError) => Vec::new(alloc),
+    }
+}
+
+/// The name after `--variant` that isn't the name of a variant, if the example is refused for that. It is empty at a quiet
+/// job, and where no memory is left for it.
+pub fn place_of_wish(
+    alloc: Global,
+    work: &Work,
+    registry: &Registry,
+    format: &Format,
+    fault: ExampleTextFault,
+) -> Vec<u8>
+    ensures { MayReport work.now result.items }
+{
+    if work.options.quiet {
+        return Vec::new(alloc);
+    }
+    match (fault, work.options.name.as_deref()) {
+        (ExampleTextFault::Options(ExampleOptionsFault::UnknownVariant), Some(name)) => {
+            place_of_line(alloc, place_of_variant(alloc, registry, format, name).ok())
+        }
+        _ => Vec::new(alloc),
     }
 }
 

@@ -11,7 +11,7 @@ returns-in-Ok-Some c =
     let path = map step_of c.as_slice.result.now in
     let led = c.in-Ok-Some.ensures.found in
     let spelled = subst (λ (steps : List Step). SpellsSteps work.options.notation (string_bytes work.path) steps)
-        (sym (ap (map step_of) c.as_slice.ensures.value ∙ c.in_ok-steps.ensures)) c.requires.spelled in
+    (sym (ap (map step_of) c.as_slice.ensures.value ∙ c.in_ok-steps.ensures)) c.requires.spelled in
     IfOk-weaker c.found.result _ _ (λ a is input within gives. same_answer work input a 0 _ is
     (finds work input asked.registry (shape_of asked.format) c.args.bytes.now led.0 led.1 path (is_asked input Part c.requires.command c.requires.asked within) spelled gives led.2
     c.in-Ok-Some.field-0 c.in-Ok-Some.part c.in-Ok-Some.field-0-is led.3))
@@ -24,7 +24,7 @@ returns-in-Ok-None c =
     let path = map step_of c.as_slice.result.now in
     let led = c.in-Ok-None.ensures.found in
     let spelled = subst (λ (steps : List Step). SpellsSteps work.options.notation (string_bytes work.path) steps)
-        (sym (ap (map step_of) c.as_slice.ensures.value ∙ c.in_ok-steps.ensures)) c.requires.spelled in
+    (sym (ap (map step_of) c.as_slice.ensures.value ∙ c.in_ok-steps.ensures)) c.requires.spelled in
     IfOk-weaker c.answer_nowhere.result _ _ (λ a is input within gives. placed_answer work input 1 _ a is.0 is.1 is.2
     (leads_nowhere work input asked.registry (shape_of asked.format) c.args.bytes.now led.0 led.1 path (is_asked input Part c.requires.command c.requires.asked within) spelled gives led.2
     c.in-Ok-None.field-0 c.in-Ok-None.field-0-is led.3)) c.answer_nowhere.ensures
