@@ -91,7 +91,8 @@ fn halves<'a>(alloc: Global, line: &'a [u8], name: &str) -> (Option<&'a str>, Op
     let Some((at, expected)) = split_at_name(alloc, line, name) else {
         return (None, None);
     };
-    (Some(at), expected.strip_prefix(": "))
+    let expected = expected.strip_prefix(": ");
+    (Some(at), expected.map(|text| text.strip_prefix("wanted ").unwrap_or(text)))
 }
 
 fn split_at_name<'a>(alloc: Global, line: &'a [u8], name: &str) -> Option<(&'a str, &'a str)> {
