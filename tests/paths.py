@@ -7,8 +7,8 @@ a registry with all formats, which are the same in each run:
 - The pieces are all of the bytes, without gap or overlap.
 - The word PATH of a piece leads `bcs part` to the part that the piece is of. `explain` cuts a key of more than 32
   bytes, so the word is completed first, from the bytes of the key's own pieces.
-- So do the name of the piece, behind `--name`, and the JSON Pointer of the part in the value's JSON, behind `--pointer`.
-  A name into a key leads nowhere.
+- So do the name of the piece, behind `--name`, and the JSON Pointer of the part, behind `--pointer`. A name into a key
+  leads nowhere.
 - The pieces of a part are those that its format has, with the values that `bcs decode` prints of that part.
 
 Then it damages encodings: it cuts them off, changes their bytes, or lowers the limits. `explain` has to stop where
@@ -179,13 +179,17 @@ def with_whole_keys(pieces: list[Piece]) -> Iterator[Piece]:
                 wholes.append(keys[name][1])
                 step = KEY.sub(partial(whole_key, wholes[-1]), step, count=1)
             name += step
-            pointer += PLAIN.sub(lambda plain: f"/{plain[1] or plain[2] or plain[3] or 'some'}", steps.removesuffix("."))
+            pointer += PLAIN.sub(pointer_step, steps.removesuffix("."))
         path = piece.path
         if path is not None:
             rest = iter(wholes)
             path = KEY.sub(lambda step: whole_key(next(rest), step), path)
             expect(next(rest, None) is None, f"{piece.path} has fewer keys than {piece.name}")
         yield piece._replace(name=name, path=path, pointer=pointer)
+
+
+def pointer_step(step: re.Match[str]) -> str:
+    return f"/{step[1] or step[2] or step[3] or 'some'}"
 
 
 def whole_key(key: str, step: re.Match[str]) -> str:
@@ -413,8 +417,8 @@ def within_element(way: tuple[str, ...]) -> tuple[int, tuple[str, ...]] | None:
 
 
 def ask_random(random: Random, values: list[str]) -> int:
-    """All values are the elements of one list, so that they are explained at once. The way behind an element's number is
-    asked of the element alone, with all other elements that have it; and some whole ways are asked of the list."""
+    """All values are the elements of one list, so that they are explained at once. The way behind an element's number
+    is asked of the element alone, with all other elements that have it; and some whole ways are asked of the list."""
     registry, whole_format = json.dumps(REGISTRY), json.dumps({"SEQ": ANY})
     whole = uleb(COUNT) + "".join(values)
     parts = list(parts_of(pieces_of(registry, whole_format, whole)))

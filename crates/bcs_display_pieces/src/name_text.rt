@@ -7,14 +7,27 @@ use std::alloc::{AllocError, Global};
 /// like one is taken as it is.
 pub(crate) fn unescaped(alloc: Global, name: &str) -> Result<String, AllocError> {
     if name.contains('\\') {
-        let quoted = format!(in alloc; "\"{name}\"")?;
-        match Value::from_str(alloc, quoted.as_str()) {
-            Ok(Value::String(text)) => return Ok(text),
-            Err(error) if error.is_memory() => return Err(AllocError),
-            _ => {}
+        if let Some(text) = without_escapes(alloc, name)? {
+            return Ok(text);
         }
     }
     String::from_str(alloc, name)
+}
+
+// The text of the JSON string that has this between its quotes. `None`: there is no such string.
+fn without_escapes(alloc: Global, escaped: &str) -> Result<Option<String>, AllocError> {
+    let quoted = format!(in alloc; "\"{escaped}\"")?;
+    match Value::from_str(alloc, quoted.as_str()) {
+        Ok(Value::String(text)) => Ok(Some(text)),
+        Ok(_) => Ok(None),
+        Err(error) => {
+            if error.is_memory() {
+                Err(AllocError)
+            } else {
+                Ok(None)
+            }
+        }
+    }
 }
 
 /// The text after this name of a field or variant, if it is empty or a step can begin there.
