@@ -109,7 +109,10 @@ fn halves<'a>(alloc: Global, line: &'a [u8], name: &str) -> (Option<&'a str>, Op
         return (None, None);
     };
     let expected = expected.strip_prefix(": ");
-    (Some(at), expected.map(|text| text.strip_prefix("wanted ").unwrap_or(text)))
+    (
+        Some(at),
+        expected.map(|text| text.strip_prefix("wanted ").unwrap_or(text)),
+    )
 }
 
 fn split_at_name<'a>(alloc: Global, line: &'a [u8], name: &str) -> Option<(&'a str, &'a str)> {
