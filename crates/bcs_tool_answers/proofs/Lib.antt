@@ -13,6 +13,7 @@ pub mod Base64Lemmas
 pub mod SomeInput
 pub mod SomePair
 pub mod SomeAnswer
+pub mod FormLemmas
 pub mod LineAnswerLemmas
 pub mod LineLaws
 pub mod PairAnswerLemmas

@@ -37,9 +37,10 @@ SomeAnswer = (work : Work) (input : List ℕ) → AreBytes input → IsWithin wo
 
 -- ---- each line as an input of its own
 
--- there is at most one answer to the lines of an input, where the output is exact
+-- there is at most one answer to the lines of an input, where the output is exact, and refusals aren't JSON
 abbrev pub OneAnswerALine : Type 0
 OneAnswerALine = (work : Work) (content : List ℕ) (status other : ℕ) (output again : List ℕ) → IsExact work.command work.options.notation work.options.list
+    → work.options.json_refusals ≡ false
     → AnswersLines work content status output → AnswersLines work content other again → (status ≡ other) × (output ≡ again)
 
 -- and there is one, to bytes of which each line is within the size
@@ -49,9 +50,9 @@ SomeAnswerALine = (work : Work) (content : List ℕ) → AreBytes content → Al
 
 -- ---- the lines of two files
 
--- there is at most one answer to them
+-- there is at most one answer to them, unless refusals are JSON
 abbrev pub OneComparison : Type 0
-OneComparison = (work : Work) (first second : List ℕ) (status other : ℕ) (output again : List ℕ)
+OneComparison = (work : Work) (first second : List ℕ) (status other : ℕ) (output again : List ℕ) → work.options.json_refusals ≡ false
     → AnswersFiles work first second status output → AnswersFiles work first second other again → (status ≡ other) × (output ≡ again)
 
 -- and there is one, unless the job's own words are refused

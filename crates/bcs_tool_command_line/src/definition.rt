@@ -28,7 +28,7 @@ pub fn bcs_command<'a>(alloc: Global) -> Result<Command<'a>, AllocError>
     ensures { IfOk result (λ c. app_of c ≡ bcs_app) }
 {
     let program = Command::new(alloc, "bcs")
-        .about("Encodes, decodes and explains Binary Canonical Serialization (BCS), with a registry of formats")
+        .about("Binary Canonical Serialization: encodes, decodes and explains values, with a registry of formats")
         .after_help(texts::PROGRAM_EXAMPLES)
         .version(VERSION)
         .subcommand_required(true);
@@ -160,7 +160,7 @@ fn encode_command<'a>(alloc: Global) -> Result<Command<'a>, AllocError>
     value_command(
         alloc,
         "encode",
-        "Encodes a value's JSON, and prints its bytes",
+        "Prints the bytes of a value's JSON",
         texts::ENCODE_EXAMPLES,
         &[
             FILE,
@@ -179,7 +179,7 @@ fn decode_command<'a>(alloc: Global) -> Result<Command<'a>, AllocError>
     value_command(
         alloc,
         "decode",
-        "Decodes a value's bytes, and prints its JSON",
+        "Prints the JSON of a value's bytes",
         texts::DECODE_EXAMPLES,
         &[
             FILE,

@@ -158,7 +158,7 @@ Status: 0 done, 2 refused, 3 usage, 4 file or memory";
 
 pub const SCHEMA_EXAMPLES: &str = "Example:
   bcs schema '{}' '\"BOOL\"' | grep boolean | xargs  # type: boolean
-  bcs schema '{}' '{\"SEQ\":\"BOOL\"}' | grep array | xargs  # type: array,
+  bcs schema '{}' '{\"SEQ\":\"BOOL\"}' | grep '\"array\"' | xargs  # type: array
 
 Status: 0 done, 2 refused, 3 usage, 4 file or memory";
 
