@@ -134,18 +134,26 @@ impl<'r, 'a> Position<'r, 'a> {
     }
 }
 
+// A name that is written as it is comes before one that is escaped.
 fn field_step(
     alloc: Global,
     fields: &[Named<Format>],
     text: &str,
 ) -> Result<Option<PathStep>, AllocError> {
     let name = member_name(alloc, text)?;
+    match field_called(fields, name.exact.as_str()) {
+        Some(step) => Ok(Some(step)),
+        None => Ok(field_called(fields, name.printed.as_str())),
+    }
+}
+
+fn field_called(fields: &[Named<Format>], name: &str) -> Option<PathStep> {
     for (index, field) in fields.iter().enumerate() {
-        if name.is(field.name.as_str()) {
-            return Ok(Some(PathStep::Item(index as u64)));
+        if field.name.as_str() == name {
+            return Some(PathStep::Item(index as u64));
         }
     }
-    Ok(None)
+    None
 }
 
 // Only the variant that is there can be entered. One without a payload is a string.

@@ -19,7 +19,7 @@ use std::io::{BufReader, ErrorKind};
 use std::process::ExitCode;
 use std::rt::Files;
 
-/// The whole program over the system: its words, its standard streams and its status.
+/// The whole program on the system's arguments and standard streams. It returns the status.
 pub fn program(rt: &HostRuntime) -> ExitCode
     ensures { exit_status result < 5 }
 {
@@ -39,10 +39,10 @@ pub fn program(rt: &HostRuntime) -> ExitCode
     ExitCode::from(status)
 }
 
-/// How many bytes are read at a time where a job takes a few of them at a time.
+/// The number of bytes that are read at a time, if a job needs only a few at a time.
 pub(crate) const BLOCK: usize = 65536;
 
-// How many bytes of standard input are read ahead: none with `--front`, so that what follows the value stays unread.
+// The number of bytes of standard input that are read ahead: none with `--front`, so that what follows the value stays unread.
 fn read_ahead(words: &Result<Vec<String>, LineFault>) -> usize {
     match words {
         Ok(words) if words.iter().any(|word| word.as_str() == "--front") => 0,
@@ -50,7 +50,7 @@ fn read_ahead(words: &Result<Vec<String>, LineFault>) -> usize {
     }
 }
 
-/// Does what the words ask for, or tells why there are none, and gives the status.
+/// Does what the arguments ask for, or reports why there are none, and returns the status.
 pub fn start<R: Files + Env + AllocGlobal, S: ByteSource, O: ByteSink, E: ByteSink>(
     rt: &R,
     words: Result<Vec<String>, LineFault>,
@@ -60,11 +60,11 @@ pub fn start<R: Files + Env + AllocGlobal, S: ByteSource, O: ByteSink, E: ByteSi
 ) -> u8
     ensures status { result < 5 }
 
-    // Nothing is read or put, and the fault is told.
+    // Nothing is read or written, and the fault is reported.
     ensures no_words { IfErr words (λ fault. (input.new ≡ input.old)
         × ReportsFault O.taken O.is_failed E.taken E.is_failed true fault out.old out.new errors.old errors.new result) }
 
-    // The rest is as `respond` has it.
+    // The rest is like `respond`.
     ensures no_job { IfOk words (λ given. ¬ AcceptsArguments (texts_of given.items) → (fault : LineFault)
         × IsFaultOf (texts_of given.items) fault × (input.new ≡ input.old)
         × ReportsFault O.taken O.is_failed E.taken E.is_failed (not (breaks_lines (texts_of given.items))) fault out.old out.new errors.old errors.new result) }
@@ -81,8 +81,7 @@ pub fn start<R: Files + Env + AllocGlobal, S: ByteSource, O: ByteSink, E: ByteSi
     }
 }
 
-/// The words of the command line, of which the first is the program's own name. A word that is no
-/// UTF-8 is `Usage`.
+/// The arguments of the command line, which start with the program's own name. An argument that isn't UTF-8 is `Usage`.
 pub fn args_of<R: Env + AllocGlobal>(rt: &R) -> Result<Vec<String>, LineFault>
     ensures { IfErr result IsWordsFault }
 {

@@ -1,4 +1,4 @@
-//! The program `bcs`: a job and its input are run, and its streams are told what comes of it.
+//! The program `bcs`: parses the arguments, runs the job on its input, and reports the result.
 #![tactic(auto)]
 
 mod command_line;

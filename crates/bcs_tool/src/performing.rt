@@ -16,7 +16,7 @@ use std::fs::File;
 use std::io::{BufReader, ErrorKind};
 use std::rt::Files;
 
-/// Reads the files that the job names, opens its inputs, and puts the answers.
+/// Reads the files that the job names, opens its inputs, and writes the answers.
 pub(crate) fn perform<R: Files + Env + AllocGlobal, S: ByteSource, O: ByteSink>(
     rt: &R,
     job: Job,
@@ -41,7 +41,7 @@ pub(crate) fn perform<R: Files + Env + AllocGlobal, S: ByteSource, O: ByteSink>(
     }
 }
 
-// Opens the file of the input, where it has one, and puts the answer.
+// Opens the file of the input, if it has one, and writes the answer.
 fn perform_one<R: Files + Env + AllocGlobal, S: ByteSource, O: ByteSink>(
     rt: &R,
     work: &Work,
@@ -75,7 +75,7 @@ fn perform_one<R: Files + Env + AllocGlobal, S: ByteSource, O: ByteSink>(
     }
 }
 
-// Opens A, and then B, where the job has one, and puts the answers to their lines.
+// Opens A, and then B, if the job has one, and writes the answers to their lines.
 fn perform_pairs<R: Files + Env + AllocGlobal, S: ByteSource, O: ByteSink>(
     rt: &R,
     work: &Work,
@@ -107,7 +107,7 @@ fn perform_pairs<R: Files + Env + AllocGlobal, S: ByteSource, O: ByteSink>(
     }
 }
 
-// The outcome of a job of which a file of an input was not opened.
+// The outcome of a job if the file of an input couldn't be opened.
 fn unopened(alloc: Global, quiet: bool, name: &str, kind: ErrorKind) -> Outcome
     ensures { IsUnopened quiet name.now result }
 {
@@ -115,7 +115,7 @@ fn unopened(alloc: Global, quiet: bool, name: &str, kind: ErrorKind) -> Outcome
     unread(alloc, quiet, UnreadFile::OpenFailed(cause), name)
 }
 
-// The outcome of a job of which a file of an input was not read.
+// The outcome of a job if the file of an input couldn't be read.
 fn unread(alloc: Global, quiet: bool, unread: UnreadFile, name: &str) -> Outcome
     ensures { IsUnread quiet name.now unread result }
 {

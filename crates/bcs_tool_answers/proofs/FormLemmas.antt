@@ -23,8 +23,11 @@ module _ (json : Bool) (Answer : ℕ → List ℕ → Type 0) where
     where
       by_status : json ≡ true → ((status' : ℕ) × (output : List ℕ) × InForm json Answer status' output)
       by_status is = elim (eqb_tells status 2) [
-        | inl two ↦ (0, codes "{\"refused\":\"" ++ (refusal_name text ++ (codes "\"" ++ ([] ++ codes "}\n"))),
-            inr (is, refl, (text, subst (λ (n : ℕ). Answer n text) two.1 answer, ([], All-nil IsPrintable, refl))))
+        | inl two ↦ (
+          0,
+          codes "{\"refused\":\"" ++ (refusal_name text ++ (codes "\"" ++ ([] ++ codes "}\n"))),
+          inr (is, refl, (text, subst (λ (n : ℕ). Answer n text) two.1 answer, ([], All-nil IsPrintable, refl))),
+        )
         | inr other ↦ (status, text, inl (λ e. other.1, answer))
       ]
 

@@ -6,16 +6,16 @@ ghost use Rattle.bcs_tool_answers.specs.Answers.{TakesBytes, refusal_line};
 ghost use Rattle.bcs_tool_answers.specs.Places.{AnswersBytes, IsAnswer, MayReport};
 ghost use Rattle.bcs_tool_answers.specs.Preparing.{IsAskedBy};
 
-use crate::answer::{Answer, damaged, ended, placed, refused, shown, unplaced};
+use crate::answer::{Answer, placed, refused, shown};
 use crate::base64_input::bytes_of_base64;
 use crate::blanks::without_blanks;
+use crate::explanations::answer_explain;
 use crate::input_places::{place_of_base64, place_of_digits};
 use crate::part_answers::answer_part;
 use crate::scan_answers::answer_scan;
 use crate::stop_answers::answer_stop;
 use crate::validating::Asked;
 use base64::DecodeAllocError;
-use bcs_display_pieces::{Explanation, explain_text};
 use bcs_json::{FromFault, from_bcs};
 use bcs_tool_command_line::{Coding, Command, Work};
 use hex::FromHexError;
@@ -161,45 +161,5 @@ fn answer_decode(
         Err(FromFault::Stop(stop)) => answer_stop(alloc, work, asked, bytes, stop),
         Err(FromFault::TooNested) => refused(alloc, "TooNested"),
         Err(FromFault::OutOfMemory) => Err(AllocError),
-    }
-}
-
-// The pieces of the value whose bytes these are; or those before they stop being one.
-fn answer_explain(
-    alloc: Global,
-    work: &Work,
-    asked: &Asked,
-    bytes: &[u8],
-) -> Result<Answer, AllocError>
-    requires command { work.now.command ≡ Command.Explain }
-    requires asked { IsAskedBy work.now asked.now }
-    ensures { IfOk result (λ a. AnswersBytes work.now bytes.now a) }
-{
-    let Asked {
-        registry,
-        format,
-        ..
-    } = asked;
-    let explained = explain_text(
-        alloc,
-        registry,
-        format,
-        &work.limits,
-        work.options.display.style(),
-        bytes,
-    )?;
-    let Explanation { text, stop } = explained;
-    let form = work.options.display.form;
-    let answer = match stop {
-        None => unplaced(alloc, 0, text),
-        Some(stop) if work.options.json_refusals => {
-            return answer_stop(alloc, work, asked, bytes, stop);
-        }
-        Some(stop) => damaged(alloc, form, text, stop)?,
-    };
-    if work.options.lines {
-        ended(alloc, form, answer)
-    } else {
-        Ok(answer)
     }
 }

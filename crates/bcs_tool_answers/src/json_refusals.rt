@@ -1,8 +1,7 @@
 //! Refusals of lines as JSON objects, for `--refusals json`.
-ghost use Rattle.std.specs.Prelude.{◌≡◌, IfOk};
-ghost use Rattle.std.specs.List.{All};
-ghost use Rattle.bcs_tool_answers.specs.JsonRefusals.{HasForm, IsJsonRefusal, refusal_name};
-ghost use Rattle.bcs_tool_answers.specs.Places.{IsPrintable};
+ghost use Rattle.std.specs.Prelude.{◌≡◌, IfOk, drop, take};
+ghost use Rattle.std.specs.List.{prefix_len};
+ghost use Rattle.bcs_tool_answers.specs.JsonRefusals.{HasForm, IsJsonRefusal, is_of_name, refusal_name};
 
 use crate::answer::{Answer, unplaced};
 use crate::places::place_of_line;
@@ -53,12 +52,30 @@ fn object_line(alloc: Global, answer: &Answer) -> Result<Vec<u8>, AllocError>
 fn name_in(line: &[u8]) -> &[u8]
     ensures { result.now ≡ refusal_name line.now }
 {
-    let name = line.get(9..).unwrap_or(b"");
-    let mut length = 0;
-    while length < name.len() && name[length] != b' ' && name[length] != b'\n' {
-        length += 1;
+    front_of_name(behind_prefix(line))
+}
+
+// What follows `refused: `.
+fn behind_prefix(line: &[u8]) -> &[u8]
+    ensures { result.now ≡ drop 9 line.now }
+{
+    if line.len() > 9 { &line[9..] } else { b"" }
+}
+
+fn front_of_name(text: &[u8]) -> &[u8]
+    ensures { result.now ≡ take (prefix_len is_of_name text.now) text.now }
+{
+    let mut end = 0;
+    while end < text.len() && is_of_name(text[end]) {
+        end += 1;
     }
-    &name[..length]
+    &text[..end]
+}
+
+fn is_of_name(byte: u8) -> bool
+    ensures { result ≡ is_of_name byte }
+{
+    !matches!(byte, b' ' | b'\n')
 }
 
 // The other members of the object, behind a comma, if there are any.
@@ -92,7 +109,10 @@ fn halves<'a>(alloc: Global, line: &'a [u8], name: &str) -> (Option<&'a str>, Op
         return (None, None);
     };
     let expected = expected.strip_prefix(": ");
-    (Some(at), expected.map(|text| text.strip_prefix("wanted ").unwrap_or(text)))
+    (
+        Some(at),
+        expected.map(|text| text.strip_prefix("wanted ").unwrap_or(text)),
+    )
 }
 
 fn split_at_name<'a>(alloc: Global, line: &'a [u8], name: &str) -> Option<(&'a str, &'a str)> {

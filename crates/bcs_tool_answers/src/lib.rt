@@ -7,6 +7,7 @@ mod blanks;
 mod bytes_answers;
 mod ending;
 mod examples;
+mod explanations;
 mod growing;
 mod input_places;
 mod job_fault;

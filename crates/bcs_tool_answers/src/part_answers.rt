@@ -50,8 +50,8 @@ fn answer_named(
 {
     match scan(&asked.registry, &asked.format, &work.limits, bytes) {
         Ok(_) => {
-            let led = led_by_names(alloc, work, asked, bytes)?;
-            answer_steps(alloc, work, asked, bytes, led.path.as_slice(), led.nowhere)
+            let Led { path, nowhere } = led_by_names(alloc, work, asked, bytes)?;
+            answer_steps(alloc, work, asked, bytes, path.as_slice(), nowhere)
         }
         Err(stop) => answer_stop(alloc, work, asked, bytes, stop),
     }

@@ -1,4 +1,4 @@
-//! The job of a command's words, as clap found them.
+//! The job of a command, from the arguments that clap found.
 ghost use Rattle.std.specs.Prelude.{◌≡◌, ℕ, IfOk, option_map, string_bytes};
 ghost use Rattle.clap.specs.Words.{found_of, one_of, rows_of};
 ghost use Rattle.bcs_value_model.specs.Limits.{Bounds};
@@ -13,7 +13,7 @@ use bcs_value::Limits;
 use clap::ArgMatches;
 use std::alloc::{AllocError, Global};
 
-/// The job of a command with the words that were given to it.
+/// The job of a command with these arguments.
 pub fn job_of(alloc: Global, command: Command, given: &ArgMatches<'_>) -> Result<Job, AllocError>
     requires { (limits : Bounds) × WritesLimits (rows_of (found_of given.now)) limits }
     ensures { IfOk result (IsJob command (rows_of (found_of given.now))) }
@@ -31,7 +31,7 @@ pub fn job_of(alloc: Global, command: Command, given: &ArgMatches<'_>) -> Result
     })
 }
 
-// What was given in addition.
+// The options.
 fn options_of(alloc: Global, given: &ArgMatches<'_>) -> Result<JobOptions, AllocError>
     ensures { IfOk result (HasOptions (rows_of (found_of given.now))) }
 {
@@ -109,7 +109,7 @@ fn text_of(alloc: Global, word: Option<&str>) -> Result<String, AllocError>
     String::from_str(alloc, word.unwrap_or(""))
 }
 
-// A word that may be left out, as a file's name or a container's.
+// An optional argument, such as the name of a file or a container.
 fn given_name(alloc: Global, word: Option<&str>) -> Result<Option<String>, AllocError>
     ensures { IfOk result (λ o. option_map string_bytes o ≡ option_map (λ t. t.now) word.entry) }
 {
@@ -119,7 +119,7 @@ fn given_name(alloc: Global, word: Option<&str>) -> Result<Option<String>, Alloc
     }
 }
 
-// The limits of the options, and the standard ones where there are none. clap has validated their numbers.
+// The limits of the options, or the standard ones. clap has validated the numbers.
 fn limits_of(given: &ArgMatches<'_>) -> Limits
     requires { (limits : Bounds) × WritesLimits (rows_of (found_of given.now)) limits }
     ensures { WritesLimits (rows_of (found_of given.now)) result }
@@ -130,7 +130,7 @@ fn limits_of(given: &ArgMatches<'_>) -> Limits
     Limits::new(depth, nodes).unwrap_or(standard)
 }
 
-// The number of an option, and the standard one where there is none.
+// The number of an option, or the standard one.
 fn number_of(given: &ArgMatches<'_>, option: &str, standard: u32) -> u32
     requires { (n : ℕ) × WritesLimit standard (one_of option.now (rows_of (found_of given.now))) n }
     ensures { WritesLimit standard (one_of option.now (rows_of (found_of given.now))) result }

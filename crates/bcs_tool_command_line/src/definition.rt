@@ -28,7 +28,9 @@ pub fn bcs_command<'a>(alloc: Global) -> Result<Command<'a>, AllocError>
     ensures { IfOk result (λ c. app_of c ≡ bcs_app) }
 {
     let program = Command::new(alloc, "bcs")
-        .about("Binary Canonical Serialization: encodes, decodes and explains values, with a registry of formats")
+        .about(
+            "Binary Canonical Serialization: encodes, decodes and explains values, with a registry of formats",
+        )
         .after_help(texts::PROGRAM_EXAMPLES)
         .version(VERSION)
         .subcommand_required(true);

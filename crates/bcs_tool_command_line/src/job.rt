@@ -1,4 +1,4 @@
-//! A command with its words.
+//! A command with its arguments.
 ghost use Rattle.std.specs.Prelude.{◌≡◌};
 ghost use Rattle.bcs_tool_command_line.specs.Jobs.{HasNoOptions, coding};
 

@@ -38,15 +38,24 @@ impl Misuse {
         ensures { result.now ≡ misuse_text self }
     {
         match self {
-            Misuse::RawLines => "error: the argument '--raw' cannot be used with '--lines'\n\nFor more information, try '--help'.\n",
-            Misuse::OutputLines => "error: the argument '--output <FILE>' cannot be used with '--lines'\n\nFor more information, try '--help'.\n",
-            Misuse::RefusalsAlone => "error: the following required arguments were not provided:\n  --lines\n\nFor more information, try '--help'.\n",
-            Misuse::UnknownRefusals => "error: invalid value for '--refusals <FORM>'\n  [possible values: json]\n\nFor more information, try '--help'.\n",
-            Misuse::UnknownColor => "error: invalid value for '--color <WHEN>'\n  [possible values: auto, always, never]\n\nFor more information, try '--help'.\n",
-            Misuse::NameAndPointer => "error: the argument '--name <NAME>' cannot be used with '--pointer <POINTER>'\n\nFor more information, try '--help'.\n",
-            Misuse::NameAndPath => "error: the argument '--name <NAME>' cannot be used with '<PATH>'\n\nFor more information, try '--help'.\n",
-            Misuse::PointerAndPath => "error: the argument '--pointer <POINTER>' cannot be used with '<PATH>'\n\nFor more information, try '--help'.\n",
-            Misuse::NoPath => "error: the following required arguments were not provided:\n  <PATH>\n\nFor more information, try '--help'.\n",
+            Misuse::RawLines =>
+                "error: the argument '--raw' cannot be used with '--lines'\n\nFor more information, try '--help'.\n",
+            Misuse::OutputLines =>
+                "error: the argument '--output <FILE>' cannot be used with '--lines'\n\nFor more information, try '--help'.\n",
+            Misuse::RefusalsAlone =>
+                "error: the following required arguments were not provided:\n  --lines\n\nFor more information, try '--help'.\n",
+            Misuse::UnknownRefusals =>
+                "error: invalid value for '--refusals <FORM>'\n  [possible values: json]\n\nFor more information, try '--help'.\n",
+            Misuse::UnknownColor =>
+                "error: invalid value for '--color <WHEN>'\n  [possible values: auto, always, never]\n\nFor more information, try '--help'.\n",
+            Misuse::NameAndPointer =>
+                "error: the argument '--name <NAME>' cannot be used with '--pointer <POINTER>'\n\nFor more information, try '--help'.\n",
+            Misuse::NameAndPath =>
+                "error: the argument '--name <NAME>' cannot be used with '<PATH>'\n\nFor more information, try '--help'.\n",
+            Misuse::PointerAndPath =>
+                "error: the argument '--pointer <POINTER>' cannot be used with '<PATH>'\n\nFor more information, try '--help'.\n",
+            Misuse::NoPath =>
+                "error: the following required arguments were not provided:\n  <PATH>\n\nFor more information, try '--help'.\n",
         }
     }
 }

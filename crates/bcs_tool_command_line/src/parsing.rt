@@ -43,7 +43,7 @@ pub fn parsed_job(alloc: Global, words: &[String]) -> Result<(Job, Option<Misuse
     Ok((job_of(alloc, command, given)?, misuse))
 }
 
-// What clap's error says, in this crate's terms.
+// clap's error in terms of this crate.
 fn refusal(alloc: Global, error: &Error) -> LineFault
     ensures { IsFaultOfKind (kind_of error.now) result }
 {

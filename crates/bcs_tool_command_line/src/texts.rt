@@ -2,7 +2,8 @@
 
 // ---- arguments
 
-pub const REGISTRY: &str = "The registry: its JSON if it begins with {, otherwise the name of its file";
+pub const REGISTRY: &str =
+    "The registry: its JSON if it begins with {, otherwise the name of its file";
 
 pub const OLD_REGISTRY: &str = "The older registry: its JSON, or the name of its file";
 
@@ -24,7 +25,8 @@ pub const FILE: &str = "The file to read instead of standard input";
 
 pub const FIRST_FILE: &str = "The file with the JSON of the first value";
 
-pub const SECOND_FILE: &str = "The file with the JSON of the second value, instead of standard input";
+pub const SECOND_FILE: &str =
+    "The file with the JSON of the second value, instead of standard input";
 
 // ---- how the input is read, and bytes are written
 
@@ -43,7 +45,8 @@ pub const BASE64_OUTPUT: &str =
 pub const BASE64_BOTH: &str =
     "Reads and writes the bytes as base64 with padding, instead of hex digits. Overrides --raw";
 
-pub const LINES: &str = "Treats each line of the input as an input of its own, and answers each with a line";
+pub const LINES: &str =
+    "Treats each line of the input as an input of its own, and answers each with a line";
 
 pub const LINES_OF_PIECES: &str =
     "Treats each line of the input as an input of its own. An empty line follows the pieces of each; with \
@@ -102,7 +105,8 @@ pub const OUTPUT: &str =
 
 pub const PATHS: &str = "Prints PATH, for the command part, after each name, or - if there is none";
 
-pub const TREE: &str = "Prints only the last step of each name, indented by its depth. Overrides --paths";
+pub const TREE: &str =
+    "Prints only the last step of each name, indented by its depth. Overrides --paths";
 
 pub const JSON: &str =
     "Prints each piece as a JSON object on a line, with its PATH and all its bytes. Overrides --tree and \
@@ -158,7 +162,7 @@ Status: 0 done, 2 refused, 3 usage, 4 file or memory";
 
 pub const SCHEMA_EXAMPLES: &str = "Example:
   bcs schema '{}' '\"BOOL\"' | grep boolean | xargs  # type: boolean
-  bcs schema '{}' '{\"SEQ\":\"BOOL\"}' | grep array | xargs  # type: array,
+  bcs schema '{}' '{\"SEQ\":\"BOOL\"}' | grep '\"array\"' | xargs  # type: array
 
 Status: 0 done, 2 refused, 3 usage, 4 file or memory";
 

@@ -29,8 +29,8 @@ returns-in-Ok-None c =
     (leads_nowhere work input asked.registry (shape_of asked.format) c.args.bytes.now led.0 led.1 path (is_asked input Part c.requires.command c.requires.asked within) spelled gives led.2
     c.in-Ok-None.field-0 c.in-Ok-None.field-0-is led.3)) c.answer_nowhere.ensures
 
-pub returns : goal.returns
-returns c =
+pub returns-in-Err : goal.returns-in-Err
+returns-in-Err c =
     let stop = c.in-Err.stop in
     IfOk-weaker c.answer_stop.result _ _ (λ a is input within gives. placed_answer _ input 2 _ a is.0 is.1 is.2
     (front_stopped _ _ c.args.bytes.now stop.reason stop.place (is_asked input Part c.requires.command c.requires.asked within) gives c.in-Err.ensures.stops)) c.answer_stop.ensures
