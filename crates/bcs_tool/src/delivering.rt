@@ -1,7 +1,6 @@
 //! Where the answer of a job goes: to the standard output, or with `--output` to a file.
-ghost use Rattle.std.specs.Prelude.{◌≡◌, ◌⊎◌, codes, false, string_bytes, IfErr, OnOk};
+ghost use Rattle.std.specs.Prelude.{IfErr, IfOk};
 ghost use Rattle.bcs_tool.specs.Delivering.{Delivers, FailsToWrite, Finishes, IsUnwritten, IsWritten, PrintsAnswer, RanOut};
-ghost use Rattle.bcs_tool.specs.HeldOutput.{ran_out};
 ghost use Rattle.bcs_tool_command_line.specs.FaultPlaces.{cause_text};
 
 use crate::held_output::HeldOutput;
