@@ -23,7 +23,7 @@ pub(crate) fn finish<R: Files + Env + AllocGlobal, S: ByteSource, O: ByteSink, E
     errors: &mut E,
 ) -> u8
     ensures { Finishes S.content S.is_failed S.allowance O.taken O.is_failed E.taken E.is_failed R.File.remaining R.File.contents
-        job.entry input.old input.new out.old out.new errors.old errors.new result }
+        job input.old input.new out.old out.new errors.old errors.new result }
 {
     let quiet = job.options.quiet;
     match job.options.output.take() {
