@@ -3,7 +3,7 @@
 import json
 from typing import Any
 
-from driver import Answer, Driver, Question, expect
+from driver import Answer, Driver, Question, Refused, expect
 from explain_rows import ExplainRow
 from jobs import debug, part_job, path_of
 from pieces import number_of
@@ -40,7 +40,10 @@ def names_of_pieces(driver: Driver, row: ExplainRow) -> str:
     """The names of pieces that don't lead to the part that their path leads to, or that lead into a key."""
     limits = [number_of(row.options, "--depth", "500"), number_of(row.options, "--nodes", "4294967295")]
     question, data = Question(driver, row.registry, format_of(row.format), limits), bytes_of_digits(row.digits.encode())
-    explained = question.ask("explain", data, "json")
+    try:
+        explained = question.ask("explain", data, "json")
+    except Refused:
+        raise Unsayable from None
     if explained.fault != "-":
         raise Unsayable
     pieces = [json.loads(line) for line in explained.output.decode().splitlines()[:-1]]
