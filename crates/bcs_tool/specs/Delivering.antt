@@ -14,9 +14,9 @@ use Rattle.bcs_tool.specs.Running.{PutFront}
 use Rattle.bcs_tool.specs.declared.held_output.HeldOutput.{HeldOutput}
 
 -- a job that has no answer, with this note
-pub record HasFailed (note : List ℕ) (outcome : Outcome) : Type 0 where
+pub record HasFailed (text : List ℕ) (outcome : Outcome) : Type 0 where
   pub status : outcome.status ≡ 4
-  pub note : outcome.note.now ≡ note
+  pub note : outcome.note.now ≡ text
 
 -- the file of `--output` wasn't written, and why it couldn't be opened
 pub record IsUnwritten (quiet : Bool) (name : List ℕ) (cause : List ℕ) (outcome : Outcome) : Type 0 where
@@ -42,19 +42,20 @@ module _ {F : Type 0} (contents : F → Option (List ℕ)) where
   FailsToWrite quiet name bytes outcome = ((cause : OpenCause) × IsUnwritten quiet name (cause_text cause) outcome)
       ⊎ ((file : WriteSink F) × (file' : WriteSink F) × PutFront received failed file file' bytes × IsUnwritten quiet name [] outcome)
 
-module _ {E F : Type 0} (told : E → Option (List ℕ)) (has_failed : E → Bool) (contents : F → Option (List ℕ)) where
+module _ {E : Type 0} (told : E → Option (List ℕ)) (has_failed : E → Bool) where
   -- the answer was put on the standard error, followed by the report; or a front of it
   abbrev pub PrintsAnswer : List ℕ → Outcome → E → E → ℕ → Type 0
   PrintsAnswer answer run errors errors' status =
       ((mid : E) × sink.Took told has_failed errors mid answer × PrintsReport told has_failed run mid errors' status)
       ⊎ (PutFront told has_failed errors errors' answer × (status ≡ run.status))
 
+module _ {E F : Type 0} (told : E → Option (List ℕ)) (has_failed : E → Bool) (contents : F → Option (List ℕ)) where
   -- what becomes of a run whose answer is held, with `--output`: only with status 0 a file is written, with the answer, and else
   -- the answer goes to the standard error
   pub data Delivers (quiet : Bool) (name : List ℕ) (held : HeldOutput) (run : Outcome) (errors errors' : E) (status : ℕ) : Type 0 where
     held_in_part : ran_out held ≡ true → (outcome : Outcome) → RanOut outcome → PrintsReport told has_failed outcome errors errors' status
         → Delivers quiet name held run errors errors' status
-    refused : ran_out held ≡ false → run.status ≢ 0 → PrintsAnswer (held_bytes held) run errors errors' status
+    refused : ran_out held ≡ false → run.status ≢ 0 → PrintsAnswer told has_failed (held_bytes held) run errors errors' status
         → Delivers quiet name held run errors errors' status
     written : ran_out held ≡ false → run.status ≡ 0 → IsWritten contents (held_bytes held) → PrintsReport told has_failed run errors errors' status
         → Delivers quiet name held run errors errors' status

@@ -1,7 +1,6 @@
 //! Where the answer of a job goes: to the standard output, or with `--output` to a file.
-ghost use Rattle.std.specs.Prelude.{◌≡◌, ◌⊎◌, codes, false, string_bytes, IfErr, OnOk};
+ghost use Rattle.std.specs.Prelude.{IfErr, IfOk};
 ghost use Rattle.bcs_tool.specs.Delivering.{Delivers, FailsToWrite, Finishes, IsUnwritten, IsWritten, PrintsAnswer, RanOut};
-ghost use Rattle.bcs_tool.specs.HeldOutput.{ran_out};
 ghost use Rattle.bcs_tool_command_line.specs.FaultPlaces.{cause_text};
 
 use crate::held_output::HeldOutput;
@@ -24,7 +23,7 @@ pub(crate) fn finish<R: Files + Env + AllocGlobal, S: ByteSource, O: ByteSink, E
     errors: &mut E,
 ) -> u8
     ensures { Finishes S.content S.is_failed S.allowance O.taken O.is_failed E.taken E.is_failed R.File.remaining R.File.contents
-        job.entry input.old input.new out.old out.new errors.old errors.new result }
+        job input.old input.new out.old out.new errors.old errors.new result }
 {
     let quiet = job.options.quiet;
     match job.options.output.take() {
