@@ -189,12 +189,15 @@ class Calls:
 
     def explain(self, *question: Any) -> Answer:
         """The text, and for invalid bytes the fault and its place. bcs_fault must report the same, except for the
-        path."""
+        path, and with hints behind what was wanted."""
         text = self.ask("bcs_explain(?, ?, ?, ?, ?, ?)", *question)
         lines = self.ask("bcs_explain(?, ?, ?, ?, ?, ?)", *question[:4], "json").splitlines()
         last = {name: member for name, member in json.loads(lines[-1]).items() if name != "path"}
         fault = self.ask("cast(bcs_fault(?, ?, ?, ?, ?) as text)", *question[:4])
-        if (json.loads(fault) if fault else None) != (last if "refused" in last else None):
+        told = json.loads(fault) if fault else None
+        if told and told.get("want", "").startswith(f"{last.get('want')}; "):
+            told["want"] = last["want"]
+        if told != (last if "refused" in last else None):
             raise SystemExit(f"driver: bcs_fault tells {fault}, and bcs_explain {last}")
         place = last["place"] if "refused" in last else 0
         return last.get("refused", "-"), place, len(text.encode()), text.encode()

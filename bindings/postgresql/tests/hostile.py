@@ -151,7 +151,7 @@ class Costs(Measured):
         run(self.session, "set statement_timeout = '200ms'")
         units = "{}", '{"SEQ":"UNIT"}', length(100_000_000)
         truths = "{}", '{"SEQ":"BOOL"}', length(100_000_000) + b"\1" * 1_000_000
-        for call in CALLS[4:]:
+        for call in CALLS[6:]:
             self.ends("57014", 1000, "select " + call.format(ALL), *(truths if "explain" in call else units))
         for call in "bcs_encode_json", "bcs_normalise":
             text = "'[' || repeat('true,', 20000000) || 'true]'"
