@@ -108,6 +108,25 @@ def ask_bytes(program: Program) -> None:
     program.gives(2, "0101\nrefused: NotJson\n0103\n", counts, "encode", "--lines", "{}", LIST)
 
 
+def ask_outputs(program: Program) -> None:
+    """A file is created, or emptied and written, and left alone if the status isn't 0."""
+    job = ["encode", "--raw", "{}", LIST]
+    write("é.bytes", "an older answer")
+    for name in "new.bytes", "é.bytes":
+        write("input", "[13,10,26]")
+        program.gives(0, "", "", *job, "-o", name)
+        write("input", "[256]")
+        program.gives(2, "", "refused: BadNumber\n", *job, "--quiet", f"--output={name}")
+        found = pathlib.Path(name).read_bytes()
+        if found != b"\3\r\n\x1a":
+            fail(f"{name} has {found!r}")
+    write("input", "[]")
+    missing = "fault: write\nin the file no\\\\x: No such file or directory\n"
+    program.gives(4, "", missing, *job, "-o", "no\\x")
+    program.gives(4, "", "fault: write\nin the file .: Permission denied\n", *job, "-o", ".")
+    program.gives(0, "", "", *job, "-o", "NUL")
+
+
 def ask_megabytes(program: Program) -> None:
     """By a file, by a file as standard input, and by a pipe."""
     write("input", LONG_LIST + bytes(200_000_000))
@@ -155,7 +174,7 @@ def main() -> None:
         write("input", "")
         ask_names(program)
         ask_long_names(program, room)
-        for ask in ask_devices, ask_bytes, ask_megabytes, ask_depth, ask_rest:
+        for ask in ask_devices, ask_bytes, ask_outputs, ask_megabytes, ask_depth, ask_rest:
             ask(program)
         os.chdir("/")
     print(f"{program.count} answers")
