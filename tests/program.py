@@ -90,7 +90,7 @@ class Program:
         passed(f"{COUNT} pairs of lines")
 
     def check_output(self) -> None:
-        """A file is created, or emptied and written, and left alone if the status isn't 0; also one that is the input."""
+        """A file is created, or emptied and written, even the input, and left alone if the status isn't 0."""
         given, answer = self.file("given", ["-4660"]), self.room / "answer"
         job = ["encode", "--quiet", "--raw", "{}"]
         for older in (b"", b"an older answer"):
