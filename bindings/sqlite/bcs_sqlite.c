@@ -244,7 +244,8 @@ static const struct {
     {"bcs_decode", 1, true, decode},       {"bcs_encode", 1, true, encode}, {"bcs_normalise", 1, true, normalise},
     {"bcs_equal", 2, true, equal},         {"bcs_part", 2, true, part},     {"bcs_part_place", 2, true, part_place},
     {"bcs_scan", 1, true, scan},           {"bcs_is", 1, true, is},         {"bcs_fault", 1, true, fault},
-    {"bcs_explain", 2, false, explain},    {"bcs_part_by_name", 2, true, part_by_name},
+    {"bcs_explain", 2, false, explain},
+    {"bcs_part_by_name", 2, true, part_by_name},
     {"bcs_part_by_pointer", 2, true, part_by_pointer},
 };
 
