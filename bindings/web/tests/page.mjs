@@ -519,6 +519,6 @@ test('no two buttons have one name, and a piece leads to the command part', asyn
   await page.ask("Object.defineProperty(navigator, 'clipboard', { value: { writeText: async (text) => { globalThis.taken = text; } } })");
   await page.ask("document.getElementById('part').click()");
   await page.until('globalThis.taken');
-  assert.match(await page.ask('globalThis.taken'), /^bcs part registry\.json 'RawTransaction' '[a-z0-9\/]+' value\.hex$/);
+  assert.match(await page.ask('globalThis.taken'), /^bcs part --name '\.[a-z_]+' registry\.json 'RawTransaction' value\.hex$/);
   await isQuiet(page);
 });
