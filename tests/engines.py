@@ -25,7 +25,7 @@ import debian
 ROOT = pathlib.Path(__file__).resolve().parent.parent
 REFUSALS = ["--refusals", "json"]
 NO_REFUSALS: list[str] = []
-DECODE = ["decode", "--quiet", "--lines", *REFUSALS, "examples/aptos_registry.json", "RawTransaction"]
+DECODE = ["decode", "--lines", *REFUSALS, "examples/aptos_registry.json", "RawTransaction"]
 # More than a pipe holds.
 ROWS = 2000
 BLOCKS = 3
@@ -156,7 +156,7 @@ def check_pool(program: str) -> None:
 
 def check_file(command: list[str], engine: str) -> None:
     """The answers to a file of rows are a file with a JSON value on each line."""
-    ended = subprocess.run(command, stdout=subprocess.PIPE, encoding="utf-8")
+    ended = subprocess.run(command, stdout=subprocess.PIPE, stderr=subprocess.DEVNULL, encoding="utf-8")
     if ended.returncode != 0:
         fail(f"{engine}: status {ended.returncode}")
     expect_answers(ended.stdout.splitlines(), engine)
