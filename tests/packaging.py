@@ -28,7 +28,7 @@ bcs help gr|grows
 bcs encode --ra|--raw
 bcs decode --b|--base64
 bcs sc|scan schema
-bcs grows --|--help --list --quiet
+bcs grows --|--help --list --output --quiet
 bcs encode reg|registry.json
 bcs encode registry.json |Alpha Beta Gamma
 bcs encode --depth 5 --raw registry.json |Alpha Beta Gamma
@@ -42,6 +42,8 @@ bcs encode '{"One":' |
 hostile/bcs encode registry.json |Alpha Beta Gamma
 bcs encode registry.json Alpha val|value.json
 bcs part registry.json Alpha |
+bcs part registry.json Alpha --pointer /a val|value.json
+bcs part --name=.a registry.json Alpha val|value.json
 bcs example --variant |
 bcs example registry.json Gamma --variant |Off On
 bcs example registry.json Gamma --full --variant=O|Off On
@@ -221,7 +223,8 @@ class Packaging:
     def offered_by_fish(self, line: str) -> list[str]:
         file = str(self.shared / "fish/vendor_completions.d/bcs.fish")
         offered = self.ask(line, "fish", "--no-config", "-c", ASK_FISH, file, line)
-        return [word.partition("\t")[0] for word in offered.splitlines()]
+        # Of a value after =, fish offers the whole word.
+        return [re.sub("^--[a-z]+=", "", word.partition("\t")[0]) for word in offered.splitlines()]
 
     def offered_by_zsh(self, line: str) -> list[str]:
         folder = self.room / "zsh"

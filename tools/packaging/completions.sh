@@ -19,7 +19,7 @@ read_help='
         split("REG OLD NEW FILE A B", files, " ")
         for (at in files) stands_for["" files[at]] = "file"
         stands_for["FORMAT"] = stands_for["NAME"] = "container"
-        stands_for["PATH"] = "anything"
+        stands_for["PATH"] = "path"
         values["variant"] = "variants"; values["name"] = "parts"; values["output"] = "files"
         values["color"] = "always auto never"; values["refusals"] = "json"
         needs_equals["color"] = 1
@@ -72,6 +72,7 @@ bash_completions='
             print "        " names[at] ") options=\047" substr(options[names[at]], 2) "\047 kinds=(" substr(kinds[names[at]], 2) ") ;;"
         print "        help) options=\047\047 words=(\"${words[@]:1}\") ;;"
         print "    esac"
+        print "    if _bcs_is_named; then kinds=(\"${kinds[@]/#path/file}\"); fi"
         print "    if [[ $word == -* ]]; then"
         print "        mapfile -t COMPREPLY < <(compgen -W \"$options\" -- \"$word\")"
         print "    elif [ ${#words[@]} = 0 ]; then"
@@ -114,10 +115,16 @@ _bcs_variants() {
 
 # _bcs_parts REGISTRY FORMAT FILE [--raw] [--base64]
 _bcs_parts() {
-    local registry file
+    local registry file lines
     registry=$(_bcs_file "$1") file=$(_bcs_file "$3")
     [[ ($registry == "{"* || -f $registry) && -f $file ]] || return 0
-    "$_bcs_program" explain --quiet "${@:4}" -- "$registry" "$2" "$file" 2>/dev/null </dev/null | sed -n "s/^.* \([][.:?][][A-Za-z_0-9.:?]*\)$/\1/p"
+    lines=$("$_bcs_program" explain --quiet "${@:4}" -- "$registry" "$2" "$file" 2>/dev/null </dev/null) || return 0
+    printf "%s\n" "$lines" | sed -n "s/^.* \([].:?[][]A-Za-z_0-9.:?[]*\)$/\1/p"
+}
+
+# Whether an option names the part, so that FILE is in the place of PATH.
+_bcs_is_named() {
+    [[ " ${COMP_WORDS[*]} " == *" --"@(name|pointer)[\ =]* ]]
 }
 
 # Moves `at` to the end of an option'"'"'s value. Bash splits words at = and :, so a value can be several words.
@@ -139,7 +146,7 @@ _bcs_complete_value() {
         --name) offered=$(_bcs_parts "${words[1]}" "${words[2]}" "${words[3]}" "${coding[@]}" | sort -u) ;;
         --color) offered="always auto never" ;;
         --refusals) offered=json ;;
-        -o | --output) compopt -o default ;;
+        -o | --output) compopt -o default && return ;;
     esac
     mapfile -t COMPREPLY < <(compgen -W "$offered" -- "$typed")
     COMPREPLY=("${COMPREPLY[@]#"${typed%"${typed##*:}"}"}")
@@ -148,7 +155,7 @@ _bcs_complete_value() {
 
 zsh_completions='
     function spec(text) { gsub(/\[/, "\\[", text); gsub(/\]/, "\\]", text); gsub(/:/, "\\:", text); return text }
-    $1 == "argument" { action = kind == "file" ? "_files" : kind == "container" ? "_bcs_containers" : " "
+    $1 == "argument" { action = kind == "file" ? "_files" : kind == "container" ? "_bcs_containers" : kind == "path" ? "_bcs_path" : " "
         add($2, place ":" word ":" action) }
     function add(command, text) { specs[command] = specs[command] " " in_quotes(text) }
     $1 == "option" && short != "" { add($2, "-" short (has_value ? "+" : "") "[" spec($4) "]" (has_value ? ":value:" value($3) : "")) }
@@ -203,6 +210,11 @@ _bcs_containers() {
     compadd -a names
 }
 
+# With an option that names the part, FILE is in the place of PATH.
+_bcs_path() {
+    (( ${words[(I)--(name|pointer)(|=*)]} )) && _files
+}
+
 _bcs_variants() {
     local -a names
     [[ $line[2] =~ "^[A-Za-z_][A-Za-z_0-9]*\$" ]] || return 1
@@ -211,14 +223,15 @@ _bcs_variants() {
 }
 
 _bcs_parts() {
-    local registry REPLY
+    local registry lines REPLY
     local -a names coding
     _bcs_file "$line[1]" && registry=$REPLY
     _bcs_file "$line[3]"
     [[ ($registry == "{"* || -f $registry) && -f $REPLY ]] || return 1
     (( ${words[(I)--raw]} )) && coding+=(--raw)
     (( ${words[(I)--base64]} )) && coding+=(--base64)
-    names=(${(fu)"$($_bcs_program explain --quiet $coding -- $registry $line[2] $REPLY 2>/dev/null </dev/null | sed -n "s/^.* \([][.:?][][A-Za-z_0-9.:?]*\)\$/\1/p")"})
+    lines=$($_bcs_program explain --quiet $coding -- $registry $line[2] $REPLY 2>/dev/null </dev/null) || return 1
+    names=(${(fu)"$(print -r -- $lines | sed -n "s/^.* \([].:?[][]A-Za-z_0-9.:?[]*\)\$/\1/p")"})
     compadd -a names
 }
 '
@@ -228,6 +241,7 @@ fish_completions='
     function rule(condition, rest) { lines = lines "complete -c bcs -n " in_quotes(condition) " " rest "\n" }
     $1 == "command" { rule("__bcs_at 0", "-a " $3 " -d " in_quotes($4)); rule("__bcs_at 1 help", "-a " $3 " -d " in_quotes($4)) }
     $1 == "argument" && kind == "file" { rule("__bcs_at " place " " $2, "-F") }
+    $1 == "argument" && kind == "path" { rule("__bcs_is_named; and __bcs_at " place " " $2, "-F") }
     $1 == "argument" && kind == "container" { rule("__bcs_at " place " " $2, "-a \"(__bcs_containers)\"") }
     function value(name) {
         if (values[name] == "") return " -x"
@@ -268,6 +282,11 @@ function __bcs_in
     test (count $words) -gt 0; and test $words[1] = $argv[1]
 end
 
+# Whether an option names the part, so that FILE is in the place of PATH.
+function __bcs_is_named
+    string match -qr -- "^--(?:name|pointer)(?:=|\$)" (commandline -opc)
+end
+
 # Prints what the registry on the line has, if it is one.
 function __bcs_show
     set -l registry (string replace -r "^~/" "$HOME/" -- (__bcs_words)[2])
@@ -291,7 +310,8 @@ function __bcs_parts
     string match -q "{*" -- "$words[2]"; or test -f "$words[2]"; or return
     test -f "$words[4]"; or return
     set -l coding (string match -r -- "^--(?:raw|base64)\$" (commandline -opc))
-    $__bcs_program explain --quiet $coding -- "$words[2]" "$words[3]" "$words[4]" 2>/dev/null </dev/null | string replace -rf "^.* ([][.:?][][A-Za-z_0-9.:?]*)\$" "\$1" | sort -u
+    set -l lines ($__bcs_program explain --quiet $coding -- "$words[2]" "$words[3]" "$words[4]" 2>/dev/null </dev/null); or return
+    printf "%s\n" $lines | string replace -rf "^.* ([].:?[][]A-Za-z_0-9.:?[]*)\$" "\$1" | sort -u
 end
 '
 
