@@ -49,7 +49,7 @@ bcs example registry.json Gamma --variant |Off On
 bcs example registry.json Gamma --full --variant=O|Off On
 bcs example registry.json Beta --variant |
 bcs example bad.json Gamma --variant |
-bcs part registry.json Beta beta.hex --name |.field
+bcs part registry.json Beta beta.hex --name .|.field
 bcs part registry.json Gamma gamma.hex --name ::|::On
 bcs part registry.json Gamma gamma.hex --base64 --name |
 bcs part registry.json Gamma bad.json --name |
