@@ -57,7 +57,7 @@ bcs part registry.json Gamma gamma.hex --ra|--raw
 bcs decode --lines --refusals |json
 bcs explain --color=al|always
 bcs explain --color reg|registry.json
-bcs explain registry.json Beta --color=|always auto never
+bcs explain registry.json Beta --color=au|auto
 bcs check registry.json -o val|value.json
 bcs same registry.json Alpha value.json reg|registry.json
 """
