@@ -96,6 +96,7 @@ DISPLAYS = [
         "refused: UnknownName",
         ["show", "@registry", "T"],
         place="at NAME: UnknownName: no container is called T",
+        hints=3,
         left_out=20,
     ),
     Job(0, '*"type": "boolean"*', ["schema", "@registry", BOOL]),
@@ -108,6 +109,7 @@ DISPLAYS = [
         "refused: UnknownVariant",
         ["example", "--variant", "Node", '{"E":{"ENUM":{"0":{"None":"UNIT"}}}}', "E"],
         place="at --variant, Node: UnknownVariant: no variant has this name; nearest: None; variants: None",
+        hints=3,
         left_out=16,
     ),
 ]
@@ -157,14 +159,14 @@ REFUSALS = [
         "refused: TooManyNodes at 0",
         ["decode", "--raw", "@registry", "S", "--nodes", "1", "@bytes"],
         place=TOO_MANY_NODES,
-        left_out=14,
+        left_out=15,
     ),
     Job(
         2,
         "refused: TooManyNodes at 0",
         ["part", "--raw", "@registry", "S", ".", "--nodes", "1", "@bytes"],
         place=TOO_MANY_NODES,
-        left_out=14,
+        left_out=15,
     ),
     Job(
         2,
@@ -186,7 +188,7 @@ REFUSALS = [
         "refused: MissingField",
         ["encode", '{"P":{"STRUCT":[{"name":"U8"}]}}', "P", "@members"],
         place="at the whole text: MissingField: no member is called name; found: nmae",
-        hints=2,
+        hints=3,
         left_out=24,
     ),
     Job(
@@ -233,6 +235,7 @@ REFUSALS = [
         "refused: UnknownName",
         ["grows", "{}", UNKNOWN],
         place="in NEW, at S: UnknownName: no container is called T",
+        hints=3,
         left_out=22,
     ),
     Job(
@@ -257,10 +260,10 @@ TEXTS = [
     Job(0, "*Example:*", ["part", "--help"]),
     Job(0, "bcs *", ["--version"]),
     Job(3, "*error: *", []),
-    Job(3, "*frobnicate*", ["frobnicate"], hints=62),
+    Job(3, "*frobnicate*", ["frobnicate"], hints=68),
     Job(3, "*Usage: *", ["encode", "{}"]),
     Job(3, "*extra*", ["check", "{}", "extra"]),
-    Job(3, "*--raw*", ["check", "{}", "--raw"], hints=6),
+    Job(3, "*--raw*", ["check", "{}", "--raw"], hints=9),
 ]
 
 # In their words the name of a file begins with @.
