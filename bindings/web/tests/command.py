@@ -124,7 +124,7 @@ def ask_values(programs: Programs) -> None:
     both(0, "ok 1\n", "", "scan", "--front", "--nodes", "00001", "{}", '"U8"')
     line = f"{'     0  cced':<74}{'I16 -4660':<32}.\n"
     both(0, line, "", "explain", "--no-color", "{}", '"I16"')
-    both(1, "none\n", "", "part", "{}", '"I16"', "7")
+    both(1, "none\n", "at PATH, step 1 7: I16 has no parts\n", "part", "{}", '"I16"', "7")
     both(0, "ok 15969\n", "", "scan", "deep.json", "L", "deep.hex")
     programs.alike(0, "explain", "--tree", "deep.json", "L", "deep.hex")
     programs.alike(0, "show", "registry.json")
