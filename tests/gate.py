@@ -120,6 +120,7 @@ def steps_pass(room: pathlib.Path) -> bool:
     return (
         passes("tests/edits.py", str(room / "log"))
         and passes("tests/program.py")
+        and passes("tests/engines.py")
         and passes("tests/schema.sh")
         and passes("tests/explain.py")
         and passes("tests/program_heap.sh")

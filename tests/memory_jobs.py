@@ -4,14 +4,15 @@ from memory_of_program import Job
 
 S = '{"S":{"NEWTYPESTRUCT":"I16"}}'
 I16, U8, BOOL = '"I16"', '"U8"', '"BOOL"'
+ACCENTED = '{"S":{"STRUCT":[{"é":"I16"}]}}'
 LIST = '{"SEQ":"I16"}'
 PAIRS = '{"MAP":{"KEY":"U16","VALUE":"BOOL"}}'
 NESTED = '{"L":{"STRUCT":[{"next":{"OPTION":{"TYPENAME":"L"}}}]}}'
 OPENED = "fault: open"
 NO_FILE = "in the file no.file: No such file or directory"
-NOT_JSON = "at line 1, column 1: NotJson: serde_json stops reading there"
+NOT_JSON = "at line 1, column 1: NotJson: the text stops being JSON there"
 TOO_MANY_NODES = "at .: TooManyNodes: wanted I16; --nodes allows 1"
-WRONG_NUMBER = "BadNumber: wanted a whole number from -32768 to 32767 (I16)"
+WRONG_NUMBER = "BadNumber: found 32768, wanted a whole number from -32768 to 32767 (I16)"
 VARIANTS = '{"E":{"ENUM":{"0":{"B":"UNIT"},"1":{"A":{"NEWTYPE":"U8"}}}}}'
 FULL = '{"MAP":{"KEY":{"OPTION":{"TUPLE":["U8"]}},"VALUE":{"TYPENAME":"E"}}}'
 TALLY = "lines with status 0: {}, with status 1: {}, with status 2: {}".format
@@ -34,6 +35,8 @@ FILES = {
     "list": b"[1,32767]\n",
     "large": b"[1,32768]\n",
     "open": b"[\n",
+    "members": b'{"nmae":7}\n',
+    "variant": b"\t",
     "yaml": b"S: UNITSTRUCT\n",
 }
 
@@ -53,6 +56,7 @@ WORDS_AND_ANSWERS = [
         hints=3,
     ),
     Job(0, "\xcc\xed", ["part", "--raw", "@registry", "S", "inner", "@bytes"]),
+    Job(0, "cced", ["encode", "{}", I16, "@number", "-o", "/dev/stdout"]),
     Job(0, "zO0=", ["encode", "--base64", "{}", I16, "@number"]),
     Job(0, "zO0=", ["part", "--base64", "@registry", "S", "inner", "@base64"]),
     Job(
@@ -76,6 +80,10 @@ MAPS = [
     Job(0, "equal", ["same", "{}", PAIRS, "@map", "@map"]),
     Job(0, "[[256,false],[1,true]]", ["decode", "--raw", "{}", PAIRS, "@map_bytes"]),
     Job(0, "\1", ["part", "--raw", "{}", PAIRS, "key:0100", "@map_bytes"]),
+    Job(0, "\1", ["part", "--raw", "--name", "[key:0100]", "{}", PAIRS, "@map_bytes"]),
+    Job(0, "\1", ["part", "--raw", "--pointer", "/1/1", "{}", PAIRS, "@map_bytes"]),
+    Job(0, "\xcc\xed", ["part", "--raw", "--name", ".\\u00e9", ACCENTED, "S", "@bytes"]),
+    Job(1, "", ["part", "--raw", "--quiet", "--name", "[key:0200]", "{}", PAIRS, "@map_bytes"]),
     Job(2, "refused: TooNested", ["decode", "--raw", NESTED, "L", "@nested"]),
     Job(0, "ok 500", ["scan", "--raw", NESTED, "L", "@nested"]),
 ]
@@ -88,14 +96,22 @@ DISPLAYS = [
         "refused: UnknownName",
         ["show", "@registry", "T"],
         place="at NAME: UnknownName: no container is called T",
-        left_out=14,
+        hints=3,
+        left_out=20,
     ),
     Job(0, '*"type": "boolean"*', ["schema", "@registry", BOOL]),
     Job(0, '*"#/$defs/I16"*', ["schema", "@registry", "S"]),
     Job(0, "[]", ["example", "{}", LIST]),
     Job(0, '{"A":0}', ["example", "--variant", "A", VARIANTS, "E"]),
     Job(0, '[[{"some":[0]},"X"]]', ["example", "--full", '{"E":{"ENUM":{"0":{"X":"UNIT"}}}}', FULL]),
-    Job(2, "refused: UnknownVariant", ["example", "--variant", "C", '{"E":{"ENUM":{"0":{"B":"UNIT"}}}}', "E"]),
+    Job(
+        2,
+        "refused: UnknownVariant",
+        ["example", "--variant", "Node", '{"E":{"ENUM":{"0":{"None":"UNIT"}}}}', "E"],
+        place="at --variant, Node: UnknownVariant: no variant has this name; nearest: None; variants: None",
+        hints=3,
+        left_out=16,
+    ),
 ]
 # Verdicts without a text: of bytes that are in memory, and of others that are checked as they come.
 VERDICTS = [
@@ -143,14 +159,14 @@ REFUSALS = [
         "refused: TooManyNodes at 0",
         ["decode", "--raw", "@registry", "S", "--nodes", "1", "@bytes"],
         place=TOO_MANY_NODES,
-        left_out=14,
+        left_out=15,
     ),
     Job(
         2,
         "refused: TooManyNodes at 0",
         ["part", "--raw", "@registry", "S", ".", "--nodes", "1", "@bytes"],
         place=TOO_MANY_NODES,
-        left_out=14,
+        left_out=15,
     ),
     Job(
         2,
@@ -165,13 +181,28 @@ REFUSALS = [
         ["encode", "{}", LIST, "@large"],
         place=f"at /1: {WRONG_NUMBER}",
         hints=2,
-        left_out=11,
+        left_out=14,
+    ),
+    Job(
+        2,
+        "refused: MissingField",
+        ["encode", '{"P":{"STRUCT":[{"name":"U8"}]}}', "P", "@members"],
+        place="at the whole text: MissingField: no member is called name; found: nmae",
+        hints=3,
+        left_out=24,
+    ),
+    Job(
+        2,
+        "refused: UnknownVariant at 0",
+        ["decode", "--raw", VARIANTS, "E", "@variant"],
+        place="at .: UnknownVariant: wanted number of a variant; found 9; variants: 0 B, 1 A",
+        left_out=16,
     ),
     Job(
         2,
         "refused: NotJson",
         ["normalise", "{}", I16, "@open"],
-        place="at line 2, column 0: NotJson: serde_json stops reading there",
+        place="at line 2, column 0: NotJson: the text stops being JSON there",
         left_out=5,
     ),
     Job(
@@ -180,14 +211,14 @@ REFUSALS = [
         ["same", "{}", LIST, "@list", "@large"],
         place=f"in B, at /1: {WRONG_NUMBER}",
         hints=3,
-        left_out=23,
+        left_out=26,
     ),
     Job(
         2,
         "refused: TooDeep",
         ["same", "--depth=0", "@registry", "S", "@number", "@number"],
         place=f"in A, at the whole text: {DEPTH}",
-        left_out=15,
+        left_out=17,
     ),
     Job(2, "refused: NotJson", ["check", "{"], place=NOT_JSON, hints=3, left_out=5),
     Job(2, "refused: NotJson", ["check", "@yaml"], place=NOT_JSON + LOOKS_LIKE_YAML, hints=3, left_out=6),
@@ -204,7 +235,8 @@ REFUSALS = [
         "refused: UnknownName",
         ["grows", "{}", UNKNOWN],
         place="in NEW, at S: UnknownName: no container is called T",
-        left_out=16,
+        hints=3,
+        left_out=22,
     ),
     Job(
         2,
@@ -228,10 +260,10 @@ TEXTS = [
     Job(0, "*Example:*", ["part", "--help"]),
     Job(0, "bcs *", ["--version"]),
     Job(3, "*error: *", []),
-    Job(3, "*frobnicate*", ["frobnicate"], hints=62),
+    Job(3, "*frobnicate*", ["frobnicate"], hints=68),
     Job(3, "*Usage: *", ["encode", "{}"]),
     Job(3, "*extra*", ["check", "{}", "extra"]),
-    Job(3, "*--raw*", ["check", "{}", "--raw"], hints=6),
+    Job(3, "*--raw*", ["check", "{}", "--raw"], hints=9),
 ]
 
 # In their words the name of a file begins with @.

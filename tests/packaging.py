@@ -28,7 +28,7 @@ bcs help gr|grows
 bcs encode --ra|--raw
 bcs decode --b|--base64
 bcs sc|scan schema
-bcs grows --|--help --list --quiet
+bcs grows --|--help --list --output --quiet
 bcs encode reg|registry.json
 bcs encode registry.json |Alpha Beta Gamma
 bcs encode --depth 5 --raw registry.json |Alpha Beta Gamma
@@ -42,12 +42,29 @@ bcs encode '{"One":' |
 hostile/bcs encode registry.json |Alpha Beta Gamma
 bcs encode registry.json Alpha val|value.json
 bcs part registry.json Alpha |
+bcs part registry.json Alpha --pointer /a val|value.json
+bcs part --name=.a registry.json Alpha val|value.json
 bcs example --variant |
+bcs example registry.json Gamma --variant |Off On
+bcs example registry.json Gamma --full --variant=O|Off On
+bcs example registry.json Beta --variant |
+bcs example bad.json Gamma --variant |
+bcs part registry.json Beta beta.hex --name .|.field
+bcs part registry.json Gamma gamma.hex --name ::|::On
+bcs part registry.json Gamma gamma.hex --base64 --name |
+bcs part registry.json Gamma bad.json --name |
+bcs part registry.json Gamma gamma.hex --ra|--raw
+bcs decode --lines --refusals |json
+bcs explain --color=al|always
+bcs explain --color reg|registry.json
+bcs explain registry.json Beta --color=au|auto
+bcs check registry.json -o val|value.json
 bcs same registry.json Alpha value.json reg|registry.json
 """
 
 REGISTRY = """\
-{"Alpha":"UNITSTRUCT","Beta":{"STRUCT":[{"field":"U8"}]},"Gamma":{"ENUM":{"0":{"Off":"UNIT"}}},"a b":"UNITSTRUCT"}
+{"Alpha":"UNITSTRUCT","Beta":{"STRUCT":[{"field":"U8"}]},
+"Gamma":{"ENUM":{"0":{"Off":"UNIT"},"1":{"On":{"NEWTYPE":"U8"}}}},"a b":"UNITSTRUCT"}
 """
 
 # It gets the file with the completions and the words of the line. (`compopt` asks bash for the names of files.)
@@ -101,6 +118,13 @@ def output(command: list[str | pathlib.Path], environment: dict[str, str] | None
 
 def one_line(text: str) -> str:
     return " ".join(text.split())
+
+
+def pieces_of(word: str) -> list[str]:
+    """How bash splits a word on the line."""
+    if not word or "'" in word or '"' in word:
+        return [word]
+    return re.findall(r"=|:+|[^=:]+", word)
 
 
 class Packaging:
@@ -169,6 +193,8 @@ class Packaging:
         (self.folder / "a folder/other.json").write_text(other_registry, encoding="utf-8")
         (self.folder / "bad.json").write_text("[\n", encoding="utf-8")
         (self.folder / "value.json").write_text("null\n", encoding="utf-8")
+        (self.folder / "beta.hex").write_text("07\n", encoding="utf-8")
+        (self.folder / "gamma.hex").write_text("0107\n", encoding="utf-8")
 
     def ask(self, line: str, *command: str) -> str:
         """Runs a shell in the folder, and returns what it prints."""
@@ -187,13 +213,18 @@ class Packaging:
     def offered_by_bash(self, line: str) -> list[str]:
         words = [found[0] for found in re.finditer(r"""('[^']*'|"[^"]*"|[^ '"])+""", line)]
         words += [""] if line.endswith(" ") else []
+        # Bash splits a word at = and :, and what is offered replaces what stands behind the last of them.
+        pieces = [piece for word in words for piece in pieces_of(word)]
+        kept = re.sub(r"[^:]*$", "", pieces[-1] if "=" in words[-1] else words[-1])
         file = str(self.shared / "bash-completion/completions/bcs")
-        return self.ask(line, "bash", "--norc", "-c", ASK_BASH, "bash", file, *words).splitlines()
+        offered = self.ask(line, "bash", "--norc", "-c", ASK_BASH, "bash", file, *pieces).splitlines()
+        return [kept + word for word in offered]
 
     def offered_by_fish(self, line: str) -> list[str]:
         file = str(self.shared / "fish/vendor_completions.d/bcs.fish")
         offered = self.ask(line, "fish", "--no-config", "-c", ASK_FISH, file, line)
-        return [word.partition("\t")[0] for word in offered.splitlines()]
+        # Of a value after =, fish offers the whole word.
+        return [re.sub("^--[a-z]+=", "", word.partition("\t")[0]) for word in offered.splitlines()]
 
     def offered_by_zsh(self, line: str) -> list[str]:
         folder = self.room / "zsh"

@@ -108,7 +108,7 @@ def test_installing(program: pathlib.Path, room: pathlib.Path, manual: bytes) ->
     require(files(place) == ["share/other", "share/zsh/site-functions/_bcs"], "--uninstall of a changed file")
     installer.fails("didn't install it", *to_place)
     installer.succeeds("--prefix", "/usr", "--no-record", variables={"DESTDIR": str(room / "staged")})
-    require(len(files(room / "staged")) == 5, "install with DESTDIR")
+    require(len(files(room / "staged")) == 6, "install with DESTDIR")
 
 
 def test_folders(program: pathlib.Path, room: pathlib.Path) -> None:
@@ -132,14 +132,14 @@ def test_parts(program: pathlib.Path, room: pathlib.Path) -> None:
     place, installer = room / "parts", Installer(program, room)
     both = "the program, its manual and completions, and the library of C"
     installer.succeeds("--library", "--prefix", str(place))
-    require(installer.said == f"install: 11 files in {place}: {both}\n", f"install says: {installer.said!r}")
+    require(installer.said == f"install: 12 files in {place}: {both}\n", f"install says: {installer.said!r}")
     installer.succeeds("--prefix", str(place), "--uninstall")
     library = ["bcs.pc", "bcs.h", "libbcs.a", "libbcs.so.0", "libbcs_c.a", "installed"]
     require({pathlib.Path(name).name for name in files(place)} == {*library}, f"without the program: {files(place)}")
     installer.fails("none of this was installed", "--prefix", str(place), "--uninstall")
     installer.succeeds("--prefix", str(place))
     installer.succeeds("--prefix", str(place), "--uninstall", part="--library")
-    require(len(files(place)) == 6, f"without the library: {files(place)}")
+    require(len(files(place)) == 7, f"without the library: {files(place)}")
     installer.succeeds("--prefix", str(place), "--uninstall")
     require(not place.exists(), "--uninstall of the last part leaves the folder")
 

@@ -7,6 +7,8 @@ a registry with all formats, which are the same in each run:
 - The pieces are all of the bytes, without gap or overlap.
 - The word PATH of a piece leads `bcs part` to the part that the piece is of. `explain` cuts a key of more than 32
   bytes, so the word is completed first, from the bytes of the key's own pieces.
+- So do the name of the piece, behind `--name`, and the JSON Pointer of the part, behind `--pointer`. A name into a key
+  leads nowhere.
 - The pieces of a part are those that its format has, with the values that `bcs decode` prints of that part.
 
 Then it damages encodings: it cuts them off, changes their bytes, or lowers the limits. `explain` has to stop where
@@ -51,6 +53,8 @@ TEXTS = ["", "a", "é\n"]
 KEYS = [*TEXTS, "k" * 31, "k" * 32, "k" * 33, "k" * 99 + "a", "k" * 99 + "b"]
 # A key in a name or in a word PATH.
 KEY = re.compile(r"key:([0-9a-f]*)(?:\.\.\.\(([0-9]+) bytes? more\))?")
+# A step of a name that doesn't lead to a key or to the value at it.
+PLAIN = re.compile(r"\.(\w+)|::(\w+)|\[(\d+)\]|\?")
 # A step of a name: to a field, a variant, an element, a key, the value at a key, or what an option holds.
 STEP = re.compile(r"\.(\w+)|::(\w+)|\[(\d+)\]|\[(key) \d+\]|\[key:\w*\]|\?")
 
@@ -96,6 +100,7 @@ class Piece(NamedTuple):
     kind: str
     what: str
     value: Any
+    pointer: str = ""
 
 
 class Part(NamedTuple):
@@ -105,6 +110,7 @@ class Part(NamedTuple):
     name: str
     pieces: list[Piece]
     digits: str
+    pointer: str
 
 
 class Damage(NamedTuple):
@@ -161,21 +167,29 @@ def with_whole_keys(pieces: list[Piece]) -> Iterator[Piece]:
     """The pieces with whole keys in names and words. The pieces of a key come right before those of the value at it."""
     keys: dict[str, tuple[str, str]] = {}
     for piece in pieces:
-        name, wholes = "", []
+        name, pointer, wholes = "", "", []
         for step in re.split(r"(?=\[key)", piece.name):
+            steps = step.split("]", 1)[1] if step.startswith("[key") else step
             if number := re.match(r"\[key ([0-9]+)\]", step):
                 last, digits = keys.get(name, ("", ""))
                 keys[name] = (number[1], piece.digits if number[1] != last else digits + piece.digits)
+                pointer += f"/{number[1]}/0"
             elif step.startswith("[key:"):
+                pointer += f"/{keys[name][0]}/1"
                 wholes.append(keys[name][1])
                 step = KEY.sub(partial(whole_key, wholes[-1]), step, count=1)
             name += step
+            pointer += PLAIN.sub(pointer_step, steps.removesuffix("."))
         path = piece.path
         if path is not None:
             rest = iter(wholes)
             path = KEY.sub(lambda step: whole_key(next(rest), step), path)
             expect(next(rest, None) is None, f"{piece.path} has fewer keys than {piece.name}")
-        yield piece._replace(name=name, path=path)
+        yield piece._replace(name=name, path=path, pointer=pointer)
+
+
+def pointer_step(step: re.Match[str]) -> str:
+    return f"/{step[1] or step[2] or step[3] or 'some'}"
 
 
 def whole_key(key: str, step: re.Match[str]) -> str:
@@ -204,7 +218,7 @@ def parts_of(pieces: list[Piece]) -> Iterator[Part]:
         if (first.path, first.name) in own:
             end = next((at for at in range(number, len(pieces)) if not is_within(pieces[at], first)), len(pieces))
             digits = "".join(piece.digits for piece in pieces[number:end])
-            yield Part(first.path, first.name, own.pop((first.path, first.name)), digits)
+            yield Part(first.path, first.name, own.pop((first.path, first.name)), digits, first.pointer)
 
 
 # ---- what pieces mean
@@ -310,10 +324,22 @@ def ask_together(questions: Sequence[Callable[[], None]]) -> None:
             asked.result()
 
 
-def ask(registry: str, format: str, path: str, values: list[str], wanted: list[str]) -> None:
-    told = bcs("part", "--lines", registry, format, path, given="\n".join(values)).split("\n")[:-1]
+def ask(registry: str, format: str, way: tuple[str, ...], values: list[str], wanted: list[str]) -> None:
+    """Asks for the part of each value at a way, which is PATH, or `--name` or `--pointer` with what comes behind it."""
+    *option, word = way
+    words = [f"{option[0]}={word}", registry, format] if option else [registry, format, word]
+    told = bcs("part", "--lines", *words, given="\n".join(values)).split("\n")[:-1]
     for value, digits, answer in zip(values, wanted, told, strict=True):
-        expect(answer == digits, f"{path} of {value[:300]}: {answer[:300]}, and not {digits[:300]}")
+        expect(answer == digits, f"{way} of {value[:300]}: {answer[:300]}, and not {digits[:300]}")
+
+
+def ways_to(part: Part) -> Iterator[tuple[tuple[str, ...], str]]:
+    """The ways to a part, with what is found there. No way leads to a key."""
+    found = "none" if part.path is None else part.digits
+    if part.path is not None:
+        yield (part.path,), found
+    yield ("--name", part.name), found
+    yield ("--pointer", part.pointer), found
 
 
 def ask_examples() -> int:
@@ -322,8 +348,8 @@ def ask_examples() -> int:
         registry = str(EXAMPLES / f"{registry_name}.json")
         digits = (EXAMPLES / f"{name}.hex").read_text(encoding="utf-8").strip()
         parts = list(parts_of(pieces_of(registry, format, digits)))
-        words = [part for part in parts if part.path is not None]
-        ask_together([partial(ask, registry, format, part.path, [digits], [part.digits]) for part in words])
+        ways = [way for part in parts for way in ways_to(part)]
+        ask_together([partial(ask, registry, format, way, [digits], [found]) for way, found in ways])
         ask_values(registry, format, parts)
         asked += sum(len(part.pieces) for part in parts)
     return asked
@@ -379,21 +405,33 @@ def random_values(random: Random) -> list[str]:
     return bcs("encode", "--lines", json.dumps(REGISTRY), "Any", given="\n".join(texts)).split("\n")[:-1]
 
 
+def within_element(way: tuple[str, ...]) -> tuple[int, tuple[str, ...]] | None:
+    """The number of the element of the whole list that a way leads to, and the way from there."""
+    *option, word = way
+    if not (element := re.match(r"\[(\d+)\]|/?(\d+)(?:/(?!$)|$)", word)):
+        return None
+    rest = word[element.end() :]
+    if option == ["--pointer"] and rest:
+        rest = f"/{rest}"
+    return int(element[1] or element[2]), (*option, rest or ("" if option == ["--pointer"] else "."))
+
+
 def ask_random(random: Random, values: list[str]) -> int:
-    """All values are the elements of one list, so that they are explained at once. The word behind an element's number
-    is asked of the element alone, with all other elements that have it; and some whole words are asked of the list."""
+    """All values are the elements of one list, so that they are explained at once. The way behind an element's number
+    is asked of the element alone, with all other elements that have it; and some whole ways are asked of the list."""
     registry, whole_format = json.dumps(REGISTRY), json.dumps({"SEQ": ANY})
     whole = uleb(COUNT) + "".join(values)
     parts = list(parts_of(pieces_of(registry, whole_format, whole)))
-    words = [(part, part.path) for part in parts if part.path is not None]
-    by_word = defaultdict(list)
-    for part, path in words[1:]:
-        number, word = path.split("/", 1)
-        by_word[word].append((values[int(number)], part.digits))
-    expect(any(f"key:64{b'k'.hex() * 99}62" in word for word in by_word), "no PATH has a key that is cut")
-    questions = [partial(ask, registry, "Any", word, *map(list, zip(*rows))) for word, rows in by_word.items()]
-    for part, path in [words[0], *random.sample(words, SAMPLE)]:
-        questions.append(partial(ask, registry, whole_format, path, [whole], [part.digits]))
+    ways = [way for part in parts for way in ways_to(part)]
+    by_way = defaultdict(list)
+    for way, found in ways:
+        if inner := within_element(way):
+            number, rest = inner
+            by_way[rest].append((values[number], found))
+    expect(any(f"key:64{b'k'.hex() * 99}62" in way[0] for way in by_way), "no PATH has a key that is cut")
+    questions = [partial(ask, registry, "Any", way, *map(list, zip(*rows))) for way, rows in by_way.items()]
+    for way, found in [*ways[:3], *random.sample(ways, SAMPLE)]:
+        questions.append(partial(ask, registry, whole_format, way, [whole], [found]))
     ask_together(questions)
     ask_values(registry, whole_format, parts)
     return sum(len(part.pieces) for part in parts)

@@ -22,6 +22,10 @@ KEY = 1_000_000
 # The key takes a row of some 75 bytes for each 32 of its own, or twice its digits in JSON, and each element less than
 # 300.
 EXPLAINED = 8 * KEY
+# No name of `near_jobs` has an `a` among its first characters.
+OTHERS = str.maketrans("0123456789", "bcdefghijk")
+# What a line says of an enum with COUNT variants.
+LISTED = f"; variants: v0, v1, v2, v3, v4, v5, v6, v7, ...({COUNT - 8} more)"
 
 
 class Job(NamedTuple):
@@ -99,14 +103,49 @@ def text_jobs() -> Iterator[Job]:
         [recursive, "E"],
         b'"none"',
         refused,
-        f"{at}UnknownVariant: no variant is called none\n",
+        f"{at}UnknownVariant: no variant is called none{LISTED}\n",
     )
     yield Job(
         "the last of 100,000 variants, 45 times",
         [recursive, "E"],
         text.encode(),
         refused,
-        f"at {way}: UnknownVariant: no variant is called none\n",
+        f"at {way}: UnknownVariant: no variant is called none{LISTED}\n",
+    )
+
+
+def near_jobs() -> Iterator[Job]:
+    """Among 100,000 of the longest names that are compared, the first thousand lack a third of the word, and none is
+    nearer."""
+    names, word = [f"{number:05}".translate(OTHERS) * 4 + "a" * 44 for number in range(COUNT)], "a" * 64
+    told = f"called {word}; nearest: {names[0]}"
+    yield Job(
+        "100,000 fields near an unknown member",
+        [fields(names), "S"],
+        members([*names, word]),
+        "refused: UnknownField\n",
+        f"at the whole text: UnknownField: no field is {told}\n",
+    )
+    yield Job(
+        "100,000 members near a missing field",
+        [fields([word]), "S"],
+        members(names),
+        "refused: MissingField\n",
+        f"at the whole text: MissingField: no member is called {word}; found: {names[0]}\n",
+    )
+    yield Job(
+        "100,000 variants near an unknown one",
+        [json.dumps({"E": {"ENUM": {str(number): {name: "UNIT"} for number, name in enumerate(names)}}}), "E"],
+        f'"{word}"'.encode(),
+        "refused: UnknownVariant\n",
+        f"at the whole text: UnknownVariant: no variant is {told}\n",
+    )
+    yield Job(
+        "100,000 containers near an unknown one",
+        [json.dumps(dict.fromkeys(names, "UNITSTRUCT")), f'{{"TYPENAME":"{word}"}}'],
+        b"null",
+        "refused: UnknownName\n",
+        f"at FORMAT: UnknownName: no container is {told}\n",
     )
 
 
@@ -169,6 +208,16 @@ def bytes_jobs() -> Iterator[Job]:
         listed,
         f"refused: EndOfInput at {place}\n",
         f"at [{KEY - 1}]: EndOfInput: wanted BOOL\n",
+    )
+    numbered = LISTED
+    for number in range(8):
+        numbered = numbered.replace(f" v{number}", f" {number} v{number}")
+    yield Job(
+        "a number above 100,000 variants",
+        [enum({}), "E"],
+        uleb(COUNT),
+        "refused: UnknownVariant at 0\n",
+        f"at .: UnknownVariant: wanted number of a variant; found {COUNT}{numbered}\n",
     )
     rising = uleb(COUNT) + b"".join(number.to_bytes(4) + b"\1" for number in range(LAST))
     of_numbers = '{"MAP":{"KEY":{"TUPLEARRAY":{"CONTENT":"U8","SIZE":4}},"VALUE":"BOOL"}}'
@@ -238,7 +287,7 @@ def wrong_table(program: str, form: str) -> str:
 
 
 def main(program: str) -> int:
-    told = [wrong_place(program, "encode", [], job) for job in text_jobs()]
+    told = [wrong_place(program, "encode", [], job) for job in [*text_jobs(), *near_jobs()]]
     told += [wrong_place(program, "check", [], job) for job in registry_jobs()]
     told += [wrong_place(program, "grows", [], job) for job in growth_jobs()]
     told += [wrong_place(program, "decode", ["--raw"], job) for job in bytes_jobs()]

@@ -89,6 +89,25 @@ class Program:
         self.expect(["same", "--quiet", "--lines", "{}", '"U16"', ones, others], 1, verdicts)
         passed(f"{COUNT} pairs of lines")
 
+    def check_output(self) -> None:
+        """A file is created, or emptied and written, even the input, and left alone if the status isn't 0."""
+        given, answer = self.file("given", ["-4660"]), self.room / "answer"
+        job = ["encode", "--quiet", "--raw", "{}"]
+        for older in (b"", b"an older answer"):
+            answer.write_bytes(older)
+            for format, status, found in [('"U8"', 2, older), ('"I16"', 0, b"\xcc\xed"), ('"U8"', 2, b"\xcc\xed")]:
+                self.expect([*job, format, given, "-o", str(answer)], status, [])
+                if answer.read_bytes() != found:
+                    fail(f"-o leaves {answer.read_bytes()!r} in the file, and not {found!r}")
+        answer.unlink()
+        self.expect([*job, '"U8"', given, "-o", str(answer)], 2, [])
+        if answer.exists():
+            fail("-o creates a file for a refusal")
+        self.expect([*job, '"I16"', given, "-o", given], 0, [])
+        if pathlib.Path(given).read_bytes() != b"\xcc\xed":
+            fail("-o doesn't write the file that was read")
+        passed("answers in files")
+
     def check_costs(self) -> None:
         path = str(self.path)
         tests = {
@@ -172,6 +191,7 @@ def main(folder: str) -> None:
         program.check_version()
         program.check_lines()
         program.check_pairs()
+        program.check_output()
         program.check_costs()
         program.check_many_containers()
         check_embedding()

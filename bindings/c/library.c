@@ -477,6 +477,8 @@ BOTH(compare, IN(first) IN(second),
                                                          second_length))))
 BOTH(scan, IN(bytes), bcs_c_handle_scan(use.proved, &use.ask, bytes, bytes_length))
 BOTH(part, IN(bytes) IN(path), bcs_c_handle_part(use.proved, &use.ask, bytes, bytes_length, path, path_length))
+WITH_HANDLE(part_named, NUMBER(notation) IN(name) IN(bytes),
+            bcs_c_handle_part_named(use.proved, &use.ask, notation, name, name_length, bytes, bytes_length))
 BOTH(explain, NUMBER(form) IN(bytes) OUT, explain(&use, form, bytes, bytes_length, out, out_length))
 BOTH(text_place, NUMBER(what) IN(text) OUT,
      IF_READ(text, text_place(&use, what, text, text_length, out, out_length)))

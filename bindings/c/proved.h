@@ -65,6 +65,8 @@ bcs_answer bcs_c_handle_scan(bcs_c_handle *handle, const bcs_c_handle_ask *ask, 
                              size_t bytes_length);
 bcs_answer bcs_c_handle_part(bcs_c_handle *handle, const bcs_c_handle_ask *ask, const uint8_t *bytes,
                              size_t bytes_length, const uint8_t *path, size_t path_length);
+bcs_answer bcs_c_handle_part_named(bcs_c_handle *handle, const bcs_c_handle_ask *ask, uint32_t notation,
+                                   const uint8_t *name, size_t name_length, const uint8_t *bytes, size_t bytes_length);
 bcs_answer bcs_c_handle_explain(bcs_c_handle *handle, const bcs_c_handle_ask *ask, uint32_t form, const uint8_t *bytes,
                                 size_t bytes_length, uint8_t *out, size_t out_length);
 bcs_answer bcs_c_handle_text_place(bcs_c_handle *handle, const bcs_c_handle_ask *ask, uint32_t what,

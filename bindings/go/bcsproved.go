@@ -222,8 +222,43 @@ func (r *Registry) Part(format string, data []byte, path string) (*Part, error) 
 	if err := q.refusal(answer, KindBytes, data); err != nil {
 		return nil, err
 	}
+	return partOf(answer, data), nil
+}
+
+// PartByName is Part with the name of the part, as [Registry.Explain] prints it: .payload::EntryFunction.args[0].
+func (r *Registry) PartByName(format string, data []byte, name string) (*Part, error) {
+	return r.partNamed(format, data, C.BCS_NAME, name)
+}
+
+// PartByPointer is Part with a JSON Pointer into the value's JSON document, such as /payload/EntryFunction/args/0.
+func (r *Registry) PartByPointer(format string, data []byte, pointer string) (*Part, error) {
+	return r.partNamed(format, data, C.BCS_POINTER, pointer)
+}
+
+func (r *Registry) partNamed(format string, data []byte, notation C.uint32_t, name string) (*Part, error) {
+	q, err := r.ask(format, limitsFor(data))
+	if err != nil {
+		return nil, err
+	}
+	defer q.end()
+	text := []byte(name)
+	answer := C.bcs_handle_part_named(q.handle, at(q.format), size(q.format), q.depth, q.nodes, notation, at(text), size(text),
+		at(data), size(data))
+	if answer.status == C.BCS_NO {
+		return nil, nil
+	}
+	if answer.status == C.BCS_PATH {
+		return nil, &Error{Kind: KindPath, Reason: reason(answer.fault), Place: -1}
+	}
+	if err := q.refusal(answer, KindBytes, data); err != nil {
+		return nil, err
+	}
+	return partOf(answer, data), nil
+}
+
+func partOf(answer C.bcs_answer, data []byte) *Part {
 	place, end := int(answer.place), int(answer.place)+int(answer.length)
-	return &Part{Place: place, Data: data[place:end:end]}, nil
+	return &Part{Place: place, Data: data[place:end:end]}
 }
 
 // Explain shows data piece by piece, as `bcs explain` prints it. Damaged bytes aren't an error of the call.

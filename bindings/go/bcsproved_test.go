@@ -119,6 +119,43 @@ func TestParts(t *testing.T) {
 	}
 }
 
+func TestPartsByNames(t *testing.T) {
+	registry := open(t, shapes)
+	data := unhex(t, "0702020001009999")
+	for _, row := range []struct {
+		find  func(string, []byte, string) (*Part, error)
+		name  string
+		place int
+		part  string
+	}{{registry.PartByName, ".", 0, "070202000100"}, {registry.PartByName, ".x", 0, "07"},
+		{registry.PartByName, ".~/[0]", 2, "020001"}, {registry.PartByName, ".~/[2]", -1, ""}, {registry.PartByName, ".y", -1, ""},
+		{registry.PartByPointer, "", 0, "070202000100"}, {registry.PartByPointer, "/x", 0, "07"},
+		{registry.PartByPointer, "/~0~1/1", 5, "00"}, {registry.PartByPointer, "/~0~1/2", -1, ""}, {registry.PartByPointer, "/", -1, ""}} {
+		part, err := row.find("Point", data, row.name)
+		switch {
+		case err != nil:
+			t.Errorf("%q: %v", row.name, err)
+		case row.place < 0 && part != nil:
+			t.Errorf("%q leads somewhere: %v", row.name, part)
+		case row.place >= 0 && (part == nil || part.Place != row.place || hex.EncodeToString(part.Data) != row.part):
+			t.Errorf("%q: %v", row.name, part)
+		}
+	}
+	_, badName := registry.PartByName("Point", data, "x")
+	_, badPointer := registry.PartByPointer("Point", data, "/~2")
+	_, badPart := registry.PartByName(`{"SEQ":"BOOL"}`, []byte{1, 2}, ".")
+	for _, row := range []struct {
+		err    error
+		wanted Error
+	}{{badName, Error{KindPath, "BadPath", -1, "", ""}}, {badPointer, Error{KindPath, "BadPath", -1, "", ""}},
+		{badPart, Error{KindBytes, "BadBool", 1, "[0]", "wanted BOOL"}}} {
+		var refused *Error
+		if !errors.As(row.err, &refused) || *refused != row.wanted {
+			t.Errorf("%v, and not %v", row.err, row.wanted)
+		}
+	}
+}
+
 func TestRefusals(t *testing.T) {
 	registry := open(t, shapes)
 	closed := open(t, shapes)
@@ -134,7 +171,8 @@ func TestRefusals(t *testing.T) {
 	_, badPath := registry.Part("Point", []byte{7, 0}, "x//")
 	_, tooNested := open(t, deep).Decode("C", deepData)
 	_, badRegistry := Open([]byte(`{"A":{"STRUCT":[{"x":{"TYPENAME":"B"}}]}}`))
-	number := "wanted a whole number from 0 to 255 (U8)"
+	wanted := "wanted a whole number from 0 to 255 (U8)"
+	number, text := "found 256, "+wanted, "found \"\", "+wanted
 	for _, row := range []struct {
 		err    error
 		wanted Error
@@ -142,14 +180,14 @@ func TestRefusals(t *testing.T) {
 		{encode("Point", `{"x":1,"~/":["","0"]}`), Error{KindJSON, "BadHex", -1, "/~0~1/1", "an odd number of digits"}},
 		{encode("Point", `{"x":256,"~/":[]}`), Error{KindJSON, "BadNumber", -1, "/x", number}},
 		{encode("Point", `{"x":1}`), Error{KindJSON, "MissingField", -1, "", "no member is called ~/"}},
-		{encode(`"U8"`, ""), Error{KindJSON, "NotJson", -1, "", "line 1, column 0: serde_json stops reading there"}},
-		{equal(`{"x":1,"~/":[]}`, `{"x":"","~/":[]}`), Error{KindJSON, "BadNumber", -1, "/x", number}},
-		{equal(`{"x":"","~/":[]}`, `{}`), Error{KindJSON, "BadNumber", -1, "/x", number}},
+		{encode(`"U8"`, ""), Error{KindJSON, "NotJson", -1, "", "line 1, column 0: the text stops being JSON there"}},
+		{equal(`{"x":1,"~/":[]}`, `{"x":"","~/":[]}`), Error{KindJSON, "BadNumber", -1, "/x", text}},
+		{equal(`{"x":"","~/":[]}`, `{}`), Error{KindJSON, "BadNumber", -1, "/x", text}},
 		{decode("Point", "07010205"), Error{KindBytes, "EndOfInput", 4, ".~/[0]", "wanted 2 bytes of BYTES"}},
 		{decode("Point", "070000"), Error{KindBytes, "TrailingBytes", 2, "", ""}},
 		{decode(`"BOOL"`, "02"), Error{KindBytes, "BadBool", 0, ".", "wanted BOOL"}},
 		{decode(`"BOOL"`, ""), Error{KindBytes, "EndOfInput", 0, ".", "wanted BOOL"}},
-		{badScan, Error{KindBytes, "UnknownVariant", 0, ".", "wanted number of a variant"}},
+		{badScan, Error{KindBytes, "UnknownVariant", 0, ".", "wanted number of a variant; found 1; variants: 0 Dot, 2 Circle"}},
 		{badPart, Error{KindBytes, "BadBool", 1, "[0]", "wanted BOOL"}},
 		{tooNested, Error{KindBytes, "TooNested", -1, "", ""}},
 		{badPath, Error{KindPath, "BadPath", -1, "", ""}},

@@ -79,6 +79,7 @@ enum proved {
     COMPARE,
     SCAN,
     PART,
+    PART_NAMED,
     EXPLAIN,
     TEXT_PLACE,
     STOP_PLACE,
@@ -101,7 +102,7 @@ struct input {
     size_t length;
 };
 
-/* A call. `number` is a form, a fault, or what is asked about a place. */
+/* A call. `number` is a form, a notation, a fault, or what is asked about a place. */
 struct call {
     enum proved proved;
     const bcs_c_handle_ask *ask; /* NULL: the call has no format */
@@ -189,6 +190,9 @@ static void make_proved(struct box *box, const struct call *call, const struct p
     case COMPARE: Z_bcsZ_bcs_c_handle_compare(in, answer, handle, ask, first, first_length, second, second_length); break;
     case SCAN: Z_bcsZ_bcs_c_handle_scan(in, answer, handle, ask, first, first_length); break;
     case PART: Z_bcsZ_bcs_c_handle_part(in, answer, handle, ask, first, first_length, second, second_length); break;
+    case PART_NAMED:
+        Z_bcsZ_bcs_c_handle_part_named(in, answer, handle, ask, call->number, first, first_length, second, second_length);
+        break;
     case EXPLAIN: Z_bcsZ_bcs_c_handle_explain(in, answer, handle, ask, call->number, first, first_length, out, room); break;
     case TEXT_PLACE:
         Z_bcsZ_bcs_c_handle_text_place(in, answer, handle, ask, call->number, first, first_length, out, room);
@@ -353,6 +357,7 @@ ON_HANDLE(normalise, NORMALISE, IN(text) OUT, GIVEN(first, text), TO_OUT)
 ON_HANDLE(compare, COMPARE, IN(one) IN(other), GIVEN(first, one), GIVEN(second, other))
 ON_HANDLE(scan, SCAN, IN(bytes), GIVEN(first, bytes))
 ON_HANDLE(part, PART, IN(bytes) IN(path), GIVEN(first, bytes), GIVEN(second, path))
+ON_HANDLE(part_named, PART_NAMED, NUMBER(notation) IN(name) IN(bytes), .number = notation, GIVEN(first, name), GIVEN(second, bytes))
 ON_HANDLE(explain, EXPLAIN, NUMBER(form) IN(bytes) OUT, .number = form, GIVEN(first, bytes), TO_OUT)
 ON_HANDLE(text_place, TEXT_PLACE, NUMBER(what) IN(text) OUT, .number = what, GIVEN(first, text), TO_OUT)
 ON_HANDLE(stop_place, STOP_PLACE, NUMBER(what) IN(bytes) OUT, .number = what, GIVEN(first, bytes), TO_OUT)

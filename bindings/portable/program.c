@@ -92,10 +92,12 @@ struct Z_env_instance_t {
 };
 #define HOST struct Z_env_instance_t *host
 
-/* The flags are Linux's for reading. */
+/* The flags are Linux's: to read a file, or else to write one from its start, which everybody may read. */
 static u32 Z_envZ_open(HOST, u64 path, u32 flags, u64 more) {
-    (void)host, (void)flags, (void)more;
-    return (u32)told(open(text_at(path), O_RDONLY | O_NOCTTY | O_CLOEXEC));
+    enum { WRITES_ONLY = 1 };
+    const int used = (flags & WRITES_ONLY) == 0 ? O_RDONLY : O_WRONLY | O_CREAT | O_TRUNC;
+    (void)host, (void)more;
+    return (u32)told(open(text_at(path), used | O_NOCTTY | O_CLOEXEC, 0666));
 }
 
 static u32 Z_envZ_close(HOST, u32 file) {

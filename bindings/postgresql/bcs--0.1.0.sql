@@ -58,6 +58,16 @@ CREATE FUNCTION @extschema@.bcs_part(registry pg_catalog.json, format pg_catalog
     nodes pg_catalog.int8 DEFAULT 50000, depth pg_catalog.int4 DEFAULT 100)
     RETURNS pg_catalog.bytea AS 'MODULE_PATHNAME', 'bcs_pg_part'
     LANGUAGE C IMMUTABLE STRICT PARALLEL SAFE COST 20;
+CREATE FUNCTION @extschema@.bcs_part_by_name(registry pg_catalog.json, format pg_catalog.text,
+    bytes pg_catalog.bytea, name pg_catalog.text,
+    nodes pg_catalog.int8 DEFAULT 50000, depth pg_catalog.int4 DEFAULT 100)
+    RETURNS pg_catalog.bytea AS 'MODULE_PATHNAME', 'bcs_pg_part_by_name'
+    LANGUAGE C IMMUTABLE STRICT PARALLEL SAFE COST 20;
+CREATE FUNCTION @extschema@.bcs_part_by_pointer(registry pg_catalog.json, format pg_catalog.text,
+    bytes pg_catalog.bytea, pointer pg_catalog.text,
+    nodes pg_catalog.int8 DEFAULT 50000, depth pg_catalog.int4 DEFAULT 100)
+    RETURNS pg_catalog.bytea AS 'MODULE_PATHNAME', 'bcs_pg_part_by_pointer'
+    LANGUAGE C IMMUTABLE STRICT PARALLEL SAFE COST 20;
 CREATE FUNCTION @extschema@.bcs_part_place(registry pg_catalog.json, format pg_catalog.text,
     bytes pg_catalog.bytea, path pg_catalog.text,
     nodes pg_catalog.int8 DEFAULT 50000, depth pg_catalog.int4 DEFAULT 100)
@@ -128,6 +138,16 @@ CREATE FUNCTION @extschema@.bcs_part(registry pg_catalog.text, format pg_catalog
     bytes pg_catalog.bytea, path pg_catalog.text,
     nodes pg_catalog.int8 DEFAULT 50000, depth pg_catalog.int4 DEFAULT 100)
     RETURNS pg_catalog.bytea AS 'MODULE_PATHNAME', 'bcs_pg_part'
+    LANGUAGE C STABLE SUPPORT @extschema@.bcs_support STRICT PARALLEL SAFE COST 20;
+CREATE FUNCTION @extschema@.bcs_part_by_name(registry pg_catalog.text, format pg_catalog.text,
+    bytes pg_catalog.bytea, name pg_catalog.text,
+    nodes pg_catalog.int8 DEFAULT 50000, depth pg_catalog.int4 DEFAULT 100)
+    RETURNS pg_catalog.bytea AS 'MODULE_PATHNAME', 'bcs_pg_part_by_name'
+    LANGUAGE C STABLE SUPPORT @extschema@.bcs_support STRICT PARALLEL SAFE COST 20;
+CREATE FUNCTION @extschema@.bcs_part_by_pointer(registry pg_catalog.text, format pg_catalog.text,
+    bytes pg_catalog.bytea, pointer pg_catalog.text,
+    nodes pg_catalog.int8 DEFAULT 50000, depth pg_catalog.int4 DEFAULT 100)
+    RETURNS pg_catalog.bytea AS 'MODULE_PATHNAME', 'bcs_pg_part_by_pointer'
     LANGUAGE C STABLE SUPPORT @extschema@.bcs_support STRICT PARALLEL SAFE COST 20;
 CREATE FUNCTION @extschema@.bcs_part_place(registry pg_catalog.text, format pg_catalog.text,
     bytes pg_catalog.bytea, path pg_catalog.text,

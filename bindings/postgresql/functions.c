@@ -229,15 +229,36 @@ bcs_pg_fault(PG_FUNCTION_ARGS)
 	PG_RETURN_DATUM(DirectFunctionCall1(jsonb_in, CStringGetDatum(json_of_stop(&question, answer))));
 }
 
-/* Where the part is to which a path leads: BCS_DONE, or BCS_NO. */
+/* BCS_DONE or BCS_NO; any other answer is raised. */
 static bcs_answer
-part_of(const Question *question)
+done_or_no(const Question *question, bcs_answer answer)
 {
-	bcs_answer	answer = ended(bcs_handle_part(ASK(&question->ask), PIECE(question->input), PIECE(question->second)));
-
 	if (answer.status != BCS_DONE && answer.status != BCS_NO)
 		refuse(question, answer);
 	return answer;
+}
+
+/* Where the part is to which a path leads. */
+static bcs_answer
+part_of(const Question *question)
+{
+	return done_or_no(question, ended(bcs_handle_part(ASK(&question->ask), PIECE(question->input), PIECE(question->second))));
+}
+
+/* Where the part is that has this name in a notation. */
+static bcs_answer
+part_named(const Question *question, uint32 notation)
+{
+	return done_or_no(question, ended(bcs_handle_part_named(ASK(&question->ask), notation, PIECE(question->second),
+															PIECE(question->input))));
+}
+
+static Datum
+bytes_of_part(FunctionCallInfo fcinfo, const Question *question, bcs_answer answer)
+{
+	if (answer.status == BCS_NO)
+		PG_RETURN_NULL();
+	PG_RETURN_POINTER(cstring_to_text_with_len((const char *) question->input.at + answer.place, answer.length));
 }
 
 PG_FUNCTION_INFO_V1(bcs_pg_part);
@@ -246,11 +267,28 @@ Datum
 bcs_pg_part(PG_FUNCTION_ARGS)
 {
 	Question	question = question_of_bytes(fcinfo, 2);
-	bcs_answer	answer = part_of(&question);
 
-	if (answer.status == BCS_NO)
-		PG_RETURN_NULL();
-	PG_RETURN_POINTER(cstring_to_text_with_len((const char *) question.input.at + answer.place, answer.length));
+	return bytes_of_part(fcinfo, &question, part_of(&question));
+}
+
+PG_FUNCTION_INFO_V1(bcs_pg_part_by_name);
+
+Datum
+bcs_pg_part_by_name(PG_FUNCTION_ARGS)
+{
+	Question	question = question_of_bytes(fcinfo, 2);
+
+	return bytes_of_part(fcinfo, &question, part_named(&question, BCS_NAME));
+}
+
+PG_FUNCTION_INFO_V1(bcs_pg_part_by_pointer);
+
+Datum
+bcs_pg_part_by_pointer(PG_FUNCTION_ARGS)
+{
+	Question	question = question_of_bytes(fcinfo, 2);
+
+	return bytes_of_part(fcinfo, &question, part_named(&question, BCS_POINTER));
 }
 
 PG_FUNCTION_INFO_V1(bcs_pg_part_place);

@@ -181,14 +181,23 @@ class Calls:
             raise SystemExit("driver: a part isn't at its place")
         return "-", place, len(data), b""
 
+    def part_named(self, *question: Any) -> Answer | None:
+        """SQL has the bytes of such a part, without their place."""
+        *asked, name, notation = question
+        data = self.ask(f"bcs_part_by_{notation}(?, ?, ?, ?, ?, ?)", *asked, self.text(name))
+        return None if data is None else ("-", 0, len(data), data)
+
     def explain(self, *question: Any) -> Answer:
         """The text, and for invalid bytes the fault and its place. bcs_fault must report the same, except for the
-        path."""
+        path, and with hints behind what was wanted."""
         text = self.ask("bcs_explain(?, ?, ?, ?, ?, ?)", *question)
         lines = self.ask("bcs_explain(?, ?, ?, ?, ?, ?)", *question[:4], "json").splitlines()
         last = {name: member for name, member in json.loads(lines[-1]).items() if name != "path"}
         fault = self.ask("cast(bcs_fault(?, ?, ?, ?, ?) as text)", *question[:4])
-        if (json.loads(fault) if fault else None) != (last if "refused" in last else None):
+        told = json.loads(fault) if fault else None
+        if told and told.get("want", "").startswith(f"{last.get('want')}; "):
+            told["want"] = last["want"]
+        if told != (last if "refused" in last else None):
             raise SystemExit(f"driver: bcs_fault tells {fault}, and bcs_explain {last}")
         place = last["place"] if "refused" in last else 0
         return last.get("refused", "-"), place, len(text.encode()), text.encode()
@@ -202,7 +211,8 @@ def answer(calls: Calls, line: str) -> tuple[str, ...]:
     registry, format = (bytes.fromhex(word) for word in words[:2])
     if format[:1] not in (b"{", b'"'):
         raise Unsayable
-    rest = [word if call == "explain" and place == 1 else bytes.fromhex(word) for place, word in enumerate(words[4:])]
+    plain = {"explain": 1, "part_named": 2}.get(call)
+    rest = [word if place == plain else bytes.fromhex(word) for place, word in enumerate(words[4:])]
     told = getattr(calls, call)(
         calls.database.registry(registry), calls.text(format), (int(words[3]), int(words[2])), *rest
     )

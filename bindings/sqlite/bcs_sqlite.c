@@ -112,31 +112,58 @@ static void equal(sqlite3_context *context, int count, sqlite3_value **values) {
     }
 }
 
+/* The call that finds a part: by its path, or by its name in a notation. */
+typedef bcs_answer finding(const struct question *question);
+
+static bcs_answer find_by_path(const struct question *question) {
+    return bcs_handle_part(ASK(&question->ask), PIECE(question->input), PIECE(question->second));
+}
+
+static bcs_answer find_by_name(const struct question *question) {
+    return bcs_handle_part_named(ASK(&question->ask), BCS_NAME, PIECE(question->second), PIECE(question->input));
+}
+
+static bcs_answer find_by_pointer(const struct question *question) {
+    return bcs_handle_part_named(ASK(&question->ask), BCS_POINTER, PIECE(question->second), PIECE(question->input));
+}
+
 /* Where a part is. False: there is no such part, or the refusal is reported. */
-static bool find_part(sqlite3_context *context, struct question *question, bcs_answer *answer) {
-    *answer = bcs_handle_part(ASK(&question->ask), PIECE(question->input), PIECE(question->second));
+static bool find_part(sqlite3_context *context, struct question *question, finding *find, bcs_answer *answer) {
+    *answer = find(question);
     if (answer->status != BCS_DONE && answer->status != BCS_NO) {
         refuse(context, question, *answer);
     }
     return answer->status == BCS_DONE;
 }
 
-static void part(sqlite3_context *context, int count, sqlite3_value **values) {
+static void answer_part(sqlite3_context *context, finding *find, int count, sqlite3_value **values) {
     struct question question;
     bcs_answer answer;
     if (take_question_of_bytes(context, &question, 2, count, values)) {
-        if (find_part(context, &question, &answer)) {
+        if (find_part(context, &question, find, &answer)) {
             sqlite3_result_blob64(context, question.input.at + answer.place, answer.length, SQLITE_TRANSIENT);
         }
         drop_question(&question);
     }
 }
 
+static void part(sqlite3_context *context, int count, sqlite3_value **values) {
+    answer_part(context, find_by_path, count, values);
+}
+
+static void part_by_name(sqlite3_context *context, int count, sqlite3_value **values) {
+    answer_part(context, find_by_name, count, values);
+}
+
+static void part_by_pointer(sqlite3_context *context, int count, sqlite3_value **values) {
+    answer_part(context, find_by_pointer, count, values);
+}
+
 static void part_place(sqlite3_context *context, int count, sqlite3_value **values) {
     struct question question;
     bcs_answer answer;
     if (take_question_of_bytes(context, &question, 2, count, values)) {
-        if (find_part(context, &question, &answer)) {
+        if (find_part(context, &question, find_by_path, &answer)) {
             sqlite3_result_int64(context, (sqlite3_int64)answer.place);
         }
         drop_question(&question);
@@ -218,6 +245,8 @@ static const struct {
     {"bcs_equal", 2, true, equal},         {"bcs_part", 2, true, part},     {"bcs_part_place", 2, true, part_place},
     {"bcs_scan", 1, true, scan},           {"bcs_is", 1, true, is},         {"bcs_fault", 1, true, fault},
     {"bcs_explain", 2, false, explain},
+    {"bcs_part_by_name", 2, true, part_by_name},
+    {"bcs_part_by_pointer", 2, true, part_by_pointer},
 };
 
 /* A function with no limits, with nodes, and with nodes and depth. If the schema of a hostile file could choose the nodes, a few

@@ -221,6 +221,10 @@ export interface Registry<T extends Types = AnyTypes> {
   scan(format: Format<T>, bytes: Bytes): number;
   /** The part to which a path leads, and its place; `undefined` where it leads nowhere. */
   part(format: Format<T>, bytes: Bytes, path: Text): { place: number; bytes: Uint8Array } | undefined;
+  /** The same by the part's name, as `explain` has it: `.payload::EntryFunction.args[0]`. */
+  partByName(format: Format<T>, bytes: Bytes, name: Text): { place: number; bytes: Uint8Array } | undefined;
+  /** The same by a JSON Pointer into the value's JSON, such as `/payload/EntryFunction/args/0`. */
+  partByPointer(format: Format<T>, bytes: Bytes, pointer: Text): { place: number; bytes: Uint8Array } | undefined;
   /** The pieces of the input, and behind them their end, or where they stop being a value. */
   explain(format: Format<T>, bytes: Bytes): (Piece | End | Stop)[];
   /** The same as lines, as the program `bcs explain` prints them. */

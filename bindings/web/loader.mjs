@@ -354,6 +354,16 @@ class Registry {
     return status === 'no' ? undefined : { place, bytes: input.slice(place, place + length) };
   }
 
+  /** The same by the part's name, as `explain` has it: `.payload::EntryFunction.args[0]`. */
+  partByName(format, bytes, name) {
+    return this.#partNamed(format, bytes, 'name', name);
+  }
+
+  /** The same by a JSON Pointer into the value's JSON, such as `/payload/EntryFunction/args/0`. */
+  partByPointer(format, bytes, pointer) {
+    return this.#partNamed(format, bytes, 'pointer', pointer);
+  }
+
   /** The pieces of the input, and behind them `{ end }`, or `{ refused, place, .. }` where they stop being a value. */
   explain(format, bytes) {
     const lines = this.explainText(format, bytes, 'json').split('\n');
@@ -370,6 +380,15 @@ class Registry {
   #exampleText(format, { variant = '', full = false } = {}) {
     const name = bytesOf(variant);
     return decoder.decode(this.#answer(format, ALL_NODES, (calls, ask) => calls.example(ask, full, name)).output);
+  }
+
+  #partNamed(format, bytes, notation, name) {
+    const known = this.#holder.format(format);
+    const [input, text] = [bytesOfAny(bytes), bytesOf(name)];
+    const placing = (calls, ask, { status }) => (status === 'path' ? undefined : partsOfRefusal(calls.stopRefusal(ask, input)));
+    const call = (calls, ask) => calls.partNamed(ask, notation, text, input);
+    const { status, place, length } = this.#answer(known, nodesFor(input.length), call, placing);
+    return status === 'no' ? undefined : { place, bytes: input.slice(place, place + length) };
   }
 
   #check(format) {

@@ -294,14 +294,17 @@ static unit *path_of(const char *path) {
     return whole;
 }
 
-/* A folder may be opened, as on Linux. A pipe's server learns who this is, and can't act for them. */
+/* Opens a file to read it, or else to write it from its start. A folder may be opened to read, as on Linux. A pipe's server
+   learns who this is, and can't act for them. */
 int32_t open(const char *path, int32_t flags, ...) {
-    (void)flags;
+    enum { WRITES_ONLY = 1 /* on Linux */ };
+    const bool writes = (flags & WRITES_ONLY) != 0;
     unit *const name = path_of(path);
     if (name == NULL) {
         return fails(ENOMEM);
     }
-    const handle file = CreateFileW(name, READING, SHARED_WITH_ALL, NULL, EXISTING, EVEN_FOLDERS | IDENTIFY_ONLY, NULL);
+    const handle file = CreateFileW(name, writes ? WRITING : READING, SHARED_WITH_ALL, NULL, writes ? EMPTIED : EXISTING,
+                                    (writes ? 0 : EVEN_FOLDERS) | IDENTIFY_ONLY, NULL);
     const int32_t descriptor = (int32_t)(intptr_t)file;
     const int32_t error = file == NO_FILE ? system_fails() : 0;
     free(name);

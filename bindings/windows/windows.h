@@ -19,6 +19,7 @@ enum {
     INVALID_IS_ERROR_TOO = 8,    /* MB_ERR_INVALID_CHARS */
     COLOURS_BY_SEQUENCES = 4,    /* ENABLE_VIRTUAL_TERMINAL_PROCESSING */
     SHARED_WITH_ALL = 7,         /* FILE_SHARE_READ, _WRITE and _DELETE */
+    EMPTIED = 2,                 /* CREATE_ALWAYS */
     EXISTING = 3,                /* OPEN_EXISTING */
     EVEN_FOLDERS = 0x02000000,   /* FILE_FLAG_BACKUP_SEMANTICS */
     IDENTIFY_ONLY = 0x00110000,  /* SECURITY_SQOS_PRESENT, SECURITY_IDENTIFICATION */
@@ -33,6 +34,7 @@ enum {
     MOST_BYTES = 1 << 20,        /* that one call reads or writes */
 };
 #define READING 0x80000000u      /* GENERIC_READ */
+#define WRITING 0x40000000u      /* GENERIC_WRITE */
 
 /* KERNEL32.dll */
 int CloseHandle(handle file);

@@ -555,6 +555,8 @@ function leaf(word, json) {
 const STATUSES = ['done', 'short', 'registry', 'format', 'limits', 'refused', 'memory', 'no', 'path', 'newer', 'closed'];
 const FORMS = ['ways', 'paths', 'tree', 'json'];
 const WHATS = ['where', 'wanted'];
+// (their numbers begin with 1)
+const NOTATIONS = [undefined, 'name', 'pointer'];
 const ANSWER_SIZE = 24;
 const SLICE_SIZE = 16;
 const LIMITS_SIZE = 8;
@@ -785,6 +787,11 @@ class Calls {
 
   part(ask, bytes, path) {
     return this.#on('part', ask, [bytes, path]);
+  }
+
+  /** `notation` is `name` or `pointer`. */
+  partNamed(ask, notation, name, bytes) {
+    return this.#onHandle('part_named', ask.registry, [asked(ask), NOTATIONS.indexOf(notation), name, bytes]);
   }
 
   explain(ask, form, bytes) {
@@ -1254,6 +1261,16 @@ class Registry {
     return status === 'no' ? undefined : { place, bytes: input.slice(place, place + length) };
   }
 
+  /** The same by the part's name, as `explain` has it: `.payload::EntryFunction.args[0]`. */
+  partByName(format, bytes, name) {
+    return this.#partNamed(format, bytes, 'name', name);
+  }
+
+  /** The same by a JSON Pointer into the value's JSON, such as `/payload/EntryFunction/args/0`. */
+  partByPointer(format, bytes, pointer) {
+    return this.#partNamed(format, bytes, 'pointer', pointer);
+  }
+
   /** The pieces of the input, and behind them `{ end }`, or `{ refused, place, .. }` where they stop being a value. */
   explain(format, bytes) {
     const lines = this.explainText(format, bytes, 'json').split('\n');
@@ -1270,6 +1287,15 @@ class Registry {
   #exampleText(format, { variant = '', full = false } = {}) {
     const name = bytesOf(variant);
     return decoder.decode(this.#answer(format, ALL_NODES, (calls, ask) => calls.example(ask, full, name)).output);
+  }
+
+  #partNamed(format, bytes, notation, name) {
+    const known = this.#holder.format(format);
+    const [input, text] = [bytesOfAny(bytes), bytesOf(name)];
+    const placing = (calls, ask, { status }) => (status === 'path' ? undefined : partsOfRefusal(calls.stopRefusal(ask, input)));
+    const call = (calls, ask) => calls.partNamed(ask, notation, text, input);
+    const { status, place, length } = this.#answer(known, nodesFor(input.length), call, placing);
+    return status === 'no' ? undefined : { place, bytes: input.slice(place, place + length) };
   }
 
   #check(format) {

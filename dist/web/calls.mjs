@@ -3,6 +3,8 @@
 const STATUSES = ['done', 'short', 'registry', 'format', 'limits', 'refused', 'memory', 'no', 'path', 'newer', 'closed'];
 const FORMS = ['ways', 'paths', 'tree', 'json'];
 const WHATS = ['where', 'wanted'];
+// (their numbers begin with 1)
+const NOTATIONS = [undefined, 'name', 'pointer'];
 const ANSWER_SIZE = 24;
 const SLICE_SIZE = 16;
 const LIMITS_SIZE = 8;
@@ -233,6 +235,11 @@ export class Calls {
 
   part(ask, bytes, path) {
     return this.#on('part', ask, [bytes, path]);
+  }
+
+  /** `notation` is `name` or `pointer`. */
+  partNamed(ask, notation, name, bytes) {
+    return this.#onHandle('part_named', ask.registry, [asked(ask), NOTATIONS.indexOf(notation), name, bytes]);
   }
 
   explain(ask, form, bytes) {

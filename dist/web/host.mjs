@@ -9,6 +9,8 @@ import { failed } from './program.mjs';
 const MOST_BYTES = 1 << 30;
 const LONGEST_PAUSE = 50;
 const STANDARD_OUTPUT = '/proc/self/fd/1';
+// Linux's O_WRONLY.
+const WRITES_ONLY = 1;
 
 // The numbers that the program knows errors by. They are Linux's, on every system.
 const ERRORS = {
@@ -46,7 +48,7 @@ class Host {
 
   functions() {
     return {
-      open: (path) => this.#tried(-1, () => openSync(this.#textAt(path), constants.O_RDONLY | (constants.O_NOCTTY ?? 0))),
+      open: (path, flags) => this.#tried(-1, () => openSync(this.#textAt(path), flagsOf(flags))),
       close: (file) => this.#tried(-1, () => closeSync(file) ?? 0),
       read: (file, at, room) => this.#tried(-1n, () => BigInt(read(file, this.#bytes(at, room)))),
       write: (file, at, length) => this.#tried(-1n, () => BigInt(patiently(() => writeSync(file, this.#bytes(at, length))))),
@@ -102,6 +104,12 @@ class Host {
       return this.#fails(error.code, answer);
     }
   }
+}
+
+/** How Node opens a file with these flags of Linux: to read it, or else to write it from its start. */
+function flagsOf(flags) {
+  const { O_RDONLY, O_WRONLY, O_CREAT, O_TRUNC, O_NOCTTY = 0 } = constants;
+  return O_NOCTTY | ((flags & WRITES_ONLY) === 0 ? O_RDONLY : O_WRONLY | O_CREAT | O_TRUNC);
 }
 
 /** On Linux a link says which file the standard output is. The program puts colours where that is a terminal. */

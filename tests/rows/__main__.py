@@ -17,6 +17,7 @@ from driver import Driver
 from explain_rows import rows_of_examples, rows_of_table
 from jobs import job_row
 from kinds import KINDS
+from named_parts import names_of_pieces, run_row
 from pieces import pieces_of
 from places import has_place, place_told_row
 from tests import ROOT, Tally, rows_of_tests
@@ -35,7 +36,7 @@ def floor_of(name: str) -> int:
 
 
 def ask_rows(driver: Driver, tally: Tally, without: set[str]) -> None:
-    kinds = {**KINDS, "bcs": job_row, "encode": encode_row}
+    kinds = {**KINDS, "bcs": job_row, "run": run_row, "encode": encode_row}
     for row in rows_of_tests():
         asked = kinds.get(row.kind)
         if asked is None:
@@ -60,6 +61,7 @@ def ask_places(driver: Driver, tally: Tally, without: set[str]) -> None:
 def ask_pieces(driver: Driver, tally: Tally) -> None:
     for row in [*rows_of_table(ROOT), *rows_of_examples(ROOT)]:
         tally.judge("pieces", row.name, partial(pieces_of, driver, row), row.wanted)
+        tally.judge("names", row.name, partial(names_of_pieces, driver, row), "")
 
 
 def told_by_kind(counts: Counter[str]) -> str:

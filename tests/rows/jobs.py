@@ -137,7 +137,7 @@ def part_job(answer: Answer, data: bytes, is_raw: bool) -> Printed:
         return Printed(1, b"" if is_raw else b"none\n")
     if answer.status == "path":
         return refusal(answer.fault)
-    return bytes_job(answer, lambda answer: digits(data[answer.place :][: answer.length], is_raw))
+    return bytes_job(answer, lambda answer: digits(answer.output or data[answer.place :][: answer.length], is_raw))
 
 
 def scan_job(answer: Answer, data: bytes, is_front: bool) -> Printed:

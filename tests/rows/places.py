@@ -1,9 +1,9 @@
 """Where something is refused, and what was expected there: the calls on places report what the program reports.
 
 The program's line follows the answer of a row `bcs --where`. The calls are asked about what the line is about: a
-registry, JSON or bytes. Lines on a format, on an input that isn't hexadecimal, on a path, on a name in the arguments,
-and on growth are left out, since no call reports these. So are lines whose place has a name that the program cut after
-200 characters, since the calls report a pointer's names whole.
+registry, JSON or bytes. Lines on a format, on an input that isn't hexadecimal, on a path, on a name or a variant in the
+arguments, and on growth are left out, since no call reports these. So are lines whose place has a name that the program
+cut after 200 characters, since the calls report a pointer's names whole.
 """
 
 import json
@@ -18,7 +18,7 @@ LINE = re.compile(
     r'2 "(?:.*\\n)?refused: (?P<fault>\w+)(?: at \d+)?\\n" '
     r"(?:in (?P<of>\w+), )?at (?P<place>.*?): (?P=fault): (?P<words>.*)"
 )
-UNTOLD = re.compile(r"(?:FORMAT|PATH|NAME)\b|the whole input$|byte \d+ of the input$|.*\.\.\.\(cut\)")
+UNTOLD = re.compile(r"(?:FORMAT|PATH|NAME|--variant)\b|the whole input$|byte \d+ of the input$|.*\.\.\.\(cut\)")
 GROWTH_FAULTS = ("Missing", "Changed", "VariantMissing", "VariantChanged")
 ON_REGISTRIES = ("check", "grows", "show", "example", "schema")
 ON_BYTES = ("decode", "part", "scan")

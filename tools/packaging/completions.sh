@@ -1,8 +1,8 @@
 #!/bin/sh
 # tools/packaging/completions.sh SHELL PROGRAM: prints the program's completions for bash, zsh or fish. Commands, options and
-# their arguments come from the program's own help. The containers of the registry on the line are those that `bcs show`
-# lists. The completions ask the program that is installed beside them (../../../bin/bcs from their file), and never one that
-# the line or PATH happens to name.
+# their arguments come from the program's own help. The program itself reports what depends on the registry on the line: `bcs
+# show` lists containers and the variants of an enum, and `bcs explain` the names of the parts of FILE. The completions ask the
+# program that is installed beside them (../../../bin/bcs from their file), and never one that the line or PATH happens to name.
 # shellcheck disable=SC2016 # these are programs in awk, bash, zsh and fish, in which $ has a meaning of its own
 set -eu
 unset CDPATH
@@ -19,7 +19,10 @@ read_help='
         split("REG OLD NEW FILE A B", files, " ")
         for (at in files) stands_for["" files[at]] = "file"
         stands_for["FORMAT"] = stands_for["NAME"] = "container"
-        stands_for["PATH"] = "anything"
+        stands_for["PATH"] = "path"
+        values["variant"] = "variants"; values["name"] = "parts"; values["output"] = "files"
+        values["color"] = "always auto never"; values["refusals"] = "json"
+        needs_equals["color"] = 1
     }
     # (Every awk has rules of its own for backslashes in the text that gsub puts in.)
     function in_quotes(text,    parts, count, at, quoted) {
@@ -44,27 +47,32 @@ read_help='
 bash_completions='
     $1 == "argument" { kinds[$2] = kinds[$2] " " kind }
     $1 == "option" { options[$2] = options[$2] (short == "" ? " " : " -" short " ") "--" $3 }
-    has_value && !seen[$3]++ { valued = valued (valued == "" ? "" : " | ") "--" $3 }
+    has_value && !seen[$3]++ { valued = valued (valued == "" ? "" : " | ") (short == "" ? "" : "-" short " | ") "--" $3 }
     { has_value = 0 }
     END {
         if (failed) exit 1
         print "_bcs() {"
-        print "    local word=${COMP_WORDS[COMP_CWORD]} words=() kinds=() options=\047" substr(options[""], 2) "\047 at"
+        print "    local word=${COMP_WORDS[COMP_CWORD]} words=() coding=() kinds=() option= options=\047" substr(options[""], 2) "\047 at"
         print "    COMPREPLY=()"
         print "    for ((at = 1; at < COMP_CWORD; at++)); do"
         print "        case ${COMP_WORDS[at]} in"
-        print "            " valued ") at=$((at + 1)) && if [ \"${COMP_WORDS[at]}\" = \"=\" ]; then at=$((at + 1)); fi ;;"
+        print "            " valued ") option=${COMP_WORDS[at]} && _bcs_skip_value ;;"
+        print "            --raw | --base64) coding+=(\"${COMP_WORDS[at]}\") ;;"
         print "            -*) ;;"
         print "            *) words+=(\"${COMP_WORDS[at]}\") ;;"
         print "        esac"
         print "    done"
-        print "    [ \"$at\" = \"$COMP_CWORD\" ] || return 0"
+        print "    if [ \"$at\" != \"$COMP_CWORD\" ]; then"
+        print "        _bcs_complete_value \"$option\""
+        print "        return 0"
+        print "    fi"
         print "    case ${words[0]} in"
         count = split(commands, names, " ")
         for (at = 1; at <= count; at++) if (names[at] in options)
             print "        " names[at] ") options=\047" substr(options[names[at]], 2) "\047 kinds=(" substr(kinds[names[at]], 2) ") ;;"
         print "        help) options=\047\047 words=(\"${words[@]:1}\") ;;"
         print "    esac"
+        print "    if _bcs_is_named; then kinds=(\"${kinds[@]/#path/file}\"); fi"
         print "    if [[ $word == -* ]]; then"
         print "        mapfile -t COMPREPLY < <(compgen -W \"$options\" -- \"$word\")"
         print "    elif [ ${#words[@]} = 0 ]; then"
@@ -81,23 +89,82 @@ bash_containers='
 _bcs_program=$(readlink -f -- "${BASH_SOURCE[0]}")
 _bcs_program=${_bcs_program%/share/bash-completion/completions/*}/bin/bcs
 
-# _bcs_containers REGISTRY, as it is on the line. Here xargs takes the quotes away.
-_bcs_containers() {
+# _bcs_file WORD: the word as it is on the line, without its quotes, which xargs takes away.
+_bcs_file() {
+    xargs printf %s 2>/dev/null <<<"${1/#\~\//$HOME/}"
+}
+
+# _bcs_show REGISTRY: prints what the registry has, if it is one.
+_bcs_show() {
     local registry lines
-    registry=$(xargs printf %s 2>/dev/null <<<"${1/#\~\//$HOME/}")
+    registry=$(_bcs_file "$1")
     [[ $registry == "{"* || -f $registry ]] || return 0
     lines=$("$_bcs_program" show --quiet -- "$registry" 2>/dev/null </dev/null) || return 0
-    sed -n "s/^\([A-Za-z_][A-Za-z_0-9]*\): .*/\1/p" <<<"$lines"
+    printf "%s\n" "$lines"
+}
+
+_bcs_containers() {
+    _bcs_show "$1" | sed -n "s/^\([A-Za-z_][A-Za-z_0-9]*\): .*/\1/p"
+}
+
+# _bcs_variants REGISTRY FORMAT
+_bcs_variants() {
+    [[ $2 =~ ^[A-Za-z_][A-Za-z_0-9]*$ ]] || return 0
+    _bcs_show "$1" | sed -n "/^$2: ENUM/,/^[^ ]/s/^  [0-9]* \"\{0,1\}\([A-Za-z_][A-Za-z_0-9]*\).*/\1/p"
+}
+
+# _bcs_parts REGISTRY FORMAT FILE [--raw] [--base64]
+_bcs_parts() {
+    local registry file lines
+    registry=$(_bcs_file "$1") file=$(_bcs_file "$3")
+    [[ ($registry == "{"* || -f $registry) && -f $file ]] || return 0
+    lines=$("$_bcs_program" explain --quiet "${@:4}" -- "$registry" "$2" "$file" 2>/dev/null </dev/null) || return 0
+    printf "%s\n" "$lines" | sed -n "s/^.* \([].:?[][]A-Za-z_0-9.:?[]*\)$/\1/p"
+}
+
+# Whether an option names the part, so that FILE is in the place of PATH.
+_bcs_is_named() {
+    [[ " ${COMP_WORDS[*]} " == *" --"@(name|pointer)[\ =]* ]]
+}
+
+# Moves `at` to the end of an option'"'"'s value. Bash splits words at = and :, so a value can be several words.
+_bcs_skip_value() {
+    if [ "$option" = --color ] && [ "${COMP_WORDS[at + 1]}" != "=" ]; then return 0; fi
+    at=$((at + 1))
+    if [ "${COMP_WORDS[at]}" = "=" ]; then at=$((at + 1)); fi
+    while [ "$at" -lt "$COMP_CWORD" ] && [[ ${COMP_WORDS[at]} == *: || ${COMP_WORDS[at + 1]} == :* ]]; do at=$((at + 1)); done
+}
+
+# _bcs_complete_value OPTION: offers values that begin like the one before the cursor, each from its last colon on.
+_bcs_complete_value() {
+    local first=$COMP_CWORD typed="" offered="" at
+    while [ "$first" -gt 0 ] && [ "${COMP_WORDS[first - 1]}" != "$1" ] && [ "${COMP_WORDS[first - 1]}" != "=" ]; do first=$((first - 1)); done
+    for ((at = first; at <= COMP_CWORD; at++)); do typed+=${COMP_WORDS[at]}; done
+    typed=${typed#=}
+    case $1 in
+        --variant) offered=$(_bcs_variants "${words[1]}" "${words[2]}") ;;
+        --name) offered=$(_bcs_parts "${words[1]}" "${words[2]}" "${words[3]}" "${coding[@]}" | sort -u) ;;
+        --color) offered="always auto never" ;;
+        --refusals) offered=json ;;
+        -o | --output) compopt -o default && return ;;
+    esac
+    mapfile -t COMPREPLY < <(compgen -W "$offered" -- "$typed")
+    COMPREPLY=("${COMPREPLY[@]#"${typed%"${typed##*:}"}"}")
 }
 '
 
 zsh_completions='
     function spec(text) { gsub(/\[/, "\\[", text); gsub(/\]/, "\\]", text); gsub(/:/, "\\:", text); return text }
-    $1 == "argument" { action = kind == "file" ? "_files" : kind == "container" ? "_bcs_containers" : " "
+    $1 == "argument" { action = kind == "file" ? "_files" : kind == "container" ? "_bcs_containers" : kind == "path" ? "_bcs_path" : " "
         add($2, place ":" word ":" action) }
     function add(command, text) { specs[command] = specs[command] " " in_quotes(text) }
-    $1 == "option" && short != "" { add($2, "-" short "[" spec($4) "]") }
-    $1 == "option" { add($2, "--" $3 (has_value ? "=" : "") "[" spec($4) "]" (has_value ? ":value: " : "")) }
+    $1 == "option" && short != "" { add($2, "-" short (has_value ? "+" : "") "[" spec($4) "]" (has_value ? ":value:" value($3) : "")) }
+    function value(name) {
+        return values[name] == "" ? " " : values[name] == "files" ? "_files" : values[name] ~ /^(variants|parts)$/ ? "_bcs_" values[name] : "(" values[name] ")"
+    }
+    $1 == "option" {
+        add($2, "--" $3 (has_value ? "=" : "") ($3 in needs_equals ? "-" : "") "[" spec($4) "]" (has_value ? ($3 in needs_equals ? "::value:" : ":value:") value($3) : ""))
+    }
     END {
         if (failed) exit 1
         count = split(commands, names, " ")
@@ -125,12 +192,46 @@ zsh_containers='
 typeset -g _bcs_program=${${(%):-%x}:A}
 _bcs_program=${_bcs_program%/share/zsh/site-functions/*}/bin/bcs
 
+# _bcs_file WORD: the word without its quotes, in REPLY.
+_bcs_file() { REPLY=${(Q)1/#\~\//$HOME/} }
+
+# Prints what the registry on the line has, if it is one.
+_bcs_show() {
+    local lines REPLY
+    _bcs_file "$line[1]"
+    [[ $REPLY == "{"* || -f $REPLY ]] || return 1
+    lines=$($_bcs_program show --quiet -- $REPLY 2>/dev/null </dev/null) || return 1
+    print -r -- $lines
+}
+
 _bcs_containers() {
-    local registry=${(Q)line[1]/#\~\//$HOME/} lines
     local -a names
-    [[ $registry == "{"* || -f $registry ]] || return 1
-    lines=$($_bcs_program show --quiet -- $registry 2>/dev/null </dev/null) || return 1
-    names=(${(f)"$(sed -n "s/^\([A-Za-z_][A-Za-z_0-9]*\): .*/\1/p" <<<$lines)"})
+    names=(${(f)"$(_bcs_show | sed -n "s/^\([A-Za-z_][A-Za-z_0-9]*\): .*/\1/p")"})
+    compadd -a names
+}
+
+# With an option that names the part, FILE is in the place of PATH.
+_bcs_path() {
+    (( ${words[(I)--(name|pointer)(|=*)]} )) && _files
+}
+
+_bcs_variants() {
+    local -a names
+    [[ $line[2] =~ "^[A-Za-z_][A-Za-z_0-9]*\$" ]] || return 1
+    names=(${(f)"$(_bcs_show | sed -n "/^$line[2]: ENUM/,/^[^ ]/s/^  [0-9]* \"\{0,1\}\([A-Za-z_][A-Za-z_0-9]*\).*/\1/p")"})
+    compadd -a names
+}
+
+_bcs_parts() {
+    local registry lines REPLY
+    local -a names coding
+    _bcs_file "$line[1]" && registry=$REPLY
+    _bcs_file "$line[3]"
+    [[ ($registry == "{"* || -f $registry) && -f $REPLY ]] || return 1
+    (( ${words[(I)--raw]} )) && coding+=(--raw)
+    (( ${words[(I)--base64]} )) && coding+=(--base64)
+    lines=$($_bcs_program explain --quiet $coding -- $registry $line[2] $REPLY 2>/dev/null </dev/null) || return 1
+    names=(${(fu)"$(print -r -- $lines | sed -n "s/^.* \([].:?[][]A-Za-z_0-9.:?[]*\)\$/\1/p")"})
     compadd -a names
 }
 '
@@ -140,10 +241,17 @@ fish_completions='
     function rule(condition, rest) { lines = lines "complete -c bcs -n " in_quotes(condition) " " rest "\n" }
     $1 == "command" { rule("__bcs_at 0", "-a " $3 " -d " in_quotes($4)); rule("__bcs_at 1 help", "-a " $3 " -d " in_quotes($4)) }
     $1 == "argument" && kind == "file" { rule("__bcs_at " place " " $2, "-F") }
+    $1 == "argument" && kind == "path" { rule("__bcs_is_named; and __bcs_at " place " " $2, "-F") }
     $1 == "argument" && kind == "container" { rule("__bcs_at " place " " $2, "-a \"(__bcs_containers)\"") }
+    function value(name) {
+        if (values[name] == "") return " -x"
+        if (values[name] == "files") return " -r -F"
+        if (name in needs_equals) return " -f -a " in_quotes(values[name])
+        return " -x -a " in_quotes(values[name] ~ /^(variants|parts)$/ ? "(__bcs_" values[name] ")" : values[name])
+    }
     $1 == "option" { rule($2 == "" ? "__bcs_at 0" : "__bcs_in " $2,
-        (short == "" ? "" : "-s " short " ") "-l " $3 (has_value ? " -x" : "") " -d " in_quotes($4)) }
-    has_value && !seen[$3]++ { valued = valued " --" $3 }
+        (short == "" ? "" : "-s " short " ") "-l " $3 (has_value ? value($3) : "") " -d " in_quotes($4)) }
+    has_value && !($3 in needs_equals) && !seen[$3]++ { valued = valued (short == "" ? "" : " -" short) " --" $3 }
     { has_value = 0 }
     END { if (failed) exit 1; print "set -g __bcs_valued" valued; printf "%s", lines }'
 fish_containers='
@@ -174,11 +282,36 @@ function __bcs_in
     test (count $words) -gt 0; and test $words[1] = $argv[1]
 end
 
-function __bcs_containers
+# Whether an option names the part, so that FILE is in the place of PATH.
+function __bcs_is_named
+    string match -qr -- "^--(?:name|pointer)(?:=|\$)" (commandline -opc)
+end
+
+# Prints what the registry on the line has, if it is one.
+function __bcs_show
     set -l registry (string replace -r "^~/" "$HOME/" -- (__bcs_words)[2])
     string match -q "{*" -- "$registry"; or test -f "$registry"; or return
     set -l lines ($__bcs_program show --quiet -- "$registry" 2>/dev/null </dev/null); or return
-    string replace -rf "^([A-Za-z_][A-Za-z_0-9]*): .*" "\$1" -- $lines
+    printf "%s\n" $lines
+end
+
+function __bcs_containers
+    string replace -rf "^([A-Za-z_][A-Za-z_0-9]*): .*" "\$1" -- (__bcs_show)
+end
+
+function __bcs_variants
+    set -l name (__bcs_words)[3]
+    string match -qr "^[A-Za-z_][A-Za-z_0-9]*\$" -- "$name"; or return
+    __bcs_show | sed -n "/^$name: ENUM/,/^[^ ]/s/^  [0-9]* \"\{0,1\}\([A-Za-z_][A-Za-z_0-9]*\).*/\1/p"
+end
+
+function __bcs_parts
+    set -l words (string replace -r "^~/" "$HOME/" -- (__bcs_words))
+    string match -q "{*" -- "$words[2]"; or test -f "$words[2]"; or return
+    test -f "$words[4]"; or return
+    set -l coding (string match -r -- "^--(?:raw|base64)\$" (commandline -opc))
+    set -l lines ($__bcs_program explain --quiet $coding -- "$words[2]" "$words[3]" "$words[4]" 2>/dev/null </dev/null); or return
+    printf "%s\n" $lines | string replace -rf "^.* ([].:?[][]A-Za-z_0-9.:?[]*)\$" "\$1" | sort -u
 end
 '
 

@@ -3,6 +3,7 @@
 # made. Each line consists of fields, separated by tabs. The second one is the command, or empty for the program itself:
 #
 #     about COMMAND TEXT             usage COMMAND TEXT       example COMMAND TEXT      status COMMAND TEXT
+#     input COMMAND TEXT
 #     command NOTHING NAME TEXT      argument COMMAND <REG> TEXT      option COMMAND --depth <N> TEXT
 set -eu
 program=$1
@@ -13,7 +14,8 @@ table() {
     awk -v command="$1" '
         BEGIN {
             kinds["Usage"] = "usage"; kinds["Commands"] = "command"; kinds["Arguments"] = "argument"
-            kinds["Options"] = "option"; kinds["Example"] = "example"; kinds["Status"] = "status"
+            kinds["Options"] = "option"; kinds["Input"] = "input"; kinds["Example"] = "example"
+            kinds["Status"] = "status"
             kind = "about"
         }
         function put(text) { if (text != "") print kind "\t" command "\t" text }

@@ -26,6 +26,7 @@ printf '%s\n' "$help" | awk -F'\t' -v version="${version%%,*}" '
     $1 == "command" { place("DESCRIPTION"); entry($3, $4) }
     $1 == "argument" { entry($3, $4) }
     $1 == "option" { place("OPTIONS"); entry($3, $4) }
+    $1 == "input" { place("INPUT"); print roff($3) }
     $1 == "example" { place("EXAMPLES"); print ".EX\n" roff($3) "\n.EE" }
     $1 == "status" && match($3, /^[0-9]  /) { place("EXIT STATUS"); entry(substr($3, 1, 1), substr($3, 4)); next }
     $1 == "status" { place("EXIT STATUS"); print "Exit status: " roff($3) }'

@@ -115,6 +115,12 @@ enum bcs_what {
     BCS_WANTED = 1 /* what was expected there, or what is wrong with it; this text is for people and may change */
 };
 
+/* How bcs_handle_part_named takes the name of a part. */
+enum bcs_notation {
+    BCS_NAME = 1,   /* as bcs_explain prints it: .payload::EntryFunction.args[1] */
+    BCS_POINTER = 2 /* as a JSON Pointer (RFC 6901) into the value's JSON document: /payload/EntryFunction/args/1 */
+};
+
 /* What bcs_handle_example puts into options, lists and maps. */
 enum bcs_example {
     BCS_LEAST = 0, /* nothing: options are null, lists and maps are empty */
@@ -230,6 +236,13 @@ bcs_answer bcs_handle_text_place(bcs_handle *handle, const uint8_t *format, size
 bcs_answer bcs_handle_stop_place(bcs_handle *handle, const uint8_t *format, size_t format_length, uint32_t depth,
                                  uint32_t nodes, uint32_t what, const uint8_t *bytes, size_t bytes_length, uint8_t *out,
                                  size_t out_length);
+
+/* What bcs_handle_part answers, for a part that is named by fields and variants in place of numbers: `notation` is one of enum
+   bcs_notation. BCS_NO: the name leads nowhere in this value. BCS_PATH: another notation, or a text that is no name in any value.
+   A name as bcs_explain prints it may have escapes or not, and "." is the whole value; so is an empty JSON Pointer. */
+bcs_answer bcs_handle_part_named(bcs_handle *handle, const uint8_t *format, size_t format_length, uint32_t depth,
+                                 uint32_t nodes, uint32_t notation, const uint8_t *name, size_t name_length,
+                                 const uint8_t *bytes, size_t bytes_length);
 
 /* ---- For people: documents, and refusals with all that is known of them. The words of these texts may change. */
 

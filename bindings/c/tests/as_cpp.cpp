@@ -42,6 +42,7 @@ int main() {
     wrong += bcs_handle_compare(ASKED_OF_HANDLE, BYTES(text), BYTES(text)).status;
     wrong += bcs_handle_scan(ASKED_OF_HANDLE, BYTES(bytes)).status;
     wrong += bcs_handle_part(ASKED_OF_HANDLE, BYTES(bytes), BYTES(path)).status;
+    wrong += bcs_handle_part_named(ASKED_OF_HANDLE, BCS_NAME, BYTES(path), BYTES(bytes)).status;
     wrong += bcs_handle_explain(ASKED_OF_HANDLE, BCS_TREE, BYTES(bytes), out, sizeof out).status;
     wrong += bcs_handle_text_place(ASKED_OF_HANDLE, BCS_WHERE, BYTES(text), out, sizeof out).status != BCS_NO;
     wrong += bcs_handle_stop_place(ASKED_OF_HANDLE, BCS_WHERE, BYTES(bytes), out, sizeof out).status != BCS_NO;

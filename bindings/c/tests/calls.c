@@ -128,6 +128,30 @@ static void scans_and_parts(void) {
     is_answer((struct job){ON_VALUE(PART, MAP, "\x02\x01" "b\x01\x02" "aa\x02"), .second = OF("key:0163")}, BCS_NO, 0, 0);
 }
 
+#define NAMED_PART(its_format, its_input, its_notation, its_name) \
+    (struct job){ON_VALUE(PART_NAMED, its_format, its_input), .number = its_notation, .second = OF(its_name)}
+#define PAID "\x03" "bob" "\x07\0\0\0\0\0\0\0!"
+#define OF_MAP "\x02\x01" "b\x01\x02" "aa\x02"
+
+static void parts_by_names(void) {
+    is_answer(NAMED_PART(PAYMENT, PAID, BCS_NAME, "."), BCS_DONE, 0, 12);
+    is_answer(NAMED_PART(PAYMENT, PAID, BCS_NAME, ".to"), BCS_DONE, 0, 4);
+    is_answer(NAMED_PART(PAYMENT, PAID, BCS_NAME, ".amount"), BCS_DONE, 4, 8);
+    is_answer(NAMED_PART(PAYMENT, PAID, BCS_NAME, ".amoun"), BCS_NO, 0, 0);
+    is_answer(NAMED_PART(PAYMENT, PAID, BCS_NAME, "[0]"), BCS_NO, 0, 0);
+    is_answer(NAMED_PART(MAP, OF_MAP, BCS_NAME, "[key:026161]"), BCS_DONE, 7, 1);
+    is_answer(NAMED_PART(MAP, OF_MAP, BCS_NAME, "[key:0163]"), BCS_NO, 0, 0);
+    is_answer(NAMED_PART("{\"OPTION\":\"U8\"}", "\x01\x07", BCS_NAME, "?"), BCS_DONE, 1, 1);
+
+    is_answer(NAMED_PART(PAYMENT, PAID, BCS_POINTER, ""), BCS_DONE, 0, 12);
+    is_answer(NAMED_PART(PAYMENT, PAID, BCS_POINTER, "/amount"), BCS_DONE, 4, 8);
+    is_answer(NAMED_PART(PAYMENT, PAID, BCS_POINTER, "/"), BCS_NO, 0, 0);
+    is_answer(NAMED_PART(MAP, OF_MAP, BCS_POINTER, "/1/1"), BCS_DONE, 7, 1);
+    is_answer(NAMED_PART(MAP, OF_MAP, BCS_POINTER, "/1/0"), BCS_NO, 0, 0);
+    is_answer(NAMED_PART(MAP, OF_MAP, BCS_POINTER, "/1"), BCS_NO, 0, 0);
+    is_answer(NAMED_PART("{\"OPTION\":\"U8\"}", "\x01\x07", BCS_POINTER, "/some"), BCS_DONE, 1, 1);
+}
+
 /* The names of docs/FORMAT.md, by number. */
 static const struct {
     uint32_t fault;
@@ -202,6 +226,7 @@ int main(void) {
     checks_and_growth();
     comparisons();
     scans_and_parts();
+    parts_by_names();
     names_of_faults();
     large_values();
     return 0;

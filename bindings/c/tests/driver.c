@@ -8,11 +8,12 @@
 /* The words of calls, in the order of enum call. */
 static const char *const call_words[] = {"check",      "grows",      "to_bcs",        "from_bcs", "normalise",
                                          "compare",    "scan",       "part",          "explain",  "fault_name",
-                                         "text_place", "stop_place", "registry_place"};
+                                         "text_place", "stop_place", "registry_place", "part_named"};
 static const char *const status_words[] = {"done",    "short",  "registry", "format", "limits",
                                            "refused", "memory", "no",       "path",   "newer",  "closed"};
 static const char *const form_words[] = {"ways", "paths", "tree", "json"};
 static const char *const what_words[] = {"where", "wanted"};
+static const char *const notation_words[] = {"", "name", "pointer"};
 #define COUNT(words) (sizeof(words) / sizeof *(words))
 
 static void fail(const char *what, const char *word) {
@@ -73,7 +74,7 @@ static size_t split(char *line, char *words[WORDS]) {
 
 static struct job job_of(char *words[WORDS], size_t count) {
     struct job job = {.call = (enum call)number_of(words[0], call_words, COUNT(call_words))};
-    const size_t counts[] = {5, 3, 6, 6, 6, 7, 6, 7, 7, 2, 7, 7, 3};
+    const size_t counts[] = {5, 3, 6, 6, 6, 7, 6, 7, 7, 2, 7, 7, 3, 8};
     if (count != counts[job.call]) {
         fail("not the number of words", words[0]);
     }
@@ -95,6 +96,9 @@ static struct job job_of(char *words[WORDS], size_t count) {
             job.number = (uint32_t)number_of(words[6], form_words, COUNT(form_words));
         } else if (job.call == TEXT_PLACE || job.call == STOP_PLACE) {
             job.number = (uint32_t)number_of(words[6], what_words, COUNT(what_words));
+        } else if (job.call == PART_NAMED) {
+            job.second = bytes_of(words[6]);
+            job.number = (uint32_t)number_of(words[7], notation_words, COUNT(notation_words));
         } else {
             job.second = count > 6 ? bytes_of(words[6]) : job.format;
         }

@@ -1,5 +1,5 @@
 """Compares proved.h with the proved crate's sources: the names of the calls and their parameters, and the fields of the
-structs; and the numbers of statuses, faults and forms in include/bcs.h, and the fields of an answer.
+structs; and the numbers of statuses, faults, forms and notations in include/bcs.h, and the fields of an answer.
 
 layout.c checks the offsets of the fields. The compiler checks that library.c defines calls as bcs.h declares them, and
 test.sh that it defines all of them.
@@ -41,6 +41,7 @@ OTHER_FAULTS = {
     "ExampleTooNested": "BCS_EXAMPLE_TOO_NESTED",
 }
 FORMS = {"Form": "BCS_"}
+NOTATION = re.compile(r"(\d+) if \w+\(text\) => Some\(PartName::(\w+)")
 
 
 class Interface(NamedTuple):
@@ -51,6 +52,7 @@ class Interface(NamedTuple):
     statuses: dict[str, int]
     faults: dict[str, int]
     forms: dict[str, int]
+    notations: dict[str, int]
 
 
 def declared(name: str, written: str) -> list[str]:
@@ -130,6 +132,7 @@ def of_crate(folder: pathlib.Path) -> Interface:
         statuses=numbers(code, {"Status": FRONTS["Status"]}),
         faults=numbers(code, {enum: front for enum, front in FRONTS.items() if enum != "Status"}) | others,
         forms=forms_of(code),
+        notations={"BCS_" + in_capitals(name): int(number) for number, name in NOTATION.findall(code)},
     )
 
 
@@ -163,6 +166,7 @@ def of_headers(proved: pathlib.Path, public: pathlib.Path) -> Interface:
         statuses=enum_of(header, "bcs_status"),
         faults=faults,
         forms=enum_of(header, "bcs_form"),
+        notations=enum_of(header, "bcs_notation"),
     )
 
 

@@ -6,13 +6,13 @@
 
 enum call {
     CHECKS, GROWS, TO_BCS, FROM_BCS, NORMALISE, COMPARE, SCAN, PART, EXPLAIN, FAULT_NAME, TEXT_PLACE, STOP_PLACE, REGISTRY_PLACE,
-    PATH_PLACE, GROWTH_LIST, GROWTH_PLACE,
-    /* these and those behind them are there on a handle only */
+    PART_NAMED, PATH_PLACE, GROWTH_LIST, GROWTH_PLACE,
+    /* PART_NAMED, and these and those behind them, are there on a handle only */
     TEXT_REFUSAL, STOP_REFUSAL, SCHEMA, EXAMPLE, SHOW, FORMAT_PLACE
 };
 
-/* What a call is handed. `second` is a second text, a path, or the newer registry, and `number` a form, a fault, or
-   what is told of a place. */
+/* What a call is handed. `second` is a second text, a path, the name of a part, or the newer registry, and `number` a form, a
+   notation, a fault, or what is told of a place. */
 struct job {
     enum call call;
     struct slice registry, format, input, second;
@@ -22,7 +22,7 @@ struct job {
 /* Whether the call has an output. */
 static inline bool has_output(const struct job *job) {
     return job->call == TO_BCS || job->call == FROM_BCS || job->call == NORMALISE || job->call == EXPLAIN ||
-           job->call == FAULT_NAME || job->call >= TEXT_PLACE;
+           job->call == FAULT_NAME || (job->call >= TEXT_PLACE && job->call != PART_NAMED);
 }
 
 /* How a call has its registry. */
@@ -78,6 +78,7 @@ static inline bcs_answer make(const struct job *job, uint8_t *out, size_t room) 
         return bcs_growth_list(input.at, input.length, second.at, second.length, out, room);
     case GROWTH_PLACE:
         return bcs_growth_place(input.at, input.length, second.at, second.length, out, room);
+    case PART_NAMED:
     case TEXT_REFUSAL:
     case STOP_REFUSAL:
     case SCHEMA:
@@ -91,7 +92,8 @@ static inline bcs_answer make(const struct job *job, uint8_t *out, size_t room) 
 
 /* Whether the call is one of those that there are on a handle too. */
 static inline bool is_on_registry(const struct job *job) {
-    return job->call != GROWS && job->call != FAULT_NAME && (job->call < REGISTRY_PLACE || job->call >= TEXT_REFUSAL);
+    return job->call != GROWS && job->call != FAULT_NAME &&
+           (job->call < REGISTRY_PLACE || job->call == PART_NAMED || job->call >= TEXT_REFUSAL);
 }
 
 /* The same on the registry that is open. */
@@ -112,6 +114,8 @@ static inline bcs_answer make_on(bcs_handle *handle, const struct job *job, uint
         return bcs_handle_scan(WITH_HANDLE(handle, job), input.at, input.length);
     case PART:
         return bcs_handle_part(WITH_HANDLE(handle, job), input.at, input.length, second.at, second.length);
+    case PART_NAMED:
+        return bcs_handle_part_named(WITH_HANDLE(handle, job), job->number, second.at, second.length, input.at, input.length);
     case EXPLAIN:
         return bcs_handle_explain(WITH_HANDLE(handle, job), job->number, input.at, input.length, out, room);
     case TEXT_PLACE:

@@ -19,14 +19,15 @@ struct refused {
 
 static const struct refused texts[] = {
     ROW(POINT, "{\"x\":1,\"~/\":[\"\",\"0\"]}", "/~0~1/1", "an odd number of digits"),
-    ROW(POINT, "{\"x\":256,\"~/\":[]}", "/x", "wanted a whole number from 0 to 255 (U8)"),
+    ROW(POINT, "{\"x\":256,\"~/\":[]}", "/x", "found 256, wanted a whole number from 0 to 255 (U8)"),
     ROW(POINT, "{\"x\":1}", "", "no member is called ~/"),
     ROW(SHAPE, "{\"Circle\":true}", "/Circle", "wanted a whole number from 0 to 18446744073709551615 (U64)"),
-    ROW(SHAPE, "\"Disc\"", "", "no variant is called Disc"),
+    ROW(SHAPE, "\"Disc\"", "", "no variant is called Disc; variants: Dot, Circle"),
+    ROW(SHAPE, "\"Cirlce\"", "", "no variant is called Cirlce; nearest: Circle"),
     ROW("\"F64\"", "1.5", "", "no value of F64 is supported"),
     ROW("{\"SEQ\":\"BOOL\"}", "[true,true,true,true,true,true,true,true,true,true,1]", "/10", "wanted BOOL, true or false"),
     ROW("{\"MAP\":{\"KEY\":\"U8\",\"VALUE\":\"U8\"}}", "[[1,2],[1,3]]", "", "two keys of a map are equal"),
-    ROW("\"U8\"", "x", "", "line 1, column 1: serde_json stops reading there"),
+    ROW("\"U8\"", "x", "", "line 1, column 1: the text stops being JSON there"),
     ROW("\"U8\"", "[" HUNDRED("[") HUNDRED("]") "]", "", "arrays and objects nest more than 100 deep"),
     {OF("{\"SEQ\":\"BOOL\"}"), OF("[true]"), "", "the value has more nodes than --nodes allows, 1", BCS_DEPTH, 1},
     {OF(SHAPE), OF("\"Dot\""), "", "more containers are open than allowed", 0, BCS_NODES},
@@ -36,6 +37,7 @@ static const struct refused stops[] = {
     ROW(POINT, "\x07\x01\x02\x05", ".~/[0]", "wanted 2 bytes of BYTES"),
     ROW("{\"SEQ\":\"BOOL\"}", "\x02\x01\x02", "[1]", "wanted BOOL"),
     ROW("\"U8\"", "\x07\x08", ".", "wanted the end"),
+    ROW(SHAPE, "\x01", ".", "wanted number of a variant; found 1; variants: 0 Dot, 2 Circle"),
 };
 
 static const struct refused registries[] = {

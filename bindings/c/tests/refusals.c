@@ -79,9 +79,9 @@ static const struct refused_value stops[] = {
     {BCS_STOP_UNSUPPORTED, OF("{\"TUPLE\":[\"U8\",\"F64\"]}"), OF("\x01\x01"), 1, BCS_DEPTH, BCS_NODES},
 };
 
-static const enum call calls_that_ask[] = {CHECKS, TO_BCS, FROM_BCS, NORMALISE, COMPARE, SCAN, PART, EXPLAIN};
+static const enum call calls_that_ask[] = {CHECKS, TO_BCS, FROM_BCS, NORMALISE, COMPARE, SCAN, PART, PART_NAMED, EXPLAIN};
 static const enum call calls_on_texts[] = {TO_BCS, NORMALISE, COMPARE};
-static const enum call calls_on_bytes[] = {FROM_BCS, SCAN, PART};
+static const enum call calls_on_bytes[] = {FROM_BCS, SCAN, PART, PART_NAMED};
 #define COUNT(table) (sizeof(table) / sizeof(table)[0])
 
 /* The job has this status, fault and place, tells no length, and leaves its output as it was. */
@@ -101,7 +101,8 @@ static void is_refused(struct job job, enum bcs_status status, uint32_t fault, u
 
 static struct job job_of(enum call call, struct slice registry, struct slice format, struct slice input) {
     struct job job = {.call = call, .registry = registry, .format = format, .input = input, STANDARD};
-    job.second = call == PART ? whole : input;
+    job.second = call == PART || call == PART_NAMED ? whole : input;
+    job.number = call == PART_NAMED ? BCS_NAME : 0;
     return job;
 }
 
@@ -198,6 +199,26 @@ static void refused_paths(void) {
     }
 }
 
+static void refused_names(void) {
+    static const struct {
+        uint32_t notation;
+        struct slice name;
+    } bad_names[] = {
+        {BCS_NAME, OF("")},       {BCS_NAME, OF("a")},      {BCS_NAME, OF("/")},         {BCS_NAME, OF(".\xff")},
+        {BCS_POINTER, OF("a")},   {BCS_POINTER, OF(".")},   {BCS_POINTER, OF("/~")},     {BCS_POINTER, OF("/~2")},
+        {BCS_POINTER, OF("/a~")}, {BCS_POINTER, OF("/~~0")}, {BCS_POINTER, OF("/\xff")}, {0, OF(".")},
+        {3, OF(".")},             {UINT32_MAX, OF("")},
+    };
+    for (size_t row = 0; row < COUNT(bad_names); row++) {
+        struct job job = job_of(PART_NAMED, good_registry, number, (struct slice)OF("\x07"));
+        job.number = bad_names[row].notation;
+        job.second = bad_names[row].name;
+        is_refused(job, BCS_PATH, BCS_PATH_BAD_PATH, 0);
+        job.input = no_bytes; /* which are no value */
+        is_refused(job, BCS_PATH, BCS_PATH_BAD_PATH, 0);
+    }
+}
+
 static void refused_growth(void) {
     static const struct {
         uint32_t fault;
@@ -250,6 +271,7 @@ int main(void) {
     refused_bytes();
     explained_damage();
     refused_paths();
+    refused_names();
     refused_growth();
     refused_in_order();
     return 0;

@@ -119,8 +119,9 @@ static void drop_chain(struct chain *chain) {
 
 #define ROOM (4 * MIB)
 static const enum call calls[] = {CHECKS,  TO_BCS,  FROM_BCS, NORMALISE,  COMPARE,    SCAN,       PART,
-                                  EXPLAIN, EXPLAIN, EXPLAIN,  TEXT_PLACE, TEXT_PLACE, STOP_PLACE, STOP_PLACE};
-static const uint32_t numbers[] = {0, 0, 0, 0, 0, 0, 0, BCS_WAYS, BCS_TREE, BCS_JSON, BCS_WHERE, BCS_WANTED, BCS_WHERE, BCS_WANTED};
+                                  EXPLAIN, EXPLAIN, EXPLAIN,  TEXT_PLACE, TEXT_PLACE, STOP_PLACE, STOP_PLACE, PART_NAMED};
+static const uint32_t numbers[] = {0,        0,         0,          0,         0,          0,        0, BCS_WAYS, BCS_TREE,
+                                   BCS_JSON, BCS_WHERE, BCS_WANTED, BCS_WHERE, BCS_WANTED, BCS_NAME};
 
 static bool takes_text(enum call call) {
     return call == TO_BCS || call == NORMALISE || call == COMPARE || call == TEXT_PLACE;
@@ -134,7 +135,9 @@ static struct job job_of(const struct chain *chain, size_t call, uint32_t depth)
     if (takes_text(job.call)) {
         job.input = (struct slice){(const uint8_t *)chain->text.at, chain->text.length};
     }
-    job.second = job.call == PART ? (struct slice)OF(".") : job.input;
+    job.second = job.call == PART         ? (struct slice)OF(".")
+                 : job.call == PART_NAMED ? (struct slice)OF(".f.f") /* often it leads nowhere */
+                                          : job.input;
     return job;
 }
 
@@ -393,7 +396,7 @@ static void *transfer(void *data) {
         job.call = calls[call];
         job.number = numbers[call];
         job.input = is_text ? (struct slice){normal, shown.length} : (struct slice){bytes, coded.length};
-        job.second = job.call == PART ? (struct slice)OF(".") : text;
+        job.second = job.call == PART || job.call == PART_NAMED ? (struct slice)OF(".") : text;
         const bool is_asked_why = job.call == TEXT_PLACE || job.call == STOP_PLACE;
         CHECK(make(&job, output, ROOM).status == (is_asked_why ? BCS_NO : BCS_DONE));
         CHECK(make_by(ON_HANDLE, &job, output, ROOM).status == (is_asked_why ? BCS_NO : BCS_DONE));

@@ -28,6 +28,7 @@ static const struct {
     {{ON_VALUE(COMPARE, TEXT), .second = OF(TEXT)}, BCS_DONE},
     {{ON_VALUE(SCAN, BYTES_OF_IT "!")}, BCS_DONE},
     {{ON_VALUE(PART, BYTES_OF_IT), .second = OF("inner/2/key:0162")}, BCS_DONE},
+    {{ON_VALUE(PART_NAMED, BYTES_OF_IT), .number = BCS_POINTER, .second = OF("/to")}, BCS_DONE},
     {{ON_VALUE(EXPLAIN, BYTES_OF_IT), .number = BCS_JSON}, BCS_DONE},
     {{ON_VALUE(EXPLAIN, BYTES_OF_IT), .number = BCS_TREE}, BCS_DONE},
     {{ON_VALUE(TEXT_PLACE, "{\"to\":1}"), .number = BCS_WHERE}, BCS_DONE},

@@ -119,8 +119,7 @@ func stopPlace(r *bcs.Registry, format string, data []byte, what string) string 
 	return told(decoded, what)
 }
 
-func part(r *bcs.Registry, format string, data []byte, path string) string {
-	found, err := r.Part(format, data, path)
+func part(found *bcs.Part, err error) string {
 	if err != nil {
 		return failed(err, "")
 	}
@@ -186,7 +185,10 @@ func answerOn(r *bcs.Registry, format string, words []string) string {
 		length, err := r.Scan(format, first)
 		return failed(err, done(0, length))
 	case "part":
-		return part(r, format, first, string(unhex(words[6])))
+		return part(r.Part(format, first, string(unhex(words[6]))))
+	case "part_named":
+		find := map[string]func(string, []byte, string) (*bcs.Part, error){"name": r.PartByName, "pointer": r.PartByPointer}
+		return part(find[words[7]](format, first, string(unhex(words[6]))))
 	case "explain":
 		return explain(r, format, first, words[6])
 	case "text_place":

@@ -15,6 +15,7 @@ enum call {
     COMPARE,
     SCAN,
     PART,
+    PART_NAMED,
     EXPLAIN,
     TEXT_REFUSAL,
     STOP_REFUSAL,
@@ -77,6 +78,7 @@ static bcs_answer make(enum call call, const struct job *job, uint8_t *out, size
     case COMPARE: return bcs_handle_compare(ASK, PIECE(first), PIECE(second));
     case SCAN: return bcs_handle_scan(ASK, PIECE(first));
     case PART: return bcs_handle_part(ASK, PIECE(first), PIECE(second));
+    case PART_NAMED: return bcs_handle_part_named(ASK, job->number, PIECE(second), PIECE(first));
     case EXPLAIN: return bcs_handle_explain(ASK, job->number, PIECE(first), out, room);
     case TEXT_REFUSAL: return bcs_handle_text_refusal(ASK, PIECE(first), out, room);
     case STOP_REFUSAL: return bcs_handle_stop_refusal(ASK, PIECE(first), out, room);

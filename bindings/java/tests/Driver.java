@@ -113,8 +113,7 @@ public final class Driver {
         return damage == null ? output(text) : line("done", damage.reason(), damage.place(), text.length, text);
     }
 
-    private static String part(Registry registry, String format, byte[] data, String path) throws BcsException {
-        Part part = registry.part(format, data, path);
+    private static String part(Part part) {
         return part == null ? NO : line("done", "-", part.place(), part.data().length, new byte[0]);
     }
 
@@ -150,7 +149,10 @@ public final class Driver {
             case "scan":
                 return line("done", "-", 0, registry.scan(format, first), new byte[0]);
             case "part":
-                return part(registry, format, first, unicode(words[6]));
+                return part(registry.part(format, first, unicode(words[6])));
+            case "part_named":
+                return part(words[7].equals("name") ? registry.partByName(format, first, unicode(words[6]))
+                        : registry.partByPointer(format, first, unicode(words[6])));
             case "explain":
                 return explain(registry, format, first, words[6]);
             case "text_place":

@@ -85,6 +85,12 @@ public final class Tests {
             equal(registry.part("Point", unhex("070202000100"), "inner/2"), null);
             Part part = registry.part("Point", unhex("070202000100"), "inner/1/0");
             equal(part.place() + " " + HexFormat.of().formatHex(part.data()), "2 020001");
+            part = registry.partByName("Point", unhex("070202000100"), ".~/[0]");
+            equal(part.place() + " " + HexFormat.of().formatHex(part.data()), "2 020001");
+            part = registry.partByPointer("Point", unhex("070202000100"), "/~0~1/1");
+            equal(part.place() + " " + HexFormat.of().formatHex(part.data()), "5 00");
+            equal(registry.partByName("Point", unhex("070202000100"), ".y"), null);
+            equal(registry.partByPointer("Point", unhex("070202000100"), "/~0~1/2"), null);
         }
         String name = "a\"b\\c\u0000\u001f é";
         Registry odd = Registry.open("{\"a\\\"b\\\\c\\u0000\\u001f é\":{\"STRUCT\":[{\"x\":\"U8\"}]}}");
@@ -107,19 +113,23 @@ public final class Tests {
 
     private static void refusals() throws BcsException {
         Registry registry = Registry.open(SHAPES);
-        String number = "wanted a whole number from 0 to 255 (U8)";
+        String wanted = "wanted a whole number from 0 to 255 (U8)";
         byte[] shapes = SHAPES.getBytes(StandardCharsets.UTF_8), none = "{}".getBytes(StandardCharsets.UTF_8);
         refused(Kind.JSON, "BadHex", -1, "/~0~1/1", "an odd number of digits",
                 () -> registry.encode("Point", "{\"x\":1,\"~/\":[\"\",\"0\"]}"));
-        refused(Kind.JSON, "BadNumber", -1, "/x", number, () -> registry.normalise("Point", "{\"x\":256,\"~/\":[]}"));
-        refused(Kind.JSON, "BadNumber", -1, "/x", number,
+        refused(Kind.JSON, "BadNumber", -1, "/x", "found 256, " + wanted,
+                () -> registry.normalise("Point", "{\"x\":256,\"~/\":[]}"));
+        refused(Kind.JSON, "BadNumber", -1, "/x", "found \"\", " + wanted,
                 () -> registry.equal("Point", "{\"x\":1,\"~/\":[]}", "{\"x\":\"\",\"~/\":[]}"));
         refused(Kind.JSON, "MissingField", -1, "", "no member is called ~/", () -> registry.encode("Point", "{\"x\":1}"));
         refused(Kind.BYTES, "EndOfInput", 4, ".~/[0]", "wanted 2 bytes of BYTES", () -> registry.decode("Point", unhex("07010205")));
         refused(Kind.BYTES, "EndOfInput", 0, ".", "wanted BOOL", () -> registry.decode("\"BOOL\"", NOTHING));
-        refused(Kind.BYTES, "UnknownVariant", 0, ".", "wanted number of a variant", () -> registry.scan("Shape", new byte[] {1}));
+        refused(Kind.BYTES, "UnknownVariant", 0, ".", "wanted number of a variant; found 1; variants: 0 Dot, 2 Circle",
+                () -> registry.scan("Shape", new byte[] {1}));
         refused(Kind.BYTES, "BadBool", 1, "[0]", "wanted BOOL", () -> registry.part("{\"SEQ\":\"BOOL\"}", new byte[] {1, 2}, "."));
         refused(Kind.PATH, "BadPath", -1, "step 2", "an empty step", () -> registry.part("Point", unhex("0700"), "1/"));
+        refused(Kind.PATH, "BadPath", -1, null, null, () -> registry.partByName("Point", unhex("0700"), "x"));
+        refused(Kind.PATH, "BadPath", -1, null, null, () -> registry.partByPointer("Point", unhex("0700"), "/~2"));
         refused(Kind.FORMAT, "BadShape", -1, "/SEQ", "wanted a format", () -> registry.check("{\"SEQ\":\"U7\"}"));
         refused(Kind.FORMAT, "UnknownName", -1, "", "no container is called x: UnknownName: y",
                 () -> registry.decode("{\"SEQ\":{\"TYPENAME\":\"x: UnknownName: y\"}}", none));
@@ -149,6 +159,7 @@ public final class Tests {
                 () -> registry.check(null), () -> registry.encode(null, "1"), () -> registry.encode("Point", (byte[]) null),
                 () -> registry.decode("Point", null), () -> registry.equal("Point", NOTHING, null),
                 () -> registry.equal("Point", (byte[]) null, NOTHING), () -> registry.part("Point", NOTHING, null),
+                () -> registry.partByName("Point", NOTHING, null), () -> registry.partByPointer("Point", null, ""),
                 () -> registry.explain("Point", NOTHING, null), () -> registry.explain("Point", null, Form.JSON),
                 () -> registry.withLimits(null), () -> Registry.grows(null, NOTHING), () -> Registry.grows(NOTHING, null))) {
             thrown(NullPointerException.class, test);

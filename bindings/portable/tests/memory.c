@@ -25,6 +25,7 @@ static const struct job jobs[] = {
     {ON_VALUE(COMPARE, TEXT), .second = OF(TEXT)},
     {ON_VALUE(SCAN, BYTES_OF_IT)},
     {ON_VALUE(PART, BYTES_OF_IT), .second = OF("inner/1/1")},
+    {ON_VALUE(PART_NAMED, BYTES_OF_IT), .number = BCS_NAME, .second = OF(".y[1]")},
     {ON_VALUE(EXPLAIN, BYTES_OF_IT), .number = BCS_JSON},
     {ON_VALUE(TEXT_PLACE, "{}"), .number = BCS_WANTED},
     {ON_VALUE(STOP_PLACE, BYTES_OF_IT "!"), .number = BCS_WHERE},

@@ -31,6 +31,10 @@ SELECT bcs_scan(payments(), 'Payment', '\x03626f6207000000000000000000');
 SELECT bcs_part(payments(), 'Payment', '\x03626f620700000000000000', 'inner/0');
 SELECT bcs_part_place(payments(), 'Payment', '\x03626f620700000000000000', 'inner/1');
 SELECT bcs_part(payments(), 'Payment', '\x03626f620700000000000000', 'inner/2') IS NULL;
+SELECT bcs_part_by_name(payments(), 'Payment', '\x03626f620700000000000000', '.amount'),
+    bcs_part_by_pointer(payments(), 'Payment', '\x03626f620700000000000000', '/amount');
+SELECT bcs_part_by_name(payments(), 'Payment', '\x03626f620700000000000000', '.from') IS NULL,
+    bcs_part_by_pointer(payments(), 'Payment', '\x03626f620700000000000000', '/from') IS NULL;
 SELECT bcs_explain(payments(), 'Payment', '\x03626f620700000000000000', 'paths');
 -- Null in, null out.
 SELECT bcs_decode(NULL, 'Payment', '\x00') IS NULL, bcs_is(payments(), NULL, '\x00') IS NULL,
@@ -55,6 +59,8 @@ SELECT told($$bcs_is('{}', 'Payment', '\x07')$$);
 SELECT told($$bcs_is('{}', '', '\x07')$$);
 SELECT told($$bcs_is('{}', '{"SEQ":"u8"}', '\x07')$$);
 SELECT told($$bcs_part('{}', '"U8"', '\x07', '0x')$$);
+SELECT told($$bcs_part_by_name('{}', '"U8"', '\x07', 'x')$$);
+SELECT told($$bcs_part_by_pointer('{}', '"U8"', '\x07', '/~2')$$);
 SELECT told($$bcs_explain('{}', '"U8"', '\x07', 'xml')$$);
 -- Where a text or a registry is refused, and as a detail what was wanted there. Names are told in ASCII, also those that would
 -- break the line.

@@ -51,6 +51,8 @@ CALLS = [
     "bcs_scan(%s, %s, %s, {})",
     "bcs_fault(%s, %s, %s, {})",
     "bcs_part_place(%s, %s, %s, '.', {})",
+    "length(bcs_part_by_name(%s, %s, %s, '.', {}))",
+    "length(bcs_part_by_pointer(%s, %s, %s, '', {}))",
     "length(bcs_decode(%s, %s, %s, {})::text)",
     "length(bcs_decode_json(%s, %s, %s, {})::text)",
     "length(bcs_explain(%s, %s, %s, 'json', {}))",
@@ -149,7 +151,7 @@ class Costs(Measured):
         run(self.session, "set statement_timeout = '200ms'")
         units = "{}", '{"SEQ":"UNIT"}', length(100_000_000)
         truths = "{}", '{"SEQ":"BOOL"}', length(100_000_000) + b"\1" * 1_000_000
-        for call in CALLS[4:]:
+        for call in CALLS[6:]:
             self.ends("57014", 1000, "select " + call.format(ALL), *(truths if "explain" in call else units))
         for call in "bcs_encode_json", "bcs_normalise":
             text = "'[' || repeat('true,', 20000000) || 'true]'"

@@ -134,6 +134,8 @@ class Types(Database):
             ("bcs_scan('{}', '\"U8\"', ?)", 1),
             ("bcs_fault('{}', '\"U8\"', ?)", None),
             ("bcs_part_place('{}', '\"U8\"', ?, '.')", 0),
+            ("length(bcs_part_by_name('{}', '\"U8\"', ?, '.'))", 1),
+            ("length(bcs_part_by_pointer('{}', '\"U8\"', ?, ''))", 1),
             ("bcs_explain('{}', '\"BYTES\"', ?) ~ 'BYTES'", True),
         ]:
             self.at(call, answer, ["bytea"])

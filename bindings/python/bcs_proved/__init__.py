@@ -254,6 +254,7 @@ _CALLS: dict[str, list[Any]] = {
     "bcs_handle_compare": _ASK + _IN + _IN,
     "bcs_handle_scan": _ASK + _IN,
     "bcs_handle_part": _ASK + _IN + _IN,
+    "bcs_handle_part_named": _ASK + [ctypes.c_uint32] + _IN + _IN,
     "bcs_handle_explain": _ASK + [ctypes.c_uint32] + _IN + _OUT,
     "bcs_handle_text_refusal": _ASK + _IN + _OUT,
     "bcs_handle_stop_refusal": _ASK + _IN + _OUT,
@@ -269,6 +270,8 @@ _CALLS: dict[str, list[Any]] = {
 }
 # enum bcs_what of bcs.h.
 _WHERE, _WANTED = 0, 1
+# enum bcs_notation of bcs.h.
+_NAME, _POINTER = 1, 2
 # Returns the pointer of a refusal, and what was expected there.
 _Told = Callable[[], "tuple[Optional[str], Optional[str]]"]
 
@@ -788,6 +791,16 @@ class Registry:
         self._library.done(answer, BytesError, told)
         return Part(answer.place, data[answer.place : answer.place + answer.length])
 
+    def part_by_name(self, format: Format, data: Data, name: str, limits: Optional[Limits] = None) -> Optional[Part]:
+        """Like `part`, with the name of the part, as `explain` has it: ".payload::EntryFunction.args[0]"."""
+        return self._part_named(format, data, _NAME, name, limits)
+
+    def part_by_pointer(
+        self, format: Format, data: Data, pointer: str, limits: Optional[Limits] = None
+    ) -> Optional[Part]:
+        """Like `part`, with a JSON Pointer into the value's JSON, such as "/payload/EntryFunction/args/0"."""
+        return self._part_named(format, data, _POINTER, pointer, limits)
+
     def explain(self, format: Format, data: Data, limits: Optional[Limits] = None) -> list[dict[str, Any]]:
         """The pieces of bytes, a dict for each with "place", "bytes", "kind", "what", "value", "name" and "path". The
         last one is {"end": N}, or for invalid bytes a dict with "refused", "place", "want", "name" and "path"."""
@@ -802,6 +815,18 @@ class Registry:
         answer, text = self._put("bcs_handle_explain", room, ask, int(form), data, len(data))
         self._library.done(answer, BytesError, self._told_of_format(ask))
         return text.decode()
+
+    def _part_named(
+        self, format: Format, data: Data, notation: int, name: str, limits: Optional[Limits]
+    ) -> Optional[Part]:
+        data, text = _bytes_of(data), _bytes_of_text(name)
+        ask = self._ask(_json_of_format(format), limits, data)
+        answer = self._call("bcs_handle_part_named", ask, notation, text, len(text), data, len(data))
+        if answer.status == _Status.NO:
+            return None
+        told = self._told_of("bcs_handle_stop_refusal", answer, ask, data)
+        self._library.done(answer, BytesError, None if answer.status == _Status.PATH else told)
+        return Part(answer.place, data[answer.place : answer.place + answer.length])
 
     def _json_of(self, format: bytes, value: Any, limits: Optional[Limits]) -> bytes:
         """The JSON of a value. The library's answer about the format comes before what is wrong with the value."""

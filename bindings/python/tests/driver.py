@@ -42,6 +42,15 @@ def part(registry: Registry, format: bytes, limits: Limits, data: bytes, path: b
     return Answer("done", place=found.place, length=len(found.data))
 
 
+def part_named(registry: Registry, format: bytes, limits: Limits, data: bytes, name: bytes, notation: str) -> Answer:
+    by = registry.part_by_name if notation == "name" else registry.part_by_pointer
+    found = by(format, data, name.decode("utf-8", "surrogateescape"), limits)
+    if found is None:
+        return Answer("no")
+    assert data[found.place :].startswith(found.data)
+    return Answer("done", place=found.place, length=len(found.data))
+
+
 def explain(registry: Registry, format: bytes, limits: Limits, data: bytes, form: str) -> Answer:
     """The text, and by the dicts whether the bytes are damaged."""
     text = registry.explain_text(format, data, Form[form.upper()], limits)
@@ -95,6 +104,7 @@ CALLS: dict[str, Callable[..., Answer]] = {
     "compare": lambda registry, *words: truth(registry.equal_text(words[0], words[2], words[3], words[1])),
     "scan": lambda registry, *words: Answer("done", length=registry.scan(words[0], words[2], words[1])),
     "part": part,
+    "part_named": part_named,
     "explain": explain,
     "text_place": text_place,
     "stop_place": stop_place,
@@ -117,8 +127,8 @@ def answer(words: list[str]) -> Answer:
     if words[0] == "registry_place":
         return place(refused_by(lambda: Registry(bytes.fromhex(words[1]))), words[2])
     registry = registry_of(bytes.fromhex(words[1]))
-    has_word = words[0] in ("explain", "text_place", "stop_place")
-    rest = [word if has_word and place == 1 else bytes.fromhex(word) for place, word in enumerate(words[5:])]
+    word = {"explain": 1, "text_place": 1, "stop_place": 1, "part_named": 2}.get(words[0])
+    rest = [text if place == word else bytes.fromhex(text) for place, text in enumerate(words[5:])]
     try:
         limits = Limits(int(words[3]), int(words[4]))
     except ValueError:

@@ -66,6 +66,7 @@ def calls() -> dict[str, Callable[[], object]]:
         "scan a tree of 500": lambda: registry.scan("T", deep) == 500,
         "explain a list of 500": lambda: registry.explain_text("L", deep).count("\n") == 500,
         "a part of a list of 500": lambda: registry.part("L", deep, "inner/0/inner/inner/0") is not None,
+        "a named part of a list of 500": lambda: registry.part_by_name("L", deep, ".next?" * 400) is not None,
     }
 
 

@@ -130,6 +130,14 @@ class Done(unittest.TestCase):
         self.assertEqual(self.registry.part("Payment", self.bytes, "inner/1"), Part(4, self.bytes[4:]))
         self.assertIsNone(self.registry.part("Payment", self.bytes, "inner/2"))
 
+    def test_parts_by_names(self) -> None:
+        self.assertEqual(self.registry.part_by_name("Payment", self.bytes + b"!", "."), Part(0, self.bytes))
+        self.assertEqual(self.registry.part_by_name("Payment", self.bytes, ".amount"), Part(4, self.bytes[4:]))
+        self.assertIsNone(self.registry.part_by_name("Payment", self.bytes, ".from"))
+        self.assertEqual(self.registry.part_by_pointer("Payment", self.bytes + b"!", ""), Part(0, self.bytes))
+        self.assertEqual(self.registry.part_by_pointer("Payment", self.bytes, "/amount"), Part(4, self.bytes[4:]))
+        self.assertIsNone(self.registry.part_by_pointer("Payment", self.bytes, "/"))
+
     def test_pieces(self) -> None:
         self.assertEqual(
             self.registry.explain({"SEQ": "U16"}, b"\x01\x05\0"),
@@ -300,6 +308,10 @@ class Refused(unittest.TestCase):
     def test_paths(self) -> None:
         for path in ["", "01", "inner/", "key:0", "\udc80"]:
             self.refuses(PathError, "BadPath", None, self.registry.part, '"U8"', b"\x07", path)
+        for name in ["", "a", "/0", ".\ud800"]:
+            self.refuses(PathError, "BadPath", None, self.registry.part_by_name, '"U8"', b"\x07", name)
+        for pointer in ["a", ".", "/~", "/~2", "/\ud800"]:
+            self.refuses(PathError, "BadPath", None, self.registry.part_by_pointer, '"U8"', b"\x07", pointer)
 
     def test_limits(self) -> None:
         self.refuses(TextError, "TooDeep", None, self.registry.encode, "L", {"next": None}, Limits(depth=0))

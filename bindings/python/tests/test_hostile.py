@@ -461,7 +461,7 @@ class Stacks(unittest.TestCase):
             told = run(str(HERE / "small_stacks.py"), str(size))
             self.assertEqual((told.returncode, told.stderr), (0, ""), size)
             lines = told.stdout.splitlines()
-            self.assertEqual(len(lines), 18)
+            self.assertEqual(len(lines), 19)
             ends = {line.split(": ")[1] for line in lines}
             self.assertLessEqual(ends, {"done"} if size == 8388608 else {"done", "MemoryError"}, size)
             self.assertLessEqual(set(done), set(lines), size)

@@ -25,12 +25,13 @@ class Places(unittest.TestCase):
         return raised.exception
 
     def test_texts(self) -> None:
+        of_u64 = "wanted a whole number from 0 to 18446744073709551615 (U64)"
         for format, value, pointer, expected in [
             ("Point", {"x": 1, "~/": [b"", "0"]}, "/~0~1/1", "an odd number of digits"),
-            ("Point", {"x": 256, "~/": []}, "/x", "wanted a whole number from 0 to 255 (U8)"),
+            ("Point", {"x": 256, "~/": []}, "/x", "found 256, wanted a whole number from 0 to 255 (U8)"),
             ("Point", {"x": 1}, "", "no member is called ~/"),
-            ("Shape", {"Circle": "x"}, "/Circle", "wanted a whole number from 0 to 18446744073709551615 (U64)"),
-            ("Shape", "Disc", "", "no variant is called Disc"),
+            ("Shape", {"Circle": "x"}, "/Circle", f'found "x", {of_u64}'),
+            ("Shape", "Disc", "", "no variant is called Disc; variants: Dot, Circle"),
             ({"MAP": {"KEY": "U8", "VALUE": "U8"}}, [[1, 2], [1, 3]], "", "two keys of a map are equal"),
         ]:
             refused = self.tells(TextError, pointer, expected, self.registry.encode, format, value)
@@ -40,7 +41,7 @@ class Places(unittest.TestCase):
         self.tells(ValueTypeError, "/~0~1/1", types, self.registry.encode, "Point", {"x": 1, "~/": [b"", 7]})
         self.tells(TextError, "", "wanted BOOL, true or false", self.registry.encode_text, '"BOOL"', "7")
         told = self.tells(
-            TextError, "", "line 1, column 1: serde_json stops reading there", self.registry.encode_text, '"U8"', "x"
+            TextError, "", "line 1, column 1: the text stops being JSON there", self.registry.encode_text, '"U8"', "x"
         )
         self.assertEqual(told.reason, "NotJson")
 
@@ -48,18 +49,19 @@ class Places(unittest.TestCase):
         told = self.tells(
             TextError,
             "/x",
-            "wanted a whole number from 0 to 255 (U8)",
+            "found -1, wanted a whole number from 0 to 255 (U8)",
             self.registry.encode,
             "Point",
             {"x": -1, "~/": []},
         )
-        self.assertEqual(str(told), "no value of the format: BadNumber at /x: wanted a whole number from 0 to 255 (U8)")
+        words = "found -1, wanted a whole number from 0 to 255 (U8)"
+        self.assertEqual(str(told), f"no value of the format: BadNumber at /x: {words}")
         again = pickle.loads(pickle.dumps(told))
         self.assertEqual((str(again), again.pointer, again.reason), (str(told), "/x", "BadNumber"))
 
     def test_two_texts(self) -> None:
         good, bad = {"x": 1, "~/": []}, {"x": "", "~/": []}
-        wanted = "wanted a whole number from 0 to 255 (U8)"
+        wanted = 'found "", wanted a whole number from 0 to 255 (U8)'
         self.tells(TextError, "/x", wanted, self.registry.equal, "Point", good, bad)
         self.tells(TextError, "/x", wanted, self.registry.equal, "Point", bad, {})
 
@@ -67,14 +69,21 @@ class Places(unittest.TestCase):
         damaged = bytes.fromhex("0701020507")
         told = self.tells(BytesError, ".~/[0]", "wanted 2 bytes of BYTES", self.registry.decode, "Point", damaged[:-2])
         self.assertEqual(told.place, 3)
-        self.tells(BytesError, ".", "wanted number of a variant", self.registry.scan, "Shape", b"\1")
+        self.tells(
+            BytesError,
+            ".",
+            "wanted number of a variant; found 1; variants: 0 Dot, 2 Circle",
+            self.registry.scan,
+            "Shape",
+            b"\1",
+        )
         self.tells(BytesError, "[0]", "wanted BOOL", self.registry.part, {"SEQ": "BOOL"}, b"\1\2", ".")
 
     def test_registries(self) -> None:
         for text, pointer, expected in [
             ('{"S":{"ENUM":{"x":{"A":"UNIT"}}}}', "/S/ENUM/x", "wanted a plain decimal number below 4294967296"),
             ({"S": {"STRUCT": [{"side": {"TYPENAME": "Sid"}}]}}, "S, field side", "no container is called Sid"),
-            ("{", "line 1, column 1", "serde_json stops reading there"),
+            ("{", "line 1, column 1", "the text stops being JSON there"),
         ]:
             self.tells(RegistryError, pointer, expected, Registry, text)
 

@@ -184,7 +184,7 @@ class Types(unittest.TestCase):
         unknown = '{"A":{"NEWTYPESTRUCT":{"TYPENAME":"B"}}}'
         cases: list[tuple[int, str, list[str]]] = [
             (2, "no registry: UnknownName at A: no container is called B\n", [unknown]),
-            (2, "no registry: NotJson at line 1, column 1: serde_json stops reading there\n", ["{"]),
+            (2, "no registry: NotJson at line 1, column 1: the text stops being JSON there\n", ["{"]),
             (3, usage, []),
             (3, usage, ["a.json", "b.json"]),
             (3, usage, ["--other"]),

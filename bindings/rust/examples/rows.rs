@@ -1,6 +1,6 @@
 //! Makes the calls that are asked for on standard input, a line each, and answers each by a line. `tests/rows` starts
 //! it, and asks it the rows of the repository's tests.
-use bcs_proved::{Error, ErrorKind, Form, Format, Limits, Registry};
+use bcs_proved::{Error, ErrorKind, Form, Format, Limits, Part, Registry};
 use std::io::{self, BufRead, Write};
 
 fn main() -> io::Result<()> {
@@ -117,6 +117,7 @@ fn ask(call: &str, mut words: Words) -> Result<Told, Error> {
         "compare" => Told::yes_or_no(registry.equal(format, input, words.bytes())?),
         "scan" => Told { length: registry.scan(format, input)?, ..Told::done() },
         "part" => part(&registry, format, &input, &words.bytes())?,
+        "part_named" => part_named(&registry, format, &input, &words.bytes(), words.next())?,
         "explain" => explain(&registry, format, &input, words.next())?,
         "text_place" => text_place(&registry, format, &input, words.next()),
         "stop_place" => stop_place(&registry, format, &input, words.next()),
@@ -156,11 +157,24 @@ fn place(refused: Option<Error>, what: &str) -> Told {
 }
 
 fn part(registry: &Registry, format: &Format, input: &[u8], path: &[u8]) -> Result<Told, Error> {
-    let Some(part) = registry.part(format, input, path)? else {
-        return Ok(Told::yes_or_no(false));
+    Ok(told_of_part(registry.part(format, input, path)?, input))
+}
+
+fn part_named(registry: &Registry, format: &Format, input: &[u8], name: &[u8], notation: &str) -> Result<Told, Error> {
+    let part = match notation {
+        "name" => registry.part_by_name(format, input, name)?,
+        "pointer" => registry.part_by_pointer(format, input, name)?,
+        _ => panic!("no notation is named {notation}"),
+    };
+    Ok(told_of_part(part, input))
+}
+
+fn told_of_part(part: Option<Part<'_>>, input: &[u8]) -> Told {
+    let Some(part) = part else {
+        return Told::yes_or_no(false);
     };
     assert_eq!(part.bytes, &input[part.place..][..part.bytes.len()]);
-    Ok(Told { place: part.place, length: part.bytes.len(), ..Told::done() })
+    Told { place: part.place, length: part.bytes.len(), ..Told::done() }
 }
 
 fn explain(registry: &Registry, format: &Format, input: &[u8], form: &str) -> Result<Told, Error> {

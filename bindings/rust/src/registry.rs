@@ -331,10 +331,62 @@ impl Registry {
             ErrorKind::Path => in_line(error, "PATH", |out| sys::path_place(path, out)),
             _ => self.in_bytes(error, &format, bytes),
         });
-        Ok(found?.map(|answer| {
-            let place = sys::to_place(answer.place);
-            Part { place, bytes: &bytes[place..place + answer.length] }
-        }))
+        Ok(found?.map(|answer| Part::of(answer, bytes)))
+    }
+
+    /// Like [`Registry::part`], with the name of the part, as [`Registry::explain`] prints it. `.` is the whole value.
+    ///
+    /// ```
+    /// use bcs_proved::Registry;
+    ///
+    /// let registry = Registry::read(r#"{"Payment":{"STRUCT":[{"to":"STR"},{"amount":"U64"}]}}"#)?;
+    /// let bytes = b"\x03bob\x07\0\0\0\0\0\0\0";
+    /// assert_eq!(registry.part_by_name("Payment", bytes, ".amount")?, registry.part("Payment", bytes, "inner/1")?);
+    /// assert_eq!(registry.part_by_name("Payment", bytes, ".from")?, None);
+    /// # Ok::<(), bcs_proved::Error>(())
+    /// ```
+    pub fn part_by_name<'b>(
+        &self,
+        format: impl Into<Format>,
+        bytes: &'b (impl AsRef<[u8]> + ?Sized),
+        name: impl AsRef<[u8]>,
+    ) -> Result<Option<Part<'b>>, Error> {
+        self.part_named(&format.into(), bytes.as_ref(), sys::NAME, name.as_ref())
+    }
+
+    /// Like [`Registry::part`], with a JSON Pointer into the value's JSON, such as `/payload/args/0`. An empty one is the
+    /// whole value.
+    ///
+    /// ```
+    /// use bcs_proved::Registry;
+    ///
+    /// let registry = Registry::read(r#"{"Payment":{"STRUCT":[{"to":"STR"},{"amount":"U64"}]}}"#)?;
+    /// let bytes = b"\x03bob\x07\0\0\0\0\0\0\0";
+    /// assert_eq!(registry.part_by_pointer("Payment", bytes, "/amount")?.unwrap().place, 4);
+    /// # Ok::<(), bcs_proved::Error>(())
+    /// ```
+    pub fn part_by_pointer<'b>(
+        &self,
+        format: impl Into<Format>,
+        bytes: &'b (impl AsRef<[u8]> + ?Sized),
+        pointer: impl AsRef<[u8]>,
+    ) -> Result<Option<Part<'b>>, Error> {
+        self.part_named(&format.into(), bytes.as_ref(), sys::POINTER, pointer.as_ref())
+    }
+
+    fn part_named<'b>(
+        &self,
+        format: &Format,
+        bytes: &'b [u8],
+        notation: u32,
+        name: &[u8],
+    ) -> Result<Option<Part<'b>>, Error> {
+        let answer = self.open.part_named(self.of_bytes(format, bytes), notation, name, bytes);
+        let found = done_unless_no(answer).map_err(|error| match error.kind() {
+            ErrorKind::Path => error,
+            _ => self.in_bytes(error, format, bytes),
+        });
+        Ok(found?.map(|answer| Part::of(answer, bytes)))
     }
 
     /// What the bytes are, piece by piece. Damage is no error here: it is told beside the pieces that stand before it.
@@ -447,6 +499,13 @@ pub struct Part<'b> {
     pub place: usize,
     /// Its bytes.
     pub bytes: &'b [u8],
+}
+
+impl<'b> Part<'b> {
+    fn of(answer: Answer, bytes: &'b [u8]) -> Part<'b> {
+        let place = sys::to_place(answer.place);
+        Part { place, bytes: &bytes[place..place + answer.length] }
+    }
 }
 
 fn done(answer: Answer) -> Result<Answer, Error> {

@@ -29,6 +29,10 @@ pub(crate) const WANTED: u32 = 1;
 pub(crate) const LEAST: u32 = 0;
 pub(crate) const FULL: u32 = 1;
 
+// How the name of a part is written: `enum bcs_notation`.
+pub(crate) const NAME: u32 = 1;
+pub(crate) const POINTER: u32 = 2;
+
 /// The one fault of `enum bcs_fault` that belongs to no enum of `faults`, beside that of a path, which its status tells.
 pub(crate) const SHOWN_TOO_NESTED: u32 = 501;
 
@@ -117,6 +121,18 @@ unsafe extern "C" {
         bytes_length: usize,
         path: *const u8,
         path_length: usize,
+    ) -> Answer;
+    fn bcs_handle_part_named(
+        handle: *mut Handle,
+        format: *const u8,
+        format_length: usize,
+        depth: u32,
+        nodes: u32,
+        notation: u32,
+        name: *const u8,
+        name_length: usize,
+        bytes: *const u8,
+        bytes_length: usize,
     ) -> Answer;
     fn bcs_handle_explain(
         handle: *mut Handle,
@@ -313,6 +329,12 @@ impl Open {
     pub(crate) fn part(&self, question: Question, bytes: &[u8], path: &[u8]) -> Answer {
         // SAFETY: the handle is open, and the slices are borrowed for the call.
         unsafe { ask!(bcs_handle_part(self, question, bytes.as_ptr(), bytes.len(), path.as_ptr(), path.len())) }
+    }
+
+    pub(crate) fn part_named(&self, question: Question, notation: u32, name: &[u8], bytes: &[u8]) -> Answer {
+        let (name, length) = (name.as_ptr(), name.len());
+        // SAFETY: the handle is open, and the slices are borrowed for the call.
+        unsafe { ask!(bcs_handle_part_named(self, question, notation, name, length, bytes.as_ptr(), bytes.len())) }
     }
 
     pub(crate) fn explain(&self, question: Question, form: u32, bytes: &[u8], out: &mut [u8]) -> Answer {

@@ -167,6 +167,12 @@ fn paths_are_refused() {
     for path in ["", "-", "/0", "0/", "01", "key:012", "./0", "some"] {
         assert_eq!(plain().part(list, &[0], path).unwrap_err(), ErrorKind::Path, "{path}");
     }
+    for name in ["", "a", "/0"] {
+        assert_eq!(plain().part_by_name(list, &[0], name).unwrap_err(), ErrorKind::Path, "{name}");
+    }
+    for pointer in ["a", ".", "/~", "/~2"] {
+        assert_eq!(plain().part_by_pointer(list, &[0], pointer).unwrap_err(), ErrorKind::Path, "{pointer}");
+    }
     assert_eq!(ErrorKind::Path.name(), Some("BadPath"));
 }
 
@@ -214,11 +220,11 @@ fn errors_tell_the_place() {
     let registry = Registry::read(text).unwrap();
     let texts = [
         ("Point", r#"{"x":1,"~/":["","0"]}"#, "/~0~1/1", "an odd number of digits"),
-        ("Point", r#"{"x":256,"~/":[]}"#, "/x", "wanted a whole number from 0 to 255 (U8)"),
+        ("Point", r#"{"x":256,"~/":[]}"#, "/x", "found 256, wanted a whole number from 0 to 255 (U8)"),
         ("Point", r#"{"x":1}"#, "", "no member is called ~/"),
         ("Shape", r#"{"Circle":true}"#, "/Circle", "wanted a whole number from 0 to 18446744073709551615 (U64)"),
         (r#"{"MAP":{"KEY":"U8","VALUE":"U8"}}"#, "[[1,2],[1,3]]", "", "two keys of a map are equal"),
-        (r#""U8""#, "x", "", "line 1, column 1: serde_json stops reading there"),
+        (r#""U8""#, "x", "", "line 1, column 1: the text stops being JSON there"),
     ];
     for (format, text, pointer, words) in texts {
         let error = registry.encode(format, text).unwrap_err();

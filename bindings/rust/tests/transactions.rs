@@ -75,6 +75,13 @@ fn parts_are_those_of_the_examples() {
     assert_eq!((amount.place, amount.bytes), (177, &bytes("088813000000000000")[..]));
     assert_eq!(aptos.part("RawTransaction", &transfer, format!("{arguments}/2")), Ok(None));
 
+    let arguments = ".payload::EntryFunction.args";
+    assert_eq!(aptos.part_by_name("RawTransaction", &transfer, format!("{arguments}[1]")), Ok(Some(amount)));
+    assert_eq!(aptos.part_by_name("RawTransaction", &transfer, format!("{arguments}[2]")), Ok(None));
+    let arguments = "/payload/EntryFunction/args";
+    assert_eq!(aptos.part_by_pointer("RawTransaction", &transfer, format!("{arguments}/1")), Ok(Some(amount)));
+    assert_eq!(aptos.part_by_pointer("RawTransaction", &transfer, format!("{arguments}/2")), Ok(None));
+
     let stake = example_bytes("sui_stake");
     let budget = sui.part("TransactionData", &stake, "inner/inner/inner/2/inner/3").unwrap().unwrap();
     assert_eq!(budget.bytes, bytes("8096980000000000"));

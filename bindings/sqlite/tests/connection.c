@@ -107,6 +107,10 @@ static const struct {
     {"select hex(bcs_part(" REGISTRY ",'A',x'0701036F6E65','inner/1/0'))", "036F6E65"},
     {"select bcs_part_place(" REGISTRY ",'A',x'0701036F6E65','inner/1/0')", "2"},
     {"select bcs_part(" REGISTRY ",'A',x'0701036F6E65','inner/1/1')", "null"},
+    {"select hex(bcs_part_by_name(" REGISTRY ",'A',x'0701036F6E65','.y[0]'))", "036F6E65"},
+    {"select bcs_part_by_name(" REGISTRY ",'A',x'0701036F6E65','.y[1]')", "null"},
+    {"select hex(bcs_part_by_pointer(" REGISTRY ",'A',x'0701036F6E65','/y/0'))", "036F6E65"},
+    {"select bcs_part_by_pointer(" REGISTRY ",'A',x'0701036F6E65','/z')", "null"},
     {"select bcs_scan(" REGISTRY ",'A',x'0701036F6E6500')", "6"},
     {"select bcs_is(" REGISTRY ",'A',x'0701036F6E6500')", "0"},
     {"select bcs_fault(" REGISTRY ",'A',x'0701036F6E')",
@@ -154,7 +158,7 @@ static void hostile(void) {
              "bcs: no bytes of the format: TooManyNodes at 5 in [999999]");
     is_answered(database, "select bcs_is('{}','{\"SEQ\":\"UNIT\"}',x'ffffffff07')", "0");
     is_error(database, "select bcs_encode('{}','\"U8\"',replace(hex(zeroblob(50000)),'0','[') || replace(hex(zeroblob(50000)),'0',']'))",
-             "bcs: no value of the format: NotJson: line 1, column 129: serde_json stops reading there");
+             "bcs: no value of the format: NotJson: line 1, column 129: the text stops being JSON there");
     is_error(database, "select bcs_encode('{}','\"U8\"',replace(hex(zeroblob(51)),'0','[') || replace(hex(zeroblob(51)),'0',']'))",
              "bcs: no value of the format: TooNested: arrays and objects nest more than 100 deep");
     is_error(database, "select bcs_decode('{\"L\":{\"NEWTYPESTRUCT\":{\"OPTION\":{\"TYPENAME\":\"L\"}}}}','L',"
@@ -163,9 +167,9 @@ static void hostile(void) {
     is_answered(database, "select bcs_decode('{}','\"STR\"',x'03610062')", "\"a\\u0000b\"");
     is_answered(database, "select hex(bcs_encode('{}','\"STR\"','\"a\\u0000b\"'))", "03610062");
     is_error(database, "select bcs_encode('{}','\"STR\"',cast(x'226100622200' as text))",
-             "bcs: no value of the format: NotJson: line 1, column 1: serde_json stops reading there");
+             "bcs: no value of the format: NotJson: line 1, column 1: the text stops being JSON there");
     is_error(database, "select bcs_is(x'7b00','\"U8\"',x'07')",
-             "bcs: no registry: NotJson at line 1, column 2: serde_json stops reading there");
+             "bcs: no registry: NotJson at line 1, column 2: the text stops being JSON there");
     closed(database);
 }
 
@@ -173,7 +177,7 @@ static void hostile(void) {
 static void places(void) {
     sqlite3 *database = opened();
     is_error(database, "select bcs_equal('{}','{\"SEQ\":\"U8\"}','[1]','[1,256]')",
-             "bcs: no value of the format: BadNumber at /1: wanted a whole number from 0 to 255 (U8)");
+             "bcs: no value of the format: BadNumber at /1: found 256, wanted a whole number from 0 to 255 (U8)");
     is_error(database, "select bcs_encode('{\"A\":{\"STRUCT\":[{\"\\u0000\\n\\\\\\\"%s\xc3\xa9\\u20ac\\ud83d\\ude00\":\"U8\"}]}}','A',"
              "'{\"\\u0000\\n\\\\\\\"%s\xc3\xa9\\u20ac\\ud83d\\ude00\":true}')",
              "bcs: no value of the format: BadShape at /\\u0000\\u000a\\\\\\\"%s\\u00e9\\u20ac\\ud83d\\ude00: "

@@ -26,6 +26,8 @@ FUNCTIONS = {
     "bcs_fault": ENDLESS,
     "bcs_part": ENDLESS + ", '.'",
     "bcs_part_place": ENDLESS + ", '.'",
+    "bcs_part_by_name": ENDLESS + ", '.'",
+    "bcs_part_by_pointer": ENDLESS + ", ''",
     "bcs_explain": ENDLESS + ", 'ways'",
     "bcs_encode": "'{}', '\"U8\"', 7",
     "bcs_normalise": "'{}', '\"U8\"', 7",

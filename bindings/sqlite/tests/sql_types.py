@@ -48,6 +48,8 @@ CALLS = [
             "bcs_fault('{}', '\"U8\"', ?)",
             "bcs_part('{}', '\"U8\"', ?, '.')",
             "bcs_part_place('{}', '\"U8\"', ?, '.')",
+            "bcs_part_by_name('{}', '\"U8\"', ?, '.')",
+            "bcs_part_by_pointer('{}', '\"U8\"', ?, '')",
             "bcs_explain('{}', '\"U8\"', ?, 'json')",
         ]
     ),
@@ -149,10 +151,8 @@ class Types(unittest.TestCase):
         ]:
             self.database.execute("delete from t")
             self.database.execute("insert into t values (?1, ?1, ?1, ?1, ?1)", [written])
-            text = (
-                digits_of("U64", written)
-                or "bcs: no value of the format: BadNumber: wanted a whole number from 0 to 18446744073709551615 (U64)"
-            )
+            refused = f"found {written}, wanted a whole number from 0 to 18446744073709551615 (U64)"
+            text = digits_of("U64", written) or f"bcs: no value of the format: BadNumber: {refused}"
             if numeric is None:
                 numeric = text
             elif numeric != VALUE:

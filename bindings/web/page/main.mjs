@@ -245,10 +245,10 @@ class Page {
     const { pieces } = this.#explained;
     const lit = pieces.slice(Math.max(from, 0), Math.max(to, 0));
     $('detail').textContent = lit.length === 0 ? 'Point at digits or at a row, or go there by the arrow keys.' : detailOf(lit);
-    // No path leads to a key.
-    const path = lit.length === 1 ? lit[0].path : null;
-    $('part').hidden = path === null;
-    this.#part = path === null ? '' : `bcs part registry.json ${quoted(this.#wordOfFormat)} ${quoted(path)} value.hex`;
+    // No part is inside a key.
+    const name = lit.length === 1 && lit[0].path !== null ? lit[0].name : null;
+    $('part').hidden = name === null;
+    this.#part = name === null ? '' : `bcs part --name ${quoted(name)} registry.json ${quoted(this.#wordOfFormat)} value.hex`;
   }
 
   /** The format as an argument of the program. */

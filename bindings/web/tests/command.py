@@ -78,6 +78,13 @@ class Programs:
         for program in filter(None, [self.in_node, self.native]):
             self.gives(wanted, [*program, *words])
 
+    def has(self, name: str, wanted: bytes) -> None:
+        """The file has these bytes."""
+        found = pathlib.Path(name).read_bytes()
+        if found != wanted:
+            sys.exit(f"command: FAILED: {name} has {found!r}, and not {wanted!r}")
+        self.count += 1
+
     def alike(self, status: int, *words: str) -> Told:
         """The program in Node ends with this status, and the native one answers the same."""
         told = run([*self.in_node, *words])
@@ -117,7 +124,7 @@ def ask_values(programs: Programs) -> None:
     both(0, "ok 1\n", "", "scan", "--front", "--nodes", "00001", "{}", '"U8"')
     line = f"{'     0  cced':<74}{'I16 -4660':<32}.\n"
     both(0, line, "", "explain", "--no-color", "{}", '"I16"')
-    both(1, "none\n", "", "part", "{}", '"I16"', "7")
+    both(1, "none\n", "at PATH, step 1 7: I16 has no parts\n", "part", "{}", '"I16"', "7")
     both(0, "ok 15969\n", "", "scan", "deep.json", "L", "deep.hex")
     programs.alike(0, "explain", "--tree", "deep.json", "L", "deep.hex")
     programs.alike(0, "show", "registry.json")
@@ -144,6 +151,25 @@ def ask_refusals(programs: Programs) -> None:
     both(2, "refused: UnknownName\n", unknown, "check", '{"S":{"NEWTYPESTRUCT":{"TYPENAME":"T"}}}')
     both(2, "refused: BadShape\n", "in NEW, at /S: BadShape: wanted a container\n", "grows", "{}", '{"S":7}')
     both(2, bad_bool, "", "scan", "--raw", "registry.json", "S", "bad.bytes")
+
+
+def ask_outputs(programs: Programs) -> None:
+    """A file is created, or emptied and written, and left alone if the status isn't 0."""
+    write("input", "-4660\n")
+    job = ["encode", "--raw", "{}"]
+    for name in "new.bytes", "old.bytes":
+        for program in filter(None, [programs.in_node, programs.native]):
+            pathlib.Path("new.bytes").unlink(missing_ok=True)
+            write("old.bytes", "an older answer")
+            programs.gives(Told(0, b"", b""), [*program, *job, '"I16"', "-o", name])
+            programs.has(name, b"\xcc\xed")
+            refusal = b"refused: BadNumber\n"
+            programs.gives(Told(2, b"", refusal), [*program, *job, '"U8"', "--quiet", f"--output={name}"])
+            programs.has(name, b"\xcc\xed")
+    programs.both(0, "-4660\n", "", "decode", "--raw", "{}", '"I16"', "old.bytes")
+    missing = "fault: write\nin the file no/x: No such file or directory\n"
+    programs.both(4, "", missing, *job, '"I16"', "-o", "no/x")
+    programs.both(4, "", "fault: write\nin the file .\n", *job, '"I16"', "-o", ".")
 
 
 def ask_faults(programs: Programs) -> None:
@@ -187,7 +213,7 @@ def main() -> None:
     with tempfile.TemporaryDirectory() as room:
         os.chdir(room)
         make_files()
-        for ask in ask_values, ask_refusals, ask_faults, start_by_other_names:
+        for ask in ask_values, ask_refusals, ask_outputs, ask_faults, start_by_other_names:
             ask(programs)
         os.chdir("/")
     native = "the native program answers the same" if programs.native else "no native program is there"

@@ -64,11 +64,17 @@ const CALLS = {
   normalise: (registry, format, text) => put(registry.normalise(format, text)),
   compare: (registry, format, first, second) => (registry.equal(format, first, second) ? DONE : NO),
   scan: (registry, format, bytes) => ({ ...DONE, length: registry.scan(format, bytes) }),
-  part: (registry, format, bytes, path) => {
-    const part = registry.part(format, bytes, path);
-    return part === undefined ? NO : { ...DONE, place: part.place, length: part.bytes.length };
-  },
+  part: (registry, format, bytes, path) => found(registry.part(format, bytes, path)),
 };
+
+function found(part) {
+  return part === undefined ? NO : { ...DONE, place: part.place, length: part.bytes.length };
+}
+
+function partNamed(registry, format, bytes, [name, notation]) {
+  const text = bytesOfHex(name);
+  return found(notation === 'name' ? registry.partByName(format, bytes, text) : registry.partByPointer(format, bytes, text));
+}
 
 function answerTo(call, words) {
   if (call === 'fault_name') {
@@ -80,6 +86,7 @@ function answerTo(call, words) {
   const [registryText, formatText, depth, nodes, ...others] = words;
   const registry = bcs.registry(bytesOfHex(registryText)).withLimits({ depth: Number(depth), nodes: Number(nodes) });
   const format = formatOf(decoder.decode(bytesOfHex(formatText)));
+  if (call === 'part_named') return partNamed(registry, format, bytesOfHex(others[0]), others.slice(1));
   const withWord = { explain: pieces, text_place: textPlace, stop_place: stopPlace }[call];
   if (withWord !== undefined) return withWord(registry, format, bytesOfHex(others[0]), others[1]);
   return CALLS[call](registry, format, ...others.map(bytesOfHex));

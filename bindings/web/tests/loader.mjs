@@ -42,7 +42,7 @@ test('the module imports nothing, and has the proved calls alone', () => {
   assert.deepEqual(WebAssembly.Module.imports(module), []);
   const header = readFileSync(new URL('../../c/proved.h', import.meta.url), 'utf8');
   const calls = Array.from(header.matchAll(/^(?:bcs_answer|void) (bcs_c_\w+)\(/gm), (found) => found[1]);
-  assert.equal(calls.length, 34);
+  assert.equal(calls.length, 35);
   const exported = WebAssembly.Module.exports(module).map(({ name }) => name);
   assert.deepEqual(exported.sort(), [...calls, 'memory', 'take_memory', 'give_memory'].sort());
 });
@@ -198,6 +198,9 @@ test('refusals by kind, reason and place', () => {
   assert.throws(() => none.decode('"BOOL"', bytesOfHex('02')), refusal('bytes', 'BadBool', 0));
   assert.throws(() => none.scan('"STR"', bytesOfHex('8000')), refusal('bytes', 'LongForm', 0));
   assert.throws(() => none.part('"U8"', bytesOfHex('07'), 'a//b'), refusal('path', 'BadPath'));
+  assert.throws(() => none.partByName('"U8"', bytesOfHex('07'), 'a'), refusal('path', 'BadPath'));
+  assert.throws(() => none.partByPointer('"U8"', bytesOfHex('07'), '/~2'), refusal('path', 'BadPath'));
+  assert.throws(() => none.partByName('"BOOL"', bytesOfHex('02'), '.'), refusal('bytes', 'BadBool', 0));
   assert.throws(() => none.withLimits({ depth: 501 }).encodeText('"U8"', '7'), refusal('limits', 'the depth is above 500'));
   assert.throws(() => shapes.withLimits({ depth: 1 }).decode('Chain', bytesOfHex('0100')), refusal('bytes', 'TooDeep', 1));
   const many = none.withLimits({ nodes: 1000 });
@@ -278,9 +281,9 @@ test('where something is refused, and what was wanted there', () => {
   const registry = bcs.registry('{"Point":{"STRUCT":[{"x":"U8"},{"~/":{"SEQ":"BYTES"}}]}}');
   const wanted = 'wanted a whole number from 0 to 255 (U8)';
   assert.throws(() => registry.encode('Point', { x: 1, '~/': ['', '0'] }), told('/~0~1/1', 'an odd number of digits'));
-  assert.throws(() => registry.encode('Point', { x: 256, '~/': [] }), told('/x', wanted));
+  assert.throws(() => registry.encode('Point', { x: 256, '~/': [] }), told('/x', `found 256, ${wanted}`));
   assert.throws(() => registry.normalise('Point', '{"x":1}'), told('', 'no member is called ~/'));
-  assert.throws(() => registry.equal('Point', '{"x":1,"~/":[]}', '{"x":"","~/":[]}'), told('/x', wanted));
+  assert.throws(() => registry.equal('Point', '{"x":1,"~/":[]}', '{"x":"","~/":[]}'), told('/x', `found "", ${wanted}`));
   assert.throws(() => registry.decode('Point', [7, 1, 2, 5]), told('.~/[0]', 'wanted 2 bytes of BYTES'));
   assert.throws(() => registry.scan('Point', [7, 1, 2, 5]), told('.~/[0]', 'wanted 2 bytes of BYTES'));
   assert.throws(() => registry.part('Point', [7, 1, 2, 5], '.'), told('.~/[0]', 'wanted 2 bytes of BYTES'));
@@ -297,7 +300,7 @@ test('where something is refused, and what was wanted there', () => {
   });
   assert.throws(() => bcs.registry('{"S":{"STRUCT":[{"side":{"TYPENAME":"Sid"}}]}}'), told('S, field side', 'no container is called Sid'));
   assert.throws(() => bcs.grows('{}', '{"S":7}'), told('/S', 'wanted a container'));
-  assert.throws(() => registry.encode('Point', { x: 256, '~/': [] }), { message: `text refused: BadNumber at /x: ${wanted}` });
+  assert.throws(() => registry.encode('Point', { x: 256, '~/': [] }), { message: `text refused: BadNumber at /x: found 256, ${wanted}` });
   assert.throws(() => registry.encode('Point', 7), { message: 'value refused: WrongType at the whole value: Point takes an object, not number' });
   assert.throws(() => registry.encodeText('Point', '7'), { message: /^text refused: BadShape at the whole text: wanted an object/ });
   assert.throws(() => registry.decode('Point', []), { message: 'bytes refused: EndOfInput at 0, .x: wanted U8' });
@@ -426,6 +429,10 @@ test('scans, parts and pieces', () => {
   const map = '{"MAP":{"KEY":"U16","VALUE":"BOOL"}}';
   assert.deepEqual(none.part(map, bytesOfHex('02000100010001'), 'key:0100'), { place: 6, bytes: Uint8Array.of(1) });
   assert.equal(none.part(map, bytesOfHex('02000100010001'), 'key:0101'), undefined);
+  assert.deepEqual(none.partByName(map, bytesOfHex('02000100010001'), '[key:0100]'), { place: 6, bytes: Uint8Array.of(1) });
+  assert.equal(none.partByName(map, bytesOfHex('02000100010001'), '[key:0101]'), undefined);
+  assert.deepEqual(none.partByPointer(map, bytesOfHex('02000100010001'), '/1/1'), { place: 6, bytes: Uint8Array.of(1) });
+  assert.equal(none.partByPointer(map, bytesOfHex('02000100010001'), '/1/0'), undefined);
   assert.deepEqual(shapes.explain({ SEQ: { TYPENAME: 'Shape' } }, bytesOfHex('02020500')), [
     { bytes: '02', kind: 'length', name: '.', path: '.', place: 0, value: 2, what: 'SEQ' },
     { bytes: '02', kind: 'variant', name: '[0]', path: '0/inner', place: 1, value: 2, what: 'Shape::Circle' },

@@ -287,9 +287,9 @@ test('hostile names in the place of a refusal, and in its words, are text', asyn
   for (const [value, told] of [
     [{ [SCRIPT]: { [`<b>${IMAGE}/`]: 7, 'a\u202eb': true } }, `At /<script>alert(4)<~1script>/<b>${IMAGE}~1: wanted BOOL, true or false.`],
     [{ [SCRIPT]: { 'a\u202eb': true } }, `At /<script>alert(4)<~1script>: no member is called <b>${IMAGE}/.`],
-    [{ [SCRIPT]: { [`<b>${IMAGE}/`]: true, 'a\u202eb': true, [IMAGE]: 0 } }, `no field is called ${IMAGE}.`],
+    [{ [SCRIPT]: { [`<b>${IMAGE}/`]: true, 'a\u202eb': true, [IMAGE]: 0 } }, `no field is called ${IMAGE}; nearest: <b>${IMAGE}/.`],
     [{ [SCRIPT]: { [`<b>${IMAGE}/`]: true, 'a\u202eb': 7 } }, 'At /<script>alert(4)<~1script>/a\\u{202e}b: wanted'],
-    [IMAGE, `no variant is called ${IMAGE}.`],
+    [IMAGE, `no variant is called ${IMAGE}; variants: ${SCRIPT}.`],
     [SCRIPT, `wanted an object with the one member ${SCRIPT}.`],
   ]) {
     await replace(page, 'text', JSON.stringify(value));
@@ -301,7 +301,7 @@ test('hostile names in the place of a refusal, and in its words, are text', asyn
   await isToldAsText(page, 'tree', SCRIPT);
   for (const [registry, told] of [
     [{ [IMAGE]: { STRUCT: [{ [SCRIPT]: 'U9' }] } }, `at /${IMAGE}/STRUCT/0/<script>alert(4)<~1script>, wanted a format`],
-    [{ [IMAGE]: { STRUCT: [{ [SCRIPT]: { TYPENAME: `<b>${IMAGE}` } }] } }, `at ${IMAGE}, field ${SCRIPT}, no container is called <b>${IMAGE}`],
+    [{ [IMAGE]: { STRUCT: [{ [SCRIPT]: { TYPENAME: `<b>${IMAGE}` } }] } }, `at ${IMAGE}, field ${SCRIPT}, no container is called <b>${IMAGE}; nearest: ${IMAGE}`],
     [{ [SCRIPT]: { STRUCT: [{ [IMAGE]: 'U8' }, { [IMAGE]: 'U8' }] } }, `at ${SCRIPT}, two fields are called ${IMAGE}`],
   ]) {
     await replace(page, 'registry', JSON.stringify(registry));
@@ -519,6 +519,6 @@ test('no two buttons have one name, and a piece leads to the command part', asyn
   await page.ask("Object.defineProperty(navigator, 'clipboard', { value: { writeText: async (text) => { globalThis.taken = text; } } })");
   await page.ask("document.getElementById('part').click()");
   await page.until('globalThis.taken');
-  assert.match(await page.ask('globalThis.taken'), /^bcs part registry\.json 'RawTransaction' '[a-z0-9\/]+' value\.hex$/);
+  assert.match(await page.ask('globalThis.taken'), /^bcs part --name '\.[a-z_]+' registry\.json 'RawTransaction' value\.hex$/);
   await isQuiet(page);
 });

@@ -92,6 +92,7 @@ const CALLS = {
   decodeText: [(format, bytes) => registry.decodeText(format, bytes), JSON_TEXT, BYTES],
   scan: [(format, bytes) => registry.scan(format, bytes), 4, BYTES],
   part: [(format, bytes) => registry.part(format, bytes, '0'), { place: 0, bytes: Uint8Array.from(BYTES) }, BYTES],
+  partByName: [(format, bytes) => registry.partByName(format, bytes, '[0]'), { place: 0, bytes: Uint8Array.from(BYTES) }, BYTES],
   explain: [(format, bytes) => registry.explain(format, bytes).map(({ bytes: digits, end }) => digits ?? end), ['03', '6f6e65', 4], BYTES],
   explainText: [(format, bytes) => registry.explainText(format, bytes, 'json').split('\n').length, 4, BYTES],
   check: [(format) => registry.check(format), undefined],

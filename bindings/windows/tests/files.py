@@ -88,7 +88,7 @@ def ask_long_names(program: Program, room: str) -> None:
 
 def ask_devices(program: Program) -> None:
     """And what isn't a name."""
-    not_json = "at line 1, column 0: NotJson: serde_json stops reading there\n"
+    not_json = "at line 1, column 0: NotJson: the text stops being JSON there\n"
     program.gives(2, "refused: NotJson\n", not_json, "check", "NUL")
     program.gives(0, "ok 0\n", "", "scan", "--raw", "{}", '"UNIT"', "NUL")
     for name in "a<b", "a|b", "a?", "*":
@@ -106,6 +106,25 @@ def ask_bytes(program: Program) -> None:
     write("input", "[1]\r\n\x1a\r\n[3]\n")
     counts = "lines with status 0: 2, with status 1: 0, with status 2: 1\n"
     program.gives(2, "0101\nrefused: NotJson\n0103\n", counts, "encode", "--lines", "{}", LIST)
+
+
+def ask_outputs(program: Program) -> None:
+    """A file is created, or emptied and written, and left alone if the status isn't 0."""
+    job = ["encode", "--raw", "{}", LIST]
+    write("é.bytes", "an older answer")
+    for name in "new.bytes", "é.bytes":
+        write("input", "[13,10,26]")
+        program.gives(0, "", "", *job, "-o", name)
+        write("input", "[256]")
+        program.gives(2, "", "refused: BadNumber\n", *job, "--quiet", f"--output={name}")
+        found = pathlib.Path(name).read_bytes()
+        if found != b"\3\r\n\x1a":
+            fail(f"{name} has {found!r}")
+    write("input", "[]")
+    missing = "fault: write\nin the file no\\\\x: No such file or directory\n"
+    program.gives(4, "", missing, *job, "-o", "no\\x")
+    program.gives(4, "", "fault: write\nin the file .: Permission denied\n", *job, "-o", ".")
+    program.gives(0, "", "", *job, "-o", "NUL")
 
 
 def ask_megabytes(program: Program) -> None:
@@ -155,7 +174,7 @@ def main() -> None:
         write("input", "")
         ask_names(program)
         ask_long_names(program, room)
-        for ask in ask_devices, ask_bytes, ask_megabytes, ask_depth, ask_rest:
+        for ask in ask_devices, ask_bytes, ask_outputs, ask_megabytes, ask_depth, ask_rest:
             ask(program)
         os.chdir("/")
     print(f"{program.count} answers")

@@ -133,7 +133,7 @@ static void streams_are_missing(void) {
 }
 
 static void devices(void) {
-    answers(L"encode {} \\\"U8\\\" NUL", "7", 1, 2, "refused: NotJson\n", "at line 1, column 0: NotJson: serde_json stops reading there\n");
+    answers(L"encode {} \\\"U8\\\" NUL", "7", 1, 2, "refused: NotJson\n", "at line 1, column 0: NotJson: the text stops being JSON there\n");
     answers(L"scan --raw {} \\\"UNIT\\\" NUL", "7", 1, 0, "ok 0\n", "");
 }
 

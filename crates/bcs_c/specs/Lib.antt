@@ -11,6 +11,7 @@ pub mod Compared
 pub mod Shown
 pub mod Scanned
 pub mod Parts
+pub mod NamedParts
 pub mod Explained
 pub mod Named
 pub mod Holding

@@ -13,6 +13,7 @@ mod halves;
 mod handle;
 mod handles;
 mod known;
+mod named_parts;
 mod naming;
 mod numbered;
 mod open_registry;

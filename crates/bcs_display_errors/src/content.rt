@@ -1,9 +1,9 @@
-//! What stands in a container or a variant.
+//! The contents of a container or a variant.
 
 use bcs_registry::{Container, Format, Named, Registry, VariantFormat};
 use std::collections::BTreeMap;
 
-/// What stands in a container, or what a variant of one carries.
+/// The contents of a container, or the payload of a variant.
 #[derive(Clone, Copy)]
 pub(crate) enum Content<'a> {
     Unit,
@@ -21,7 +21,7 @@ pub(crate) struct Enum<'a> {
 }
 
 impl<'a> Enum<'a> {
-    /// What the variant of this name carries. The registry finds its number without a walk over all variants.
+    /// The payload of the variant of this name. The registry looks up its number without going over all variants.
     pub(crate) fn payload(self, registry: &Registry, word: &str) -> Option<&'a VariantFormat> {
         let number = registry.variant_number(self.name, word)?;
         let variant = self.variants.get(&number)?;
@@ -30,7 +30,7 @@ impl<'a> Enum<'a> {
 }
 
 impl<'a> Content<'a> {
-    /// What the container of this name holds.
+    /// The contents of the container of this name.
     pub(crate) fn of(name: &'a str, container: &'a Container) -> Content<'a> {
         match container {
             Container::UnitStruct => Content::Unit,

@@ -1,11 +1,11 @@
-//! Texts that are no hexadecimal digits.
+//! Text that isn't hexadecimal digits.
 
 use crate::wrong_text::WrongText;
 
-/// What is said of `0x`, which people write before digits.
+/// The message about `0x`, which people write before digits.
 pub(crate) const PREFIX: &str = "0x isn't part of hexadecimal digits here";
 
-/// What is wrong with hexadecimal digits. `None`: nothing is.
+/// What is wrong with hexadecimal digits. `None`: nothing.
 pub fn wrong_digits(text: &[u8]) -> Option<WrongText> {
     if has_prefix(text) {
         return Some(WrongText {

@@ -1,23 +1,27 @@
-//! What was wanted of JSON.
+//! What was expected in JSON.
 
+use crate::hints::Hint;
 use crate::names::Name;
+use crate::number_hints::FoundNumber;
 use bcs_registry_model::{IntegerKind, Scalar};
 use std::fmt;
 
-/// What was wanted of JSON where it is refused, or what is wrong there.
+/// What was expected where JSON is refused, or what is wrong there.
 #[derive(Clone, Copy)]
 pub(crate) enum Expected<'a> {
-    /// These words.
+    /// A fixed message.
     Words(&'static str),
-    /// A whole number of these.
-    Whole(IntegerKind),
-    /// Another format than that of this word.
+    /// A whole number in the range of this integer, and not the number that was found.
+    Whole(IntegerKind, FoundNumber<'a>),
+    /// Nothing: values of this format aren't supported.
     Unsupported(&'static str),
-    /// Words, and the name that they are about.
+    /// A message, and the name that it is about.
     Named(&'static str, Name<'a>),
-    /// What the words say, of so many parts.
+    /// The same, with a hint at what was probably meant.
+    Hinted(&'static str, Name<'a>, Hint<'a>),
+    /// A message about this number of parts.
     Parts(&'static str, Count),
-    /// So many parts, where there are as many as the number says.
+    /// This number of parts, where the document has the other number of them.
     Other(Count, u64),
 }
 
@@ -25,7 +29,7 @@ pub(crate) enum Expected<'a> {
 #[derive(Clone, Copy)]
 pub(crate) struct Count {
     pub(crate) number: u64,
-    /// What one is called.
+    /// What one part is called.
     pub(crate) part: &'static str,
 }
 
@@ -33,16 +37,20 @@ impl fmt::Display for Expected<'_> {
     fn fmt<W: fmt::Write>(&self, f: &mut fmt::Formatter<W>) -> fmt::Result {
         match self {
             Expected::Words(words) => f.write_str(words),
-            Expected::Whole(number) => write_whole(*number, f),
+            Expected::Whole(number, found) => {
+                write!(f, "{found}")?;
+                write_whole(*number, f)
+            }
             Expected::Unsupported(word) => write!(f, "no value of {word} is supported"),
             Expected::Named(words, name) => write!(f, "{words} {name}"),
+            Expected::Hinted(words, name, hint) => write!(f, "{words} {name}{hint}"),
             Expected::Parts(words, count) => write!(f, "{words} {count}"),
             Expected::Other(count, found) => write!(f, "wanted {count}, found {found}"),
         }
     }
 }
 
-// That a whole number of these was wanted, from the least to the greatest.
+// Writes the range of the integer.
 fn write_whole<W: fmt::Write>(number: IntegerKind, f: &mut fmt::Formatter<W>) -> fmt::Result {
     let word = Scalar::Whole(number).word();
     match number {

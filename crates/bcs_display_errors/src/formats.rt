@@ -1,5 +1,6 @@
-//! A format, or NAME of `show`, that names no container.
+//! FORMAT, or NAME of `show`, with a name that no container has.
 
+use crate::container_hints::container_hint;
 use crate::names::Name;
 use bcs_registry::{Registry, RegistryFault};
 use bcs_registry_json::format_text::format_from;
@@ -7,8 +8,8 @@ use bcs_registry_json::json_text::registry_json;
 use bcs_registry_model::known::first_unknown;
 use std::alloc::Global;
 
-/// That no container of a registry has the word FORMAT for its name. `None`: one has. It may be meant as a format
-/// without a name, such as `U64`, so the line says how that is written.
+/// The line for a FORMAT that isn't JSON, if no container has this name. It may be meant as a format without a name, such
+/// as `U64`, so the line says how to write that.
 pub fn place_of_word(
     alloc: Global,
     text: &[u8],
@@ -18,14 +19,17 @@ pub fn place_of_word(
     if registry.container(word).is_some() {
         return Ok(None);
     }
-    let name = Name::of(word);
+    let (name, hint) = (
+        Name::of(word),
+        container_hint(alloc, registry.containers(), word)?,
+    );
     let line = format!(in alloc;
-        "at FORMAT: UnknownName: no container is called {name}; a format without a name is written as JSON, as '\"U64\"'"
+        "at FORMAT: UnknownName: no container is called {name}; a format without a name is written as JSON, as '\"U64\"'{hint}"
     )?;
     Ok(Some(line.into_bytes()))
 }
 
-/// That no container of a registry has the NAME that was asked for. `None`: one has.
+/// The line for the NAME of `show`, if no container has this name.
 pub fn place_of_container(
     alloc: Global,
     text: &[u8],
@@ -35,12 +39,13 @@ pub fn place_of_container(
     if registry.container(name).is_some() {
         return Ok(None);
     }
+    let hint = container_hint(alloc, registry.containers(), name)?;
     let name = Name::of(name);
-    let line = format!(in alloc; "at NAME: UnknownName: no container is called {name}")?;
+    let line = format!(in alloc; "at NAME: UnknownName: no container is called {name}{hint}")?;
     Ok(Some(line.into_bytes()))
 }
 
-/// The first name in a format's JSON that no container of a registry has. `None`: there is none.
+/// The line for the first name in a format's JSON that no container has, if there is one.
 pub fn place_of_name(
     alloc: Global,
     text: &[u8],
@@ -52,7 +57,8 @@ pub fn place_of_name(
     let Some(name) = first_unknown(&format, registry.containers()) else {
         return Ok(None);
     };
+    let hint = container_hint(alloc, registry.containers(), name)?;
     let name = Name::of(name);
-    let line = format!(in alloc; "at FORMAT: UnknownName: no container is called {name}")?;
+    let line = format!(in alloc; "at FORMAT: UnknownName: no container is called {name}{hint}")?;
     Ok(Some(line.into_bytes()))
 }

@@ -1,4 +1,4 @@
-//! Where a newer registry stops having what an older one has.
+//! Where a newer registry lacks or changes something of an older one.
 
 use crate::names::Name;
 use crate::owners::Owner;
@@ -7,8 +7,7 @@ use bcs_registry::{Container, GrowthFault};
 use std::alloc::{AllocError, Global};
 use std::collections::BTreeMap;
 
-/// Where a newer registry hasn't what an older one has, and what it has there: the first difference that is no
-/// addition. `None`: it has all of it.
+/// The line for the first container or variant that the newer registry lacks or changes. `None`: it only adds some.
 pub fn place_of_growth(
     alloc: Global,
     older: &BTreeMap<String, Container>,

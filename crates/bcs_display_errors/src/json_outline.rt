@@ -5,10 +5,18 @@ use json::{Scratch, Value};
 use serde_json::{Map, Value as Json};
 use std::alloc::{AllocError, Global};
 
-/// The JSON to which the steps lead, with `null` in place of each item and each member. It is parsed by `json`, which
-/// borrows from the document and so takes a fifth of the time of `serde_json`. `None`: nothing is there, or an allocation
-/// failed.
-pub(crate) fn json_outline(alloc: Global, text: &[u8], steps: &[JsonStep]) -> Option<Json> {
+/// A JSON value without what is inside it.
+#[derive(Drop)]
+pub(crate) struct Outline {
+    /// The value, with `null` in place of each item and each member.
+    pub(crate) json: Json,
+    /// How the document writes the value, if it is a number. A large one has more digits here than in `json`.
+    pub(crate) digits: String,
+}
+
+/// The JSON at the end of the steps. The document is parsed by `json`, which borrows from it, and so takes a fifth of
+/// the time of `serde_json`. `None`: nothing is there, or an allocation failed.
+pub(crate) fn json_outline(alloc: Global, text: &[u8], steps: &[JsonStep]) -> Option<Outline> {
     let text = str::from_utf8(text).ok()?;
     let mut scratch = Scratch::new(alloc);
     let whole = Value::parse(alloc, text, &mut scratch).ok()?;
@@ -19,6 +27,18 @@ pub(crate) fn json_outline(alloc: Global, text: &[u8], steps: &[JsonStep]) -> Op
             JsonStep::Member(name) => part.get(name.as_str())?,
         };
     }
+    let digits = match part {
+        Value::Number(digits) => digits,
+        _ => "",
+    };
+    Some(Outline {
+        json: without_parts(alloc, part)?,
+        digits: String::from_str(alloc, digits).ok()?,
+    })
+}
+
+// The value, with `null` in place of each item and each member.
+fn without_parts(alloc: Global, part: &Value<'_>) -> Option<Json> {
     match part {
         Value::Null => Some(Json::Null),
         Value::Bool(truth) => Some(Json::Bool(*truth)),

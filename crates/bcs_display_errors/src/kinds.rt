@@ -1,37 +1,45 @@
-//! What is wanted of JSON where a value of a format is to stand.
+//! What was expected in JSON where a value of a format belongs.
 
 use crate::content::{Content, Enum};
 use crate::digits::wrong_digits;
 use crate::expectations::{Count, Expected};
+use crate::field_hints::{missing_hint, unknown_hint};
+use crate::json_outline::Outline;
 use crate::names::Name;
+use crate::number_hints::FoundNumber;
 use crate::targets::Target;
+use crate::variant_hints::variant_hint;
 use bcs_registry::{Format, Named, Registry, VariantFormat};
 use bcs_registry_model::{Kind, Scalar};
 use serde_json::{Map, Value as Json};
 use std::alloc::{AllocError, Global};
 use std::collections::BTreeSet;
 
-/// What is wanted, or what is wrong. `None`: the JSON is of the kind that it is to be, so only a part of it is refused.
+/// What was expected, or what is wrong. `None`: the JSON is of the expected kind, so only a part of it is refused.
 pub(crate) fn expectation<'a>(
     alloc: Global,
     registry: &Registry,
     target: Target<'a>,
-    json: &'a Json,
+    outline: &'a Outline,
 ) -> Result<Option<Expected<'a>>, AllocError> {
+    let json = &outline.json;
     let expectation = match target {
         Target::Content(Content::Unit) => Some(Expected::Words("wanted null")),
-        Target::Content(Content::One(format)) => format_expectation(format, json),
+        Target::Content(Content::One(format)) => format_expectation(format, outline),
         Target::Content(Content::Row(formats)) => row_expectation(formats.len() as u64, json),
         Target::Content(Content::Fields(fields)) => struct_expectation(alloc, fields, json)?,
-        Target::Content(Content::Variants(choices)) => enum_expectation(registry, choices, json),
+        Target::Content(Content::Variants(choices)) => {
+            enum_expectation(alloc, registry, choices, json)?
+        }
         Target::Entry(_, _) => entry_expectation(json),
     };
     Ok(expectation)
 }
 
-fn format_expectation<'a>(format: &Format, json: &'a Json) -> Option<Expected<'a>> {
+fn format_expectation<'a>(format: &Format, outline: &'a Outline) -> Option<Expected<'a>> {
+    let json = &outline.json;
     match format.kind() {
-        Kind::Scalar(scalar) => scalar_expectation(scalar, json),
+        Kind::Scalar(scalar) => scalar_expectation(scalar, outline),
         Kind::TypeName(_) => None,
         Kind::Opt(_) => option_expectation(json),
         Kind::Seq(element) => list_expectation(element, json),
@@ -41,14 +49,14 @@ fn format_expectation<'a>(format: &Format, json: &'a Json) -> Option<Expected<'a
     }
 }
 
-fn scalar_expectation<'a>(scalar: Scalar, json: &'a Json) -> Option<Expected<'a>> {
+fn scalar_expectation<'a>(scalar: Scalar, outline: &'a Outline) -> Option<Expected<'a>> {
     let expectation = match scalar {
         Scalar::Unit => Expected::Words("wanted null"),
         Scalar::Bool => Expected::Words("wanted BOOL, true or false"),
-        Scalar::Whole(number) => Expected::Whole(number),
+        Scalar::Whole(number) => Expected::Whole(number, FoundNumber::of(outline)),
         Scalar::Unsupported(_) => Expected::Unsupported(scalar.word()),
         Scalar::Str => Expected::Words("wanted STR, a string"),
-        Scalar::Bytes => return bytes_expectation(json),
+        Scalar::Bytes => return bytes_expectation(&outline.json),
     };
     Some(expectation)
 }
@@ -162,57 +170,88 @@ fn struct_expectation<'a>(
     let Json::Object(members) = json else {
         return Ok(Some(Expected::Words("wanted an object with a member for each field")));
     };
-    for field in fields {
-        if !members.contains_key(field.name.as_str()) {
-            return Ok(Some(Expected::Named("no member is called", Name::of(field.name.as_str()))));
-        }
+    let names = names_of(alloc, fields)?;
+    match missing_field(alloc, fields, &names, members)? {
+        Some(missing) => Ok(Some(missing)),
+        None => unknown_field(alloc, fields, &names, members),
     }
-    unknown_field(alloc, fields, members)
 }
 
-// The first member that is no field. The names of the fields are collected first, so that each member is looked up in
-// them once, and not compared with all of them.
-fn unknown_field<'a>(
+// The names of the fields, so that each member is looked up once, and not compared with all of them.
+fn names_of<'a>(
     alloc: Global,
-    fields: &[Named<Format>],
-    members: &'a Map<String, Json>,
-) -> Result<Option<Expected<'a>>, AllocError> {
+    fields: &'a [Named<Format>],
+) -> Result<BTreeSet<&'a str>, AllocError> {
     let mut names = BTreeSet::new(alloc);
     for field in fields {
         names.insert(field.name.as_str())?;
     }
+    Ok(names)
+}
+
+// The first field that no member has.
+fn missing_field<'a>(
+    alloc: Global,
+    fields: &'a [Named<Format>],
+    names: &BTreeSet<&'a str>,
+    members: &'a Map<String, Json>,
+) -> Result<Option<Expected<'a>>, AllocError> {
+    for field in fields {
+        let name = field.name.as_str();
+        if !members.contains_key(name) {
+            let hint = missing_hint(alloc, names, members, name)?;
+            return Ok(Some(Expected::Hinted("no member is called", Name::of(name), hint)));
+        }
+    }
+    Ok(None)
+}
+
+// The first member that is no field.
+fn unknown_field<'a>(
+    alloc: Global,
+    fields: &'a [Named<Format>],
+    names: &BTreeSet<&'a str>,
+    members: &'a Map<String, Json>,
+) -> Result<Option<Expected<'a>>, AllocError> {
     for (name, _) in members {
-        if !names.contains(&name.as_str()) {
-            return Ok(Some(Expected::Named("no field is called", Name::of(name.as_str()))));
+        let name = name.as_str();
+        if !names.contains(&name) {
+            let hint = unknown_hint(alloc, fields, name)?;
+            return Ok(Some(Expected::Hinted("no field is called", Name::of(name), hint)));
         }
     }
     Ok(None)
 }
 
 fn enum_expectation<'a>(
+    alloc: Global,
     registry: &Registry,
     choices: Enum<'a>,
     json: &'a Json,
-) -> Option<Expected<'a>> {
+) -> Result<Option<Expected<'a>>, AllocError> {
     let name = match json {
         Json::String(word) => Some(word.as_str()),
         Json::Object(members) => only_name(members),
         _ => None,
     };
     let Some(name) = name else {
-        return Some(Expected::Words(
+        return Ok(Some(Expected::Words(
             "wanted a variant, its name or an object with one member of that name",
-        ));
+        )));
     };
-    match choices.payload(registry, name) {
-        None => Some(Expected::Named("no variant is called", Name::of(name))),
-        Some(VariantFormat::Unit) => None,
-        Some(_) if json.is_object() => None,
-        Some(_) => Some(Expected::Named("wanted an object with the one member", Name::of(name))),
-    }
+    let expected = match choices.payload(registry, name) {
+        None => {
+            let hint = variant_hint(alloc, choices.variants, name)?;
+            Expected::Hinted("no variant is called", Name::of(name), hint)
+        }
+        Some(VariantFormat::Unit) => return Ok(None),
+        Some(_) if json.is_object() => return Ok(None),
+        Some(_) => Expected::Named("wanted an object with the one member", Name::of(name)),
+    };
+    Ok(Some(expected))
 }
 
-// The name of the one member. `None`: there is none, or there are more.
+// The name of the only member. `None`: there is no member, or more than one.
 fn only_name<'a>(members: &'a Map<String, Json>) -> Option<&'a str> {
     let mut entries = members.iter();
     let (name, _) = entries.next()?;

@@ -1,17 +1,22 @@
-//! Where texts and words are refused, in a line for people: a registry that hasn't the shape or breaks a rule, one that
-//! didn't grow, FORMAT, NAME, PATH, and the JSON text of a value.
+//! Lines that tell people where something is refused, and what was expected there: a registry with a wrong shape or a
+//! broken rule, one that doesn't extend an older one, FORMAT, NAME, PATH, and the JSON document of a value.
 #![tactic(auto)]
 
+mod container_hints;
 mod content;
 mod digits;
 mod expectations;
+mod field_hints;
 mod formats;
 mod growth;
+mod hints;
 mod json_outline;
 mod kinds;
 mod limits;
 mod names;
+mod nearest;
 mod no_json;
+mod number_hints;
 mod owners;
 mod paths;
 mod pointers;
@@ -21,6 +26,8 @@ mod shape_parts;
 mod shapes;
 mod targets;
 mod texts;
+mod variant_hints;
+mod variant_list;
 mod wholes;
 mod wrong_text;
 
@@ -30,4 +37,5 @@ pub use growth::place_of_growth;
 pub use limits::{put_limit, put_text_limit};
 pub use paths::place_of_path;
 pub use refusals::{format_line, input_line, line_in, refusal_line, registry_line};
+pub use variant_hints::place_of_variant;
 pub use wrong_text::WrongText;

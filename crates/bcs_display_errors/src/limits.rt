@@ -1,11 +1,11 @@
-//! Which limit a value goes beyond.
+//! The limit that a value exceeds.
 
 use bcs_decode_spec::Reason;
 use bcs_json::JsonFault;
 use bcs_value::Limits;
 use std::alloc::AllocError;
 
-/// Appends the option and the limit, where bytes stop for one; else nothing.
+/// Appends the option and the limit, if bytes stop because they exceed one.
 pub fn put_limit(limits: &Limits, reason: Reason, out: &mut Vec<u8>) -> Result<(), AllocError> {
     match reason {
         Reason::TooDeep => put_allowed("--depth", limits.depth(), out),
@@ -14,7 +14,7 @@ pub fn put_limit(limits: &Limits, reason: Reason, out: &mut Vec<u8>) -> Result<(
     }
 }
 
-/// The same where a JSON text is refused for a limit, and where that has a place in it.
+/// The same for a JSON document that is refused at a place in it. If it is refused as a whole, its line has the limit.
 pub fn put_text_limit(
     limits: &Limits,
     fault: JsonFault,

@@ -1,20 +1,20 @@
-//! Names in lines.
+//! Names, as lines show them.
 
 use std::fmt;
 use std::fmt::InlineText;
 
-// How much of a name stands in a line, in signs of ASCII.
+// The number of ASCII characters that a line shows of a name.
 const LONGEST: usize = 200;
 
-// The signs of a character of two units.
+// The length of the escapes for a character of two UTF-16 units.
 const PAIR: usize = 12;
 
-/// A name as it stands in a line: escaped as in JSON, in ASCII, so that no byte of it reaches a terminal as it is. Of a
-/// long one as many whole characters as have room stand there, and that it is cut.
+/// A name, as a line shows it: in ASCII with JSON escapes, so that none of its bytes reaches a terminal unescaped. Of a
+/// long name, the line shows the whole characters that fit, followed by `...(cut)`.
 #[derive(Clone, Copy)]
 pub(crate) struct Name<'a> {
     text: &'a str,
-    // Whether it is a part of a JSON Pointer (RFC 6901), in which `~` and `/` are marked.
+    // Whether it is part of a JSON Pointer (RFC 6901), where `~0` stands for `~`, and `~1` for `/`.
     in_pointer: bool,
 }
 
@@ -58,7 +58,7 @@ impl fmt::Display for Name<'_> {
     }
 }
 
-// What stands for a unit between the quotes of a JSON string.
+// How a JSON string spells a UTF-16 unit.
 fn escaped(unit: u16) -> InlineText<6> {
     match u8::try_from(unit) {
         Ok(byte @ (b'"' | b'\\')) => InlineText::of(format_args!("\\{}", char::from(byte))),

@@ -3,13 +3,13 @@
 use serde_json::{Category, Value};
 use std::alloc::Global;
 
-/// How many lines of comments are passed over, at most.
+/// The number of comment lines that are skipped at most.
 const COMMENTS: usize = 100;
 
 const YAML: &str = "; it looks like YAML, and docs/REGISTRIES.md says how it becomes JSON";
 
-/// Where a registry's text stops being JSON, by the line and the column that `serde_json` tells. Chains keep registries as
-/// YAML, so of a text that begins as such it says what is to be done.
+/// The line for a registry that isn't JSON, with the line and the column that `serde_json` reports. Chains keep registries
+/// as YAML, so for text that begins like YAML, it says what to do.
 pub fn place_of_no_json(alloc: Global, text: &[u8]) -> Option<Vec<u8>> {
     let mut line = stop_line(alloc, "at", text)?;
     if begins_as_yaml(text) {
@@ -18,7 +18,7 @@ pub fn place_of_no_json(alloc: Global, text: &[u8]) -> Option<Vec<u8>> {
     Some(line)
 }
 
-// With three dashes, or with a name and a colon, behind lines of comments.
+// Whether the text begins with three dashes, or with a name and a colon, after any comment lines.
 fn begins_as_yaml(text: &[u8]) -> bool {
     let text = without_comments(text);
     let name = text.iter().position(|byte| !is_in_name(*byte)).unwrap_or(0);
@@ -44,12 +44,12 @@ fn is_in_name(byte: u8) -> bool {
     byte.is_ascii_alphanumeric() || byte == b'_'
 }
 
-/// The same of the word FORMAT.
+/// The same for FORMAT.
 pub fn place_of_no_format_json(alloc: Global, word: &str) -> Option<Vec<u8>> {
     stop_line(alloc, "at FORMAT,", word.as_bytes())
 }
 
-/// Where `serde_json` stops reading the text, behind this front.
+/// The line for text that isn't JSON, starting with this prefix. `None`: it is JSON, or an allocation failed.
 pub(crate) fn stop_line(alloc: Global, front: &str, text: &[u8]) -> Option<Vec<u8>> {
     let error = Value::from_slice(alloc, text).err()?;
     if error.classify() == Category::Memory {
@@ -57,7 +57,7 @@ pub(crate) fn stop_line(alloc: Global, front: &str, text: &[u8]) -> Option<Vec<u
     }
     let (line, column) = (error.line(), error.column());
     let told = format!(in alloc;
-        "{front} line {line}, column {column}: NotJson: serde_json stops reading there"
+        "{front} line {line}, column {column}: NotJson: the text stops being JSON there"
     );
     Some(told.ok()?.into_bytes())
 }

@@ -1,4 +1,4 @@
-//! What has formats in a registry, and where in it one stands.
+//! The containers and variants that have formats, and the position of a format in one.
 
 use crate::names::Name;
 use std::fmt;
@@ -8,7 +8,7 @@ use std::fmt;
 pub(crate) struct Owner<'a> {
     /// The container's name.
     pub(crate) container: &'a str,
-    /// Of an enum the variant's number and its name.
+    /// The number and the name of the variant, if it is one.
     pub(crate) variant: Option<(u32, &'a str)>,
 }
 
@@ -25,14 +25,14 @@ impl fmt::Display for Owner<'_> {
     }
 }
 
-/// Where a format stands in its owner.
+/// The position of a format in its owner.
 #[derive(Clone, Copy)]
 pub(crate) enum Slot<'a> {
-    /// It is all that the owner has.
+    /// It is the only one.
     Whole,
-    /// The one of this number in a tuple, from 0.
+    /// The element of a tuple with this index, from 0.
     Numbered(usize),
-    /// The one of the field of this name.
+    /// The format of the field of this name.
     Field(&'a str),
 }
 

@@ -1,10 +1,10 @@
-//! Where JSON stands in a text.
+//! Places in a JSON document.
 
 use crate::names::Name;
 use bcs_json::JsonStep;
 use std::fmt;
 
-/// The steps down to JSON, as a JSON Pointer (RFC 6901), or that it is the whole text.
+/// The steps to a JSON value. It is shown as a JSON Pointer (RFC 6901), or as `the whole text` if there are no steps.
 #[derive(Clone, Copy)]
 pub(crate) struct Pointer<'a>(pub(crate) &'a [JsonStep]);
 

@@ -28,7 +28,7 @@ pub fn registry_line(
     }
 }
 
-/// Where FORMAT has this fault, at a registry of this JSON.
+/// Where FORMAT has this fault, for the registry with this JSON.
 pub fn format_line(
     alloc: Global,
     registry: &[u8],

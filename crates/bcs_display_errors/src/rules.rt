@@ -1,5 +1,6 @@
 //! Where a registry breaks a rule.
 
+use crate::container_hints::container_hint;
 use crate::content::Content;
 use crate::names::Name;
 use crate::owners::{Owner, Slot};
@@ -10,9 +11,9 @@ use bcs_registry_model::levels::has_few_levels;
 use std::alloc::{AllocError, Global};
 use std::collections::{BTreeMap, BTreeSet};
 
-/// Where the containers that a registry's text writes down break a rule: the first one that is broken, in the order of
-/// the faults, and where it is broken first. `None`: they break none. Of a text that is no JSON or hasn't the shape it
-/// gives a fault, which needn't be the text's.
+/// The line for the first rule, in the order of the faults, that the containers in a registry's JSON break, and for the
+/// first place where they break it. `None`: they break none. Fails if the text isn't JSON or has a wrong shape, perhaps
+/// with another fault than the registry's.
 pub fn place_of_rule(alloc: Global, text: &[u8]) -> Result<Option<Vec<u8>>, RegistryFault> {
     let containers = containers_one_by_one(alloc, text)?;
     let mut search = Search::over(alloc, &containers);
@@ -22,7 +23,7 @@ pub fn place_of_rule(alloc: Global, text: &[u8]) -> Result<Option<Vec<u8>>, Regi
     Ok(search.first_line())
 }
 
-/// A search for the first place of each rule, through all containers once.
+/// A search for the first place where each rule is broken, in one pass over the containers.
 #[derive(Drop)]
 struct Search<'a> {
     alloc: Global,
@@ -98,7 +99,7 @@ impl<'a> Search<'a> {
         Ok(())
     }
 
-    // What an owner has that is no enum.
+    // Searches the contents of anything but an enum.
     fn content(&mut self, owner: Owner<'_>, content: Content<'_>) -> Result<(), AllocError> {
         match content {
             Content::Unit | Content::Variants(_) => Ok(()),
@@ -143,9 +144,10 @@ impl<'a> Search<'a> {
             return Ok(());
         }
         if let Some(name) = first_unknown(format, self.containers) {
+            let hint = container_hint(self.alloc, self.containers, name)?;
             let name = Name::of(name);
             self.unknown = Some(format!(in self.alloc;
-                "at {owner}{slot}: UnknownName: no container is called {name}"
+                "at {owner}{slot}: UnknownName: no container is called {name}{hint}"
             )?);
         }
         Ok(())

@@ -4,7 +4,7 @@ use bcs_registry_model::words::word_format;
 use serde_json::{Map, Number, Value};
 use std::fmt;
 
-/// What JSON is to be, as a registry or a format or inside of one.
+/// What a JSON value must be, as a registry or a format, or inside of one.
 #[derive(Clone, Copy, PartialEq, Eq)]
 pub(crate) enum Part {
     Registry,
@@ -13,7 +13,7 @@ pub(crate) enum Part {
     Field,
     Variants,
     Variant,
-    /// Whatever it is, its name among the variants of an enum should be a number.
+    /// Any value, if the name of its member is a variant number.
     VariantNumber,
     Payload,
     Format,
@@ -27,7 +27,7 @@ pub(crate) enum Part {
 }
 
 impl Part {
-    /// What each item of an array is to be. `None`: no array is wanted.
+    /// What each item of an array must be. `None`: an array isn't allowed.
     pub(crate) fn item(self) -> Option<Part> {
         match self {
             Part::Fields => Some(Part::Field),
@@ -36,7 +36,7 @@ impl Part {
         }
     }
 
-    /// What is to stand under a name in an object. `None`: nothing may.
+    /// What the member of this name must be. `None`: it isn't allowed.
     pub(crate) fn member(self, name: &str) -> Option<Part> {
         match (self, name) {
             (Part::Registry, _) => Some(Part::Container),
@@ -59,7 +59,7 @@ impl Part {
         }
     }
 
-    /// Whether an object has as many members as are wanted, with such names.
+    /// Whether an object has the right number of members, and each of their names is allowed.
     pub(crate) fn has_names(self, members: &Map<String, Value>) -> bool {
         let count = match self {
             Part::Registry | Part::Variants => return true,
@@ -69,7 +69,7 @@ impl Part {
         members.len() == count && members.iter().all(|(name, _)| self.member(name).is_some())
     }
 
-    /// Whether a JSON string is what is wanted.
+    /// Whether this JSON string is allowed.
     pub(crate) fn is_word(self, word: &str) -> bool {
         match self {
             Part::Container => word == "UNITSTRUCT",
@@ -80,7 +80,7 @@ impl Part {
         }
     }
 
-    /// Whether a JSON number is what is wanted; loosely, any will do where one is.
+    /// Whether this JSON number is allowed, or if `loose`, whether any number is.
     pub(crate) fn is_number(self, loose: bool, number: &Number) -> bool {
         self == Part::Size && (loose || number.as_u64().is_some())
     }

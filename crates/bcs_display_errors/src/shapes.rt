@@ -1,4 +1,4 @@
-//! Where JSON hasn't the shape of a registry or of a format, or a number in it is bad.
+//! Where the JSON of a registry or a format has a wrong shape or a wrong number.
 
 use crate::pointers::Pointer;
 use crate::shape_parts::Part;
@@ -9,8 +9,8 @@ use bcs_registry_json::json_text::registry_json;
 use serde_json::{Map, Value};
 use std::alloc::{AllocError, Global};
 
-/// Where a registry's text, which is JSON, hasn't the shape, or else where a number in it is bad: the innermost JSON
-/// that is bad, and what was wanted there. `None`: it has the shape, with its numbers in range.
+/// The line for the first wrong shape in a registry's JSON, or if there is none, for the first wrong number: the innermost
+/// wrong value, and what was expected there. `None`: its shape is right, and its numbers are in range.
 pub fn place_of_registry_shape(
     alloc: Global,
     text: &[u8],
@@ -25,7 +25,7 @@ pub fn place_of_registry_shape(
     Ok(Some(line.into_bytes()))
 }
 
-/// The same of a format's JSON in the word FORMAT.
+/// The same for a FORMAT that is JSON.
 pub fn place_of_format_shape(alloc: Global, word: &str) -> Result<Option<Vec<u8>>, RegistryFault> {
     let json = registry_json(alloc, word.as_bytes())?;
     let Some(place) = misshapen(alloc, &json, Part::Format)? else {
@@ -49,7 +49,7 @@ struct ShapePlace {
     fault: RegistryFault,
 }
 
-// The shape before the numbers, since a bad shape is the lesser fault wherever it stands.
+// Looks for a wrong shape in all of the JSON before it looks at numbers, like the reader of registries.
 fn misshapen(alloc: Global, json: &Value, whole: Part) -> Result<Option<ShapePlace>, AllocError> {
     for (loose, fault) in [
         (true, RegistryFault::BadShape),
@@ -68,12 +68,12 @@ fn misshapen(alloc: Global, json: &Value, whole: Part) -> Result<Option<ShapePla
     Ok(None)
 }
 
-/// A search for the first JSON that is bad and has no part that is.
+/// A search for the first wrong value that has no wrong part.
 #[derive(Drop)]
 struct Search {
-    /// Whether any numbers will do.
+    /// Whether any number is allowed where one belongs.
     loose: bool,
-    /// The way down to what was found, the innermost step first.
+    /// The steps to what was found, the innermost first.
     inward: Vec<JsonStep>,
 }
 

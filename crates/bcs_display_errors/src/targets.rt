@@ -1,10 +1,10 @@
-//! Going down along steps in the JSON of a value.
+//! What is expected at the end of steps into the JSON of a value.
 
 use crate::content::Content;
 use bcs_json::JsonStep;
 use bcs_registry::{Format, Named, Registry};
 
-/// What is to stand at a place in JSON.
+/// What is expected at a place in JSON.
 #[derive(Clone, Copy)]
 pub(crate) enum Target<'a> {
     Content(Content<'a>),
@@ -12,7 +12,7 @@ pub(crate) enum Target<'a> {
     Entry(&'a Format, &'a Format),
 }
 
-/// A place in JSON: how many containers may still open there, and what is expected there.
+/// A place in JSON: the number of containers that may still open there, and what is expected.
 #[derive(Clone, Copy)]
 pub(crate) struct Location<'a> {
     pub(crate) left: u32,
@@ -32,7 +32,7 @@ pub(crate) fn location_at<'a>(
     Some(location)
 }
 
-/// The same place behind names, each of which opens a container. `None`: no more may open.
+/// The same place after all containers that open there. `None`: one more opens than the depth limit allows.
 pub(crate) fn opened<'a>(registry: &'a Registry, location: Location<'a>) -> Option<Location<'a>> {
     let mut target = location.target;
     for left in (0..=location.left).rev() {
@@ -46,7 +46,7 @@ pub(crate) fn opened<'a>(registry: &'a Registry, location: Location<'a>) -> Opti
 }
 
 impl<'a> Location<'a> {
-    /// Where a step leads, where no name stands.
+    /// Where a step leads from here, after all containers that open here.
     fn inside(self, registry: &Registry, step: &JsonStep) -> Option<Location<'a>> {
         let target = match step {
             JsonStep::Item(number) => self.target.item(*number as usize)?,
@@ -60,7 +60,7 @@ impl<'a> Location<'a> {
 }
 
 impl<'a> Target<'a> {
-    /// What an item of this number is to be.
+    /// What the item with this index must be.
     fn item(self, number: usize) -> Option<Target<'a>> {
         let format = match self {
             Target::Entry(key, value) => match number {
@@ -80,7 +80,7 @@ impl<'a> Target<'a> {
         Some(Target::Content(Content::One(format)))
     }
 
-    /// What the member of this name is to be.
+    /// What the member of this name must be.
     fn member(self, registry: &Registry, name: &str) -> Option<Target<'a>> {
         let content = match self {
             Target::Content(Content::Fields(fields)) => Content::One(field_called(fields, name)?),

@@ -2,14 +2,13 @@
 
 use crate::content::Content;
 use crate::expectations::Expected;
-use crate::json_outline::json_outline;
+use crate::json_outline::{Outline, json_outline};
 use crate::kinds::expectation;
 use crate::pointers::Pointer;
 use crate::targets::{Location, Target, location_at, opened};
 use bcs_json::{JsonFault, JsonStep};
 use bcs_registry::{Format, Registry};
 use bcs_value::Limits;
-use serde_json::Value as Json;
 use std::alloc::{AllocError, Global};
 
 /// The line for a document that is refused with this fault at the end of these steps, and what was expected there.
@@ -21,9 +20,9 @@ pub(crate) fn line_at(
     text: &[u8],
     (fault, steps): (JsonFault, &[JsonStep]),
 ) -> Option<Vec<u8>> {
-    let json = json_outline(alloc, text, steps)?;
+    let outline = json_outline(alloc, text, steps)?;
     let pointer = Pointer(steps);
-    let line = match expectation_at(alloc, registry, format, limits, &json, steps).ok()? {
+    let line = match expectation_at(alloc, registry, format, limits, &outline, steps).ok()? {
         Some(expectation) => format!(in alloc; "at {pointer}: {fault}: {expectation}"),
         None => format!(in alloc; "at {pointer}: {fault}"),
     };
@@ -36,7 +35,7 @@ fn expectation_at<'a>(
     registry: &'a Registry,
     format: &'a Format,
     limits: &Limits,
-    json: &'a Json,
+    outline: &'a Outline,
     steps: &[JsonStep],
 ) -> Result<Option<Expected<'a>>, AllocError> {
     let whole = Location {
@@ -47,7 +46,7 @@ fn expectation_at<'a>(
         return Ok(None);
     };
     match opened(registry, place) {
-        Some(location) => expectation(alloc, registry, location.target, json),
+        Some(location) => expectation(alloc, registry, location.target, outline),
         None => Ok(Some(Expected::Words("more containers are open than allowed"))),
     }
 }

@@ -1,12 +1,12 @@
-//! Why a JSON text is refused as a whole.
+//! JSON documents that are refused as a whole.
 
 use crate::no_json::stop_line;
 use bcs_json::JsonFault;
 use bcs_value::Limits;
 use std::alloc::Global;
 
-/// The line for a text that is refused with this fault as a whole. For `NotJson` it has the line and the column that
-/// `serde_json` tells.
+/// The line for a document that is refused as a whole with this fault. For `NotJson`, it has the line and the column that
+/// `serde_json` reports.
 pub fn whole_line(
     alloc: Global,
     limits: &Limits,

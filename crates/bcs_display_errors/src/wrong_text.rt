@@ -1,9 +1,9 @@
-//! What is wrong with a text that is to stand for bytes.
+//! What is wrong with text that should represent bytes.
 
-/// Where such a text is wrong, and how.
+/// Where such text is wrong, and how.
 #[derive(Clone, Copy)]
 pub struct WrongText {
-    /// The first byte that is wrong. `None`: it is the whole text.
+    /// The first wrong byte. `None`: the text as a whole is wrong.
     pub place: Option<usize>,
     pub words: &'static str,
 }

@@ -6,14 +6,17 @@ ghost use Rattle.bcs_decode_spec.specs.declared.stop.Stop as declared;
 ghost use Rattle.bcs_display_pieces.specs.EndsAt.{EndsAt};
 
 use crate::halt::Halt;
+use crate::steps::container_name;
 use crate::stopping::stop_of;
+use crate::variants::put_variants;
 use bcs_explain::{Expected, Listener, Meaning, Reason, Trail};
 use bcs_registry::{Format, Registry};
 use bcs_value::Limits;
 use std::alloc::{AllocError, Global};
 
 /// Describes in ASCII, without a line end, where the bytes stop being a value and what was expected there: `at .owner:
-/// BadBool: wanted BOOL`. Returns `None` if they encode a value. Fails only if memory runs out.
+/// BadBool: wanted BOOL`. For an unknown variant, it adds the number that was found and the variants that exist. Returns
+/// `None` if they encode a value. Fails only if memory runs out.
 pub fn stop_place(
     alloc: Global,
     registry: &Registry,
@@ -28,6 +31,7 @@ pub fn stop_place(
     let mut keeper = StopKeeper {
         alloc,
         halt: Halt::at_end(alloc)?,
+        container: String::new(alloc),
         has_lost: false,
     };
     let Some(stop) = stop_of(registry, format, limits, bytes, &mut keeper) else {
@@ -36,7 +40,12 @@ pub fn stop_place(
     if keeper.has_lost {
         return Err(AllocError);
     }
-    Ok(Some(place_line(alloc, stop.reason, &keeper.halt)?))
+    let mut line = place_line(alloc, stop.reason, &keeper.halt)?;
+    if stop.reason == Reason::UnknownVariant {
+        let rest = bytes.get(stop.place as usize..).unwrap_or(b"");
+        put_variants(registry, keeper.container.as_str(), rest, &mut line)?;
+    }
+    Ok(Some(line))
 }
 
 // Joins the field path of a stop, its reason and what was expected.
@@ -55,8 +64,22 @@ fn place_line(alloc: Global, reason: Reason, halt: &Halt) -> Result<Vec<u8>, All
 struct StopKeeper {
     alloc: Global,
     halt: Halt,
+    /// The container that was opened last there, or an empty name.
+    container: String,
     /// Whether an allocation failed.
     has_lost: bool,
+}
+
+impl StopKeeper {
+    fn keep(
+        &mut self,
+        trail: &Trail<'_, '_, '_>,
+        expected: Expected<'_>,
+    ) -> Result<(), AllocError> {
+        self.halt = Halt::at(self.alloc, trail, expected)?;
+        self.container = String::from_str(self.alloc, container_name(trail))?;
+        Ok(())
+    }
 }
 
 impl Listener for StopKeeper {
@@ -65,9 +88,8 @@ impl Listener for StopKeeper {
     fn hear(&mut self, _: u64, _: &[u8], _: &Trail<'_, '_, '_>, _: Meaning<'_>) {}
 
     fn halt(&mut self, trail: &Trail<'_, '_, '_>, expected: Expected<'_>) {
-        match Halt::at(self.alloc, trail, expected) {
-            Ok(halt) => self.halt = halt,
-            Err(AllocError) => self.has_lost = true,
+        if let Err(AllocError) = self.keep(trail, expected) {
+            self.has_lost = true;
         }
     }
 }

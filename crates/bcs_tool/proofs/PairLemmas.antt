@@ -1,5 +1,5 @@
 -- A comparison of two files, from one pair of lines to the next.
-use Rattle.bcs_tool.proofs.Prelude.{◌≡◌, ◌≢◌, ◌<◌, ◌+◌, ◌^◌, ◌++◌, ◌∙◌, inl, inr, ℕ, Bool, false, true, List, [], ◌∷◌, Err, Ok, Option, None, Some, Result, arith, codes, length, refl, subst, sym, take, HeldLine, lines_of, NextFault, line_of, ReadsInput, AnswersPair, AnswersPairs, Ending, Together, FirstEnds, SecondEnds, as_many_pairs, one_alone, pairs_then, TakeFault, Work, FailsNext, IsTally, ReadsOn, broken_at, AllPaired, ArePairsSoFar, EndsBy, EndsPaired, HasEnded, PutsPair, ReadsBoth, ending_of, last_output, last_statuses, AnswersBehind, AreAll, BothGaveFew, FailsPairsAt, GaveFew, GaveLine, PutPairPart, PutPairs, StopsAt, AreFirst, PutFront, take_of, Interruption, First, Second, Compared, RunFault, Take, Write, Tally}
+use Rattle.bcs_tool.proofs.Prelude.{◌≡◌, ◌≢◌, ◌<◌, ◌+◌, ◌^◌, ◌++◌, ◌∙◌, inl, inr, ℕ, Bool, false, true, List, [], ◌∷◌, Err, Ok, Option, None, Some, Result, arith, codes, length, refl, subst, sym, take, HeldLine, lines_of, NextFault, line_of, ReadsInput, AnswersLinePair, AnswersPairs, Ending, Together, FirstEnds, SecondEnds, as_many_pairs, one_alone, pairs_then, TakeFault, Work, FailsNext, IsTally, ReadsOn, broken_at, AllPaired, ArePairsSoFar, EndsBy, EndsPaired, HasEnded, PutsPair, ReadsBoth, ending_of, last_output, last_statuses, AnswersBehind, AreAll, BothGaveFew, FailsPairsAt, GaveFew, GaveLine, PutPairPart, PutPairs, StopsAt, AreFirst, PutFront, take_of, Interruption, First, Second, Compared, RunFault, Take, Write, Tally}
 use Rattle.bcs_io.specs.Taking as sink
 use Rattle.bcs_io.proofs.TakingLemmas as taking
 use Rattle.bcs_io.specs.declared.next_fault.NextFault.TheVariants as next_fault
@@ -81,7 +81,7 @@ module _ {F S K : Type 0} (former : F → Option (List ℕ)) (former_stopped : F
     -- a pair was read, and its answer put
     pub pairs_so_far : (out'' : K) (status : ℕ) (output : List ℕ) (more : Tally)
         → ReadsBoth former former_stopped former_allowance content has_stopped allowance true true a b x y one one' other other'
-        → AnswersPair work one'.line other'.line status output → sink.Took taken is_failed out' out'' output
+        → AnswersLinePair work one'.line other'.line status output → sink.Took taken is_failed out' out'' output
         → ((statuses : List ℕ) → IsTally tally statuses → IsTally more (statuses ++ status ∷ []))
         → ArePairsSoFar former former_stopped former_allowance content has_stopped allowance taken is_failed work first b second y out out'' one'.rest other'.rest more
     pairs_so_far out'' status output more reads answer put counts = record {

@@ -1,5 +1,5 @@
 -- A run over lines, from one line to the next.
-use Rattle.bcs_tool.proofs.Prelude.{◌≡◌, ◌<◌, ◌+◌, ◌^◌, ◌++◌, ◌∙◌, inl, inr, ℕ, Bool, true, List, [], ◌∷◌, Err, Option, arith, length, refl, subst, sym, take, IfSome, FailsInLine, HasNoLine, IsTooLong, TakesLine, HeldLine, NextFault, Answers, AnswersAll, none, answers_snoc, as_many, size_limit, TakeFault, Work, AllAnswered, FailsNext, IsSoFar, IsTally, BrokeInLine, GaveFew, FailsAt, HasLines, IsLongBehind, IsTooLarge, IsUnhurt, PutBefore, PutFront, PutPart, PutsLine, ReadsNoFurther, StopsInLine, of_next, RunFault, Take, Write, Tally}
+use Rattle.bcs_tool.proofs.Prelude.{◌≡◌, ◌<◌, ◌+◌, ◌^◌, ◌++◌, ◌∙◌, inl, inr, ℕ, Bool, true, List, [], ◌∷◌, Err, Option, arith, length, refl, subst, sym, take, IfSome, FailsInLine, HasNoLine, IsTooLong, TakesLine, HeldLine, NextFault, AnswersAll, AnswersLine, none, answers_snoc, as_many, size_limit, TakeFault, Work, AllAnswered, FailsNext, IsSoFar, IsTally, BrokeInLine, GaveFew, FailsAt, HasLines, IsLongBehind, IsTooLarge, IsUnhurt, PutBefore, PutFront, PutPart, PutsLine, ReadsNoFurther, StopsInLine, of_next, RunFault, Take, Write, Tally}
 use Rattle.bcs_io.specs.Giving as source
 use Rattle.bcs_io.specs.Taking as sink
 use Rattle.bcs_io.proofs.TakingLemmas as taking
@@ -24,7 +24,7 @@ module _ {S K : Type 0} (content : S → Option (List ℕ)) (has_stopped : S →
       (far : IsSoFar content has_stopped allowance taken is_failed work input now out out' before.rest tally) where
     -- a line was read, and its answer put
     pub so_far_line : (out'' : K) (status : ℕ) (output : List ℕ) (more : Tally) → TakesLine content has_stopped allowance size_limit now later before after
-        → Answers work after.line status output → sink.Took taken is_failed out' out'' output
+        → AnswersLine work after.line status output → sink.Took taken is_failed out' out'' output
         → ((statuses : List ℕ) → IsTally tally statuses → IsTally more (statuses ++ status ∷ []))
         → IsSoFar content has_stopped allowance taken is_failed work input later out out'' after.rest more
     so_far_line out'' status output more takes answer put counts = record {
@@ -103,7 +103,7 @@ module _ {S K : Type 0} (content : S → Option (List ℕ)) (has_stopped : S →
 
     -- a front of the answer to the line was put
     pub put_part : (out'' : K) (status : ℕ) (output : List ℕ) → HasLines work → TakesLine content has_stopped allowance size_limit now later before after
-        → Answers work after.line status output → PutFront taken is_failed out' out'' output
+        → AnswersLine work after.line status output → PutFront taken is_failed out' out'' output
         → PutPart content has_stopped allowance taken is_failed work input out out'' tally.answered
     put_part out'' status output by_line takes answer (shown, short, lost) = record {
       lines = far.lines;

@@ -4,11 +4,14 @@ pub mod Pairs
 pub mod PairLines
 pub mod Scanning
 pub mod Endings
+pub mod HeldOutput
+pub mod Delivering
 pub mod Visible
 pub use Rattle.bcs_tool_answers.specs.Validating
 pub use Rattle.bcs_tool_answers.specs.Input
 pub use Rattle.bcs_tool_answers.specs.Answers
 pub use Rattle.bcs_tool_answers.specs.AnswerLaws
+pub use Rattle.bcs_tool_answers.specs.JsonRefusals
 pub use Rattle.bcs_tool_answers.specs.LineAnswers
 pub use Rattle.bcs_tool_answers.specs.PairAnswers
 pub use Rattle.bcs_tool_answers.specs.Places

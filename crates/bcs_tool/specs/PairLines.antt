@@ -4,7 +4,7 @@ use Rattle.bcs_io.specs.Taking as sink
 use Rattle.bcs_io.specs.Held.{HeldLine}
 use Rattle.bcs_io.specs.Lines.{lines_of}
 use Rattle.bcs_tool_answers.specs.Answers.{line_of}
-use Rattle.bcs_tool_answers.specs.PairAnswers.{AnswersPair, AnswersPairs}
+use Rattle.bcs_tool_answers.specs.PairAnswers.{AnswersLinePair, AnswersPairs}
 use Rattle.bcs_tool_answers.specs.declared.ending.Ending.{Ending}
 use Rattle.bcs_tool_answers.specs.declared.ending.Ending.TheVariants.{Together, FirstEnds, SecondEnds}
 use Rattle.bcs_tool_command_line.specs.Files.{IsContent}
@@ -43,9 +43,9 @@ module _ {K : Type 0} (taken : K → Option (List ℕ)) (is_failed : K → Bool)
 
   -- the answer to a pair of lines was put, or a front of it; or there was no memory for it
   abbrev pub PutsPair : Work → List ℕ → List ℕ → K → K → Result ℕ RunFault → Type 0
-  PutsPair work first second out out' (Ok status) = (output : List ℕ) × AnswersPair work first second status output × sink.Took taken is_failed out out' output
+  PutsPair work first second out out' (Ok status) = (output : List ℕ) × AnswersLinePair work first second status output × sink.Took taken is_failed out out' output
   PutsPair work first second out out' (Err (Take fault)) = (fault ≡ OutOfMemory) × (out' ≡ out)
-  PutsPair work first second out out' (Err Write) = (status : ℕ) × (output : List ℕ) × AnswersPair work first second status output × PutFront taken is_failed out out' output
+  PutsPair work first second out out' (Err Write) = (status : ℕ) × (output : List ℕ) × AnswersLinePair work first second status output × PutFront taken is_failed out out' output
 
 -- ---- reading
 

@@ -6,7 +6,7 @@ use Rattle.bcs_io.specs.Lines.{before_block, line_feeds, lines_of}
 use Rattle.bcs_tool_answers.specs.Answers.{Answers, line_of}
 use Rattle.bcs_tool_answers.specs.Validating.{ReadsInput}
 use Rattle.bcs_tool_answers.specs.LineAnswers.{greatest}
-use Rattle.bcs_tool_answers.specs.PairAnswers.{AnswersPair, AnswersPairs, pairs_summary}
+use Rattle.bcs_tool_answers.specs.PairAnswers.{AnswersLinePair, AnswersPairs, pairs_summary}
 use Rattle.bcs_tool_answers.specs.Places.{Places}
 use Rattle.bcs_tool_answers.specs.declared.ending.Ending.{Ending}
 use Rattle.bcs_tool_answers.specs.declared.ending.Ending.TheVariants.{Together}
@@ -40,7 +40,7 @@ AreAll content lines = IfSome content (λ all. lines_of all ≡ lines)
 -- the answer behind these lines of two contents
 pub data AnswersBehind (work : Work) (first second : Option (List ℕ)) (firsts seconds : List (List ℕ)) : ℕ → List ℕ → Type 0 where
   refused_alone : (status : ℕ) (output : List ℕ) → ¬ ReadsInput work → firsts ≡ [] → Answers work [] status output → AnswersBehind work first second firsts seconds status output
-  pair : (one other : List ℕ) (status : ℕ) (output : List ℕ) → AreFirst first (firsts ++ one ∷ []) → AreFirst second (seconds ++ other ∷ []) → AnswersPair work one other status output
+  pair : (one other : List ℕ) (status : ℕ) (output : List ℕ) → AreFirst first (firsts ++ one ∷ []) → AreFirst second (seconds ++ other ∷ []) → AnswersLinePair work one other status output
       → AnswersBehind work first second firsts seconds status output
   first_ends : (other : List ℕ) → AreAll first firsts → AreFirst second (seconds ++ other ∷ []) → AnswersBehind work first second firsts seconds 1 (line_of (codes "different"))
   second_ends : (one : List ℕ) → AreFirst first (firsts ++ one ∷ []) → AreAll second seconds → AnswersBehind work first second firsts seconds 1 (line_of (codes "different"))

@@ -11,7 +11,7 @@ use Rattle.bcs_io.specs.declared.next_fault.NextFault.{NextFault}
 use Rattle.bcs_io.specs.declared.next_fault.NextFault.TheVariants as next
 use Rattle.bcs_tool_answers.specs.Answers.{Answers}
 use Rattle.bcs_tool_answers.specs.Validating.{ReadsInput, is_unlimited}
-use Rattle.bcs_tool_answers.specs.LineAnswers.{AnswersAll, greatest, summary}
+use Rattle.bcs_tool_answers.specs.LineAnswers.{AnswersAll, AnswersLine, greatest, summary}
 use Rattle.bcs_tool_answers.specs.Places.{Places}
 use Rattle.bcs_tool_answers.specs.declared.answer.Answer.{Answer}
 use Rattle.bcs_tool_command_line.specs.FaultPlaces.{ReportsPlace, output_text, take_place}
@@ -112,7 +112,7 @@ IfTold content P = IfSome content (λ all. AreBytes all → P all)
 -- the answer to the input behind these lines: to the next line, or to all of the content
 abbrev pub AnswersNext : Work → Option (List ℕ) → List (List ℕ) → ℕ → List ℕ → Type 0
 AnswersNext work content lines status output =
-    (HasLines work × ((line : List ℕ) × AreFirst content (lines ++ line ∷ []) × Answers work line status output))
+    (HasLines work × ((line : List ℕ) × AreFirst content (lines ++ line ∷ []) × AnswersLine work line status output))
     ⊎ ((¬ HasLines work) × ((bytes : List ℕ) × IsContent content bytes × Answers work bytes status output))
     ⊎ (Streams work × IfTold content (λ all. Answers work all status output))
 
@@ -136,9 +136,9 @@ module _ {K : Type 0} (taken : K → Option (List ℕ)) (is_failed : K → Bool)
 
   -- the answer to a line was put, or a front of it; or there was no memory for it
   abbrev pub PutsLine : Work → List ℕ → K → K → Result ℕ RunFault → Type 0
-  PutsLine work line out out' (Ok status) = (output : List ℕ) × Answers work line status output × sink.Took taken is_failed out out' output
+  PutsLine work line out out' (Ok status) = (output : List ℕ) × AnswersLine work line status output × sink.Took taken is_failed out out' output
   PutsLine work line out out' (Err (Take fault)) = (fault ≡ OutOfMemory) × (out' ≡ out)
-  PutsLine work line out out' (Err Write) = (status : ℕ) × (output : List ℕ) × Answers work line status output × PutFront out out' output
+  PutsLine work line out out' (Err Write) = (status : ℕ) × (output : List ℕ) × AnswersLine work line status output × PutFront out out' output
 
 -- ---- the run
 

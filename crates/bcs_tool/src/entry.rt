@@ -5,20 +5,21 @@ ghost use Rattle.bcs_tool_command_line.specs.CommandLine.{texts_of};
 ghost use Rattle.bcs_tool_command_line.specs.Jobs.{IsJobOf};
 ghost use Rattle.bcs_tool_command_line.specs.LineFaults.{IsFaultOf};
 ghost use Rattle.bcs_tool_command_line.specs.AcceptedArguments.{AcceptsArguments};
-ghost use Rattle.bcs_tool.specs.Endings.{IsWordsFault, Performs, ReportsFault, PrintsReport};
+ghost use Rattle.bcs_tool.specs.Delivering.{Finishes};
+ghost use Rattle.bcs_tool.specs.Endings.{IsWordsFault, ReportsFault};
 ghost use Rattle.bcs_tool.specs.Visible.{breaks_lines};
 
 use crate::reporting::report_fault;
 use crate::responding::respond;
 use bcs_io::{ByteSink, ByteSource, ReadSource, WriteSink};
-use bcs_tool_command_line::{Job, LineFault, Outcome};
+use bcs_tool_command_line::{Job, LineFault};
 use std::env;
 use std::env::Env;
 use std::io::{BufReader, ErrorKind};
 use std::process::ExitCode;
 use std::rt::Files;
 
-/// The whole program over the system: its words, its standard streams and its status.
+/// The whole program on the system's arguments and standard streams. It returns the status.
 pub fn program(rt: &HostRuntime) -> ExitCode
     ensures { exit_status result < 5 }
 {
@@ -38,10 +39,10 @@ pub fn program(rt: &HostRuntime) -> ExitCode
     ExitCode::from(status)
 }
 
-/// How many bytes are read at a time where a job takes a few of them at a time.
+/// The number of bytes that are read at a time, if a job needs only a few at a time.
 pub(crate) const BLOCK: usize = 65536;
 
-// How many bytes of standard input are read ahead: none with `--front`, so that what follows the value stays unread.
+// The number of bytes of standard input that are read ahead: none with `--front`, so that what follows the value stays unread.
 fn read_ahead(words: &Result<Vec<String>, LineFault>) -> usize {
     match words {
         Ok(words) if words.iter().any(|word| word.as_str() == "--front") => 0,
@@ -49,7 +50,7 @@ fn read_ahead(words: &Result<Vec<String>, LineFault>) -> usize {
     }
 }
 
-/// Does what the words ask for, or tells why there are none, and gives the status.
+/// Does what the arguments ask for, or reports why there are none, and returns the status.
 pub fn start<R: Files + Env + AllocGlobal, S: ByteSource, O: ByteSink, E: ByteSink>(
     rt: &R,
     words: Result<Vec<String>, LineFault>,
@@ -59,21 +60,20 @@ pub fn start<R: Files + Env + AllocGlobal, S: ByteSource, O: ByteSink, E: ByteSi
 ) -> u8
     ensures status { result < 5 }
 
-    // Nothing is read or put, and the fault is told.
+    // Nothing is read or written, and the fault is reported.
     ensures no_words { IfErr words (λ fault. (input.new ≡ input.old)
         × ReportsFault O.taken O.is_failed E.taken E.is_failed true fault out.old out.new errors.old errors.new result) }
 
-    // The rest is as `respond` has it.
+    // The rest is like `respond`.
     ensures no_job { IfOk words (λ given. ¬ AcceptsArguments (texts_of given.items) → (fault : LineFault)
         × IsFaultOf (texts_of given.items) fault × (input.new ≡ input.old)
         × ReportsFault O.taken O.is_failed E.taken E.is_failed (not (breaks_lines (texts_of given.items))) fault out.old out.new errors.old errors.new result) }
     ensures job { IfOk words (λ given. AcceptsArguments (texts_of given.items) →
         ((input.new ≡ input.old) × ReportsFault O.taken O.is_failed E.taken E.is_failed
         (not (breaks_lines (texts_of given.items))) LineFault.OutOfMemory out.old out.new errors.old errors.new result)
-        ⊎ ((job : Job) × (outcome : Outcome) × IsJobOf (texts_of given.items) job
-        × Performs S.content S.is_failed S.allowance O.taken O.is_failed R.File.remaining
-        job input.old input.new out.old out.new outcome
-        × PrintsReport E.taken E.is_failed outcome errors.old errors.new result)) }
+        ⊎ ((job : Job) × IsJobOf (texts_of given.items) job
+        × Finishes S.content S.is_failed S.allowance O.taken O.is_failed E.taken E.is_failed R.File.remaining R.File.contents
+        job input.old input.new out.old out.new errors.old errors.new result)) }
 {
     match words {
         Ok(words) => respond(rt, words.as_slice(), input, out, errors),
@@ -81,8 +81,7 @@ pub fn start<R: Files + Env + AllocGlobal, S: ByteSource, O: ByteSink, E: ByteSi
     }
 }
 
-/// The words of the command line, of which the first is the program's own name. A word that is no
-/// UTF-8 is `Usage`.
+/// The arguments of the command line, which start with the program's own name. An argument that isn't UTF-8 is `Usage`.
 pub fn args_of<R: Env + AllocGlobal>(rt: &R) -> Result<Vec<String>, LineFault>
     ensures { IfErr result IsWordsFault }
 {

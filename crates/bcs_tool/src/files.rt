@@ -60,7 +60,7 @@ fn open_cause<R: Files + AllocGlobal>(rt: &R, name: &str) -> OpenCause {
     }
 }
 
-/// The content of a file that is open, of at most 268435456 bytes: what `take_all` takes of it.
+/// The content of an open file, of at most 268435456 bytes.
 pub fn read_opened<S: ByteSource>(alloc: Global, file: &mut S) -> Result<Vec<u8>, TakeFault>
     ensures whole { IfOk result (λ v. Gave S.content S.is_failed S.allowance file.old file.new v.items
         × IsAtEnd (S.content file.new) × (S.is_failed file.new ≡ false) × (vec_len v ≤ size_limit)) }
@@ -75,8 +75,8 @@ pub fn read_opened<S: ByteSource>(alloc: Global, file: &mut S) -> Result<Vec<u8>
     take_all(alloc, file, SIZE_LIMIT)
 }
 
-/// The work of a job, and the names of its inputs' files. The other files that the job names are read, that of REG or OLD
-/// before that of NEW or A.
+/// The work of a job, and the names of the files of its inputs. It reads the other files that the job names, that of REG or
+/// OLD before that of NEW or A.
 pub fn read_work<R: Files + Env + AllocGlobal>(
     rt: &R,
     job: Job,
@@ -126,7 +126,7 @@ pub fn read_work<R: Files + Env + AllocGlobal>(
     Ok((work, inputs))
 }
 
-// The name of A, where its lines are compared.
+// The name of A, if its lines are compared.
 fn first_name(command: Command, lines: bool, second: String) -> Option<String>
     ensures compared { IfSome result (λ name. ((command ≡ Command.Same) × (lines ≡ true)) × (name ≡ second)) }
     ensures other { result ≡ None → ¬ ((command ≡ Command.Same) × (lines ≡ true)) }
@@ -138,7 +138,7 @@ fn first_name(command: Command, lines: bool, second: String) -> Option<String>
     }
 }
 
-// What a command reads for its second word, for lines or not: a registry, a file, or nothing.
+// What a command reads for its second argument, with `--lines` or without: a registry, a file, or nothing.
 fn read_second<R: Files + AllocGlobal>(
     rt: &R,
     command: Command,
@@ -168,7 +168,7 @@ fn read_second<R: Files + AllocGlobal>(
     }
 }
 
-// The text of A: nothing, where its lines are compared.
+// The content of A, or nothing if its lines are compared.
 fn read_first<R: Files + AllocGlobal>(
     rt: &R,
     lines: bool,
@@ -185,7 +185,7 @@ fn read_first<R: Files + AllocGlobal>(
     read_file(rt, name)
 }
 
-// The text of a registry: the word itself, or the content of the file that it names.
+// The JSON of a registry: the argument itself, or the content of the file that it names.
 fn read_registry<R: Files + AllocGlobal>(rt: &R, word: &str) -> Result<Vec<u8>, UnreadFile>
     ensures text { IfOk result (λ v. IsTextOfWord R.File.remaining word.now v.items) }
     ensures fault { IfErr result (λ e. IsFaultOfFiles R.File.remaining (file_fault_of e)) }

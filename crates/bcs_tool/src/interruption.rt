@@ -1,4 +1,4 @@
-//! Where a run is broken off.
+//! Where a run was interrupted.
 
 use crate::run_fault::RunFault;
 use bcs_io::TakeFault;
@@ -14,7 +14,7 @@ pub enum Side {
     Second,
 }
 
-/// Why a run is broken off, and where.
+/// Why a run was interrupted, and where.
 #[derive(Clone, Copy, Debug, Drop, Error)]
 #[error("{fault}")]
 pub struct Interruption {

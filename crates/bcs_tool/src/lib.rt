@@ -1,15 +1,18 @@
-//! The program `bcs`: a job and its input are run, and its streams are told what comes of it.
+//! The program `bcs`: parses the arguments, runs the job on its input, and reports the result.
 #![tactic(auto)]
 
 mod command_line;
+mod delivering;
 mod entry;
 mod files;
+mod held_output;
 mod interruption;
 mod line_reading;
 mod line_running;
 mod pair_lines;
 mod pair_places;
 mod pair_running;
+mod performing;
 mod put_answer;
 mod reporting;
 mod responding;
@@ -25,7 +28,7 @@ pub use bcs_io::{ByteSink, ByteSource, ReadSource, TakeFault, WriteSink, put_all
 pub use bcs_tool_answers::laws;
 pub use bcs_tool_command_line::{
     Coding, Color, Command, Display, FileFault, FileRefusal, Inputs, Job, JobOptions, LineFault,
-    OpenCause, Origin, Outcome, UnreadFile, Work,
+    Misuse, Notation, OpenCause, Origin, Outcome, UnreadFile, Work,
 };
 pub use command_line::line;
 pub use entry::{args_of, program, start};

@@ -6,7 +6,7 @@ use crate::run_fault::RunFault;
 use bcs_io::{ByteSource, LineBuffer};
 use bcs_tool_command_line::limits::SIZE_LIMIT;
 
-/// Reads on to the next line of this input, after so many that were answered, and returns whether there is one.
+/// Reads the next line of this input, after this number of answered ones, and returns whether there is one.
 pub fn read_line<S: ByteSource>(
     buffer: &mut LineBuffer,
     source: &mut S,

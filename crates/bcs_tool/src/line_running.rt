@@ -1,4 +1,4 @@
-//! The lines of an input, each answered by itself.
+//! The lines of an input, each of which is answered by itself.
 ghost use Rattle.std.specs.Prelude.{◌≡◌, ◌≤◌, length, true};
 ghost use Rattle.bcs_tool.specs.Lines.{EndsLines};
 ghost use Rattle.bcs_tool.specs.Running.{Ends, PutsLine};
@@ -11,11 +11,11 @@ use crate::run_fault::RunFault;
 use crate::run_places::place_of_tally;
 use crate::tally::Tally;
 use bcs_io::{ByteSink, ByteSource, LineBuffer, TakeFault, put_all};
-use bcs_tool_answers::{Asked, answer_values};
+use bcs_tool_answers::{Asked, answer_line};
 use bcs_tool_command_line::{Outcome, Work};
 use std::alloc::Global;
 
-/// Puts the answer to each line of the input, and tells how many have which status.
+/// Writes the answer to each line of the input, and counts the answers by status.
 pub fn run_lines<S: ByteSource, K: ByteSink>(
     alloc: Global,
     work: &Work,
@@ -36,7 +36,7 @@ pub fn run_lines<S: ByteSource, K: ByteSink>(
     })
 }
 
-// Reads line after line, and puts the answer to each before the next one is read.
+// Reads line after line, and writes the answer to each before it reads the next one.
 fn put_lines<S: ByteSource, K: ByteSink>(
     alloc: Global,
     work: &Work,
@@ -68,7 +68,7 @@ fn put_lines<S: ByteSource, K: ByteSink>(
     }
 }
 
-// Puts the answer to one line, and gives its status. Where it stands is not told.
+// Writes the answer to one line, and returns its status. Its place isn't reported.
 fn put_line<K: ByteSink>(
     alloc: Global,
     work: &Work,
@@ -80,7 +80,7 @@ fn put_line<K: ByteSink>(
     requires within { length line.now ≤ size_limit }
     ensures { PutsLine K.taken K.is_failed work.now line.now out.old out.new result }
 {
-    let Ok(answer) = answer_values(alloc, work, asked, line) else {
+    let Ok(answer) = answer_line(alloc, work, asked, line) else {
         return Err(RunFault::Take(TakeFault::OutOfMemory));
     };
     match put_all(answer.output.as_slice(), out) {

@@ -1,4 +1,4 @@
-//! Two files that are compared line by line.
+//! Compares two files line by line.
 ghost use Rattle.std.specs.Prelude.{◌≡◌, ◌≢◌, ◌≤◌, ◌<◌, ◌+◌, ◌^◌, ℕ, List};
 ghost use Rattle.bcs_tool.specs.Lines.{IsTally};
 ghost use Rattle.bcs_tool.specs.PairLines.{EndsBy, EndsPaired, PutsPair, ending_of};
@@ -9,7 +9,7 @@ use crate::line_reading::read_line;
 use crate::run_fault::RunFault;
 use crate::tally::Tally;
 use bcs_io::{ByteSink, ByteSource, LineBuffer, TakeFault, put_all};
-use bcs_tool_answers::{Asked, Ending, answer_pair};
+use bcs_tool_answers::{Asked, Ending, answer_line_pair};
 use bcs_tool_command_line::Work;
 use std::alloc::Global;
 
@@ -20,8 +20,8 @@ pub struct Compared {
     pub ending: Ending,
 }
 
-/// Reads pair after pair, and puts the answer to each before the next one is read, until one of the files ends. A line of the
-/// second is read also if the first has ended.
+/// Reads pair after pair, and writes the answer to each before it reads the next one, until one of the files ends. It reads a
+/// line of the second file even if the first one has ended.
 pub fn compare_lines<F: ByteSource, S: ByteSource, K: ByteSink>(
     alloc: Global,
     work: &Work,
@@ -56,7 +56,7 @@ pub fn compare_lines<F: ByteSource, S: ByteSource, K: ByteSink>(
     }
 }
 
-// Which file has ended, by which of them has a next line; neither if both have.
+// Which file has ended, if not both have a next line.
 fn ending_of(has_first: bool, has_second: bool) -> Option<Ending>
     ensures { result ≡ ending_of has_first has_second }
 {
@@ -68,7 +68,7 @@ fn ending_of(has_first: bool, has_second: bool) -> Option<Ending>
     }
 }
 
-// Puts the answer to one pair, and gives its status. Where a text is refused is not told.
+// Writes the answer to one pair, and returns its status. The place of a refusal isn't reported.
 fn put_pair<K: ByteSink>(
     alloc: Global,
     work: &Work,
@@ -80,7 +80,7 @@ fn put_pair<K: ByteSink>(
     requires asked { IsAskedBy work.now asked.now }
     ensures { PutsPair K.taken K.is_failed work.now first.now second.now out.old out.new result }
 {
-    let Ok(answer) = answer_pair(alloc, work, asked, first, second) else {
+    let Ok(answer) = answer_line_pair(alloc, work, asked, first, second) else {
         return Err(RunFault::Take(TakeFault::OutOfMemory));
     };
     match put_all(answer.output.as_slice(), out) {
@@ -89,7 +89,7 @@ fn put_pair<K: ByteSink>(
     }
 }
 
-// Puts the last answer, where one file has a line and the other has ended.
+// Writes the last answer, if one file has another line and the other one has ended.
 fn end_pairs<K: ByteSink>(
     ending: Ending,
     tally: Tally,

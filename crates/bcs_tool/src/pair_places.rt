@@ -9,8 +9,8 @@ use crate::run_places::{put_count, tally_line};
 use bcs_tool_answers::Ending;
 use std::alloc::{AllocError, Global};
 
-/// How many lines were answered with which status, and which file has fewer of them. It is empty at a quiet job, and where
-/// no memory is left for it.
+/// The number of lines by status, and which file has fewer of them. It is empty for a quiet job, or if no memory is left for
+/// it.
 pub fn place_of_pairs(alloc: Global, quiet: bool, compared: Compared) -> Vec<u8>
     ensures { ReportsPlace quiet (tally_text compared.tally.done compared.tally.negative compared.tally.refused
         ++ lacking_text compared.ending compared.tally.answered) result.items }

@@ -12,9 +12,9 @@ use bcs_tool_answers::prepare;
 use bcs_tool_command_line::{Outcome, Work};
 use std::alloc::Global;
 
-/// Puts the answer to each pair of lines of two files: whether they have the same value. It is put before the next pair is
-/// read, and where one file has a line and the other has ended the last answer is `different`. The files are read only
-/// where the job's own words are not refused.
+/// Writes the answer to each pair of lines of two files: whether they have the same value. It is written before the next pair
+/// is read, and if one file has more lines than the other one, the last answer is `different`. The files are read only if the
+/// job's arguments are accepted.
 pub fn run_pairs<F: ByteSource, S: ByteSource, K: ByteSink>(
     alloc: Global,
     work: &Work,

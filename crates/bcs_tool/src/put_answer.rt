@@ -1,4 +1,4 @@
-//! One answer, which is put.
+//! Writes one answer.
 ghost use Rattle.bcs_tool.specs.Running.{PutsAnswer};
 
 use crate::interruption::{Interruption, Side};
@@ -7,7 +7,7 @@ use bcs_io::{ByteSink, put_all};
 use bcs_tool_answers::Answer;
 use bcs_tool_command_line::Outcome;
 
-/// Puts an answer, and hands on its status and its place.
+/// Writes an answer, and returns its status and its place.
 pub fn put_answer<K: ByteSink>(answer: Answer, out: &mut K) -> Result<Outcome, Interruption>
     ensures { PutsAnswer K.taken K.is_failed answer out.old out.new result }
 {

@@ -1,4 +1,4 @@
-//! What the standard output and the standard error are told, and the status.
+//! What is written to standard output and standard error, and the status.
 ghost use Rattle.std.specs.Prelude.{◌≡◌, ◌++◌, codes, not, true};
 ghost use Rattle.bcs_tool_answers.specs.Answers.{line_of};
 ghost use Rattle.bcs_tool_command_line.specs.CommandLine.{texts_of};
@@ -9,15 +9,15 @@ use crate::visible::{breaks_lines, put_visible};
 use bcs_io::{ByteSink, put_all};
 use bcs_tool_command_line::{LineFault, Outcome};
 
-/// Tells why the words are no job, or what they ask for, and gives the status.
+/// Reports why the arguments aren't a job, or prints help or the version, and returns the status.
 pub fn report_fault<O: ByteSink, E: ByteSink>(fault: &LineFault, out: &mut O, errors: &mut E) -> u8
     ensures { ReportsFault O.taken O.is_failed E.taken E.is_failed true fault.now out.old out.new errors.old errors.new result }
 {
     report_fault_by(true, fault, out, errors)
 }
 
-/// The same where the words are known. If one of them has a line feed, the text of usage is one line: clap's text repeats
-/// words, and so no word can forge a line.
+/// The same if the arguments are known. If one of them contains a line feed, the usage text is one line: clap's text repeats
+/// arguments, and so no argument can forge a line.
 pub(crate) fn report_fault_of_words<O: ByteSink, E: ByteSink>(
     words: &[String],
     fault: &LineFault,
@@ -38,7 +38,7 @@ fn report_fault_by<O: ByteSink, E: ByteSink>(
     ensures { ReportsFault O.taken O.is_failed E.taken E.is_failed keeps_lines fault.now out.old out.new errors.old errors.new result }
 {
     match fault {
-        // clap's text ends its own line.
+        // clap's text ends with a line feed.
         LineFault::Usage(text) => {
             report_usage(keeps_lines, text.as_str(), errors);
             3
@@ -51,7 +51,7 @@ fn report_fault_by<O: ByteSink, E: ByteSink>(
     }
 }
 
-/// Tells the note of an outcome on a line, and then its place on one, each where it has one, and gives its status.
+/// Prints the note of an outcome on a line, and then its place, if it has them, and returns its status.
 pub fn print_report<E: ByteSink>(outcome: Outcome, errors: &mut E) -> u8
     ensures { PrintsReport E.taken E.is_failed outcome errors.old errors.new result }
 {
@@ -67,7 +67,7 @@ pub fn print_report<E: ByteSink>(outcome: Outcome, errors: &mut E) -> u8
     outcome.status
 }
 
-// Tells a text of usage with its hidden characters escaped.
+// Prints a usage text with its hidden characters escaped.
 fn report_usage<E: ByteSink>(keeps_lines: bool, text: &str, errors: &mut E)
     ensures { Put E.taken E.is_failed errors.old errors.new (usage_text keeps_lines text.now) }
 {
@@ -81,7 +81,7 @@ fn report_usage<E: ByteSink>(keeps_lines: bool, text: &str, errors: &mut E)
     }
 }
 
-// Tells the note of a fault on a line, and gives its status.
+// Prints the note of a fault on a line, and returns its status.
 fn report_note<E: ByteSink>(note: &str, errors: &mut E) -> u8
     ensures { (result ≡ 4) × Put E.taken E.is_failed errors.old errors.new (line_of note.now) }
 {
@@ -89,7 +89,7 @@ fn report_note<E: ByteSink>(note: &str, errors: &mut E) -> u8
     4
 }
 
-// Tells two texts, each with a line end.
+// Prints two texts, each with a line end.
 fn report_lines<E: ByteSink>(text: &[u8], next: &[u8], errors: &mut E)
     ensures { Put E.taken E.is_failed errors.old errors.new (line_of text.now ++ line_of next.now) }
 {
@@ -99,7 +99,7 @@ fn report_lines<E: ByteSink>(text: &[u8], next: &[u8], errors: &mut E)
     }
 }
 
-// Tells a line end, and then a text with another.
+// Prints a line end, and then a text with another one.
 fn report_next<E: ByteSink>(next: &[u8], errors: &mut E)
     ensures { Put E.taken E.is_failed errors.old errors.new (codes "\n" ++ line_of next.now) }
 {
@@ -109,7 +109,7 @@ fn report_next<E: ByteSink>(next: &[u8], errors: &mut E)
     }
 }
 
-// Tells a text and a line end, without memory.
+// Prints a text and a line end. It doesn't allocate.
 fn report_line<E: ByteSink>(text: &[u8], errors: &mut E)
     ensures { Put E.taken E.is_failed errors.old errors.new (line_of text.now) }
 {
@@ -119,7 +119,7 @@ fn report_line<E: ByteSink>(text: &[u8], errors: &mut E)
     }
 }
 
-// Tells a text. What the standard error doesn't take is lost, since nothing is left to tell it to.
+// Prints a text. If standard error fails, the text is lost: there is nowhere else to report it.
 fn report_text<E: ByteSink>(text: &str, errors: &mut E)
     ensures { Put E.taken E.is_failed errors.old errors.new text.now }
 {

@@ -1,30 +1,23 @@
-//! A command line, its input, and what the standard output and the standard error are told.
+//! A command line, its input, and what is written to standard output and standard error.
 ghost use Rattle.std.specs.Prelude.{◌≡◌, ◌⊎◌, ◌<◌, not};
 ghost use Rattle.bcs_tool_command_line.specs.CommandLine.{texts_of};
 ghost use Rattle.bcs_tool_command_line.specs.Jobs.{IsJobOf};
 ghost use Rattle.bcs_tool_command_line.specs.LineFaults.{IsFaultOf};
 ghost use Rattle.bcs_tool_command_line.specs.AcceptedArguments.{AcceptsArguments};
-ghost use Rattle.bcs_tool.specs.Endings.{IsUnopened, IsUnread, Performs, PerformsOne, PerformsPairs, ReportsFault, PrintsReport};
+ghost use Rattle.bcs_tool.specs.Delivering.{Finishes};
+ghost use Rattle.bcs_tool.specs.Endings.{ReportsFault};
 ghost use Rattle.bcs_tool.specs.Visible.{breaks_lines};
 
 use crate::command_line::line;
-use crate::entry::BLOCK;
-use crate::files::read_work;
-use crate::pair_running::run_pairs;
-use crate::reporting::{print_report, report_fault_of_words};
-use crate::running::{failed, outcome_of, run_from};
-use bcs_io::{ByteSink, ByteSource, ReadSource, TakeFault};
-use bcs_tool_command_line::{
-    FileFault, Inputs, Job, LineFault, OpenCause, Origin, Outcome, UnreadFile, Work, place_of_file,
-};
-use std::alloc::Global;
+use crate::delivering::finish;
+use crate::reporting::report_fault_of_words;
+use bcs_io::{ByteSink, ByteSource};
+use bcs_tool_command_line::{Job, LineFault};
 use std::env::Env;
-use std::fs::File;
-use std::io::{BufReader, ErrorKind};
 use std::rt::Files;
 
-/// Does what the words ask for, of which the first is the program's own name, and gives the status.
-/// `input` is read where the job has an input and names no file for it.
+/// Does what the arguments ask for, of which the first is the program's own name, and returns the status. `input` is read if
+/// the job has an input and names no file for it.
 pub fn respond<R: Files + Env + AllocGlobal, S: ByteSource, O: ByteSink, E: ByteSink>(
     rt: &R,
     words: &[String],
@@ -34,131 +27,21 @@ pub fn respond<R: Files + Env + AllocGlobal, S: ByteSource, O: ByteSink, E: Byte
 ) -> u8
     ensures status { result < 5 }
 
-    // There is a fault in the words, or they ask for help or the version.
+    // The arguments aren't accepted, or ask for help or the version.
     ensures no_job { ¬ AcceptsArguments (texts_of words.now) → (fault : LineFault)
         × IsFaultOf (texts_of words.now) fault × (input.new ≡ input.old)
         × ReportsFault O.taken O.is_failed E.taken E.is_failed (not (breaks_lines (texts_of words.now))) fault out.old out.new errors.old errors.new result }
 
-    // They ask for a job, which is done, unless there is no memory for its words.
+    // They ask for a job, which is done, unless memory runs out before.
     ensures job { AcceptsArguments (texts_of words.now) →
         ((input.new ≡ input.old) × ReportsFault O.taken O.is_failed E.taken E.is_failed
         (not (breaks_lines (texts_of words.now))) LineFault.OutOfMemory out.old out.new errors.old errors.new result)
-        ⊎ ((job : Job) × (outcome : Outcome) × IsJobOf (texts_of words.now) job
-        × Performs S.content S.is_failed S.allowance O.taken O.is_failed R.File.remaining
-        job input.old input.new out.old out.new outcome
-        × PrintsReport E.taken E.is_failed outcome errors.old errors.new result) }
+        ⊎ ((job : Job) × IsJobOf (texts_of words.now) job
+        × Finishes S.content S.is_failed S.allowance O.taken O.is_failed E.taken E.is_failed R.File.remaining R.File.contents
+        job input.old input.new out.old out.new errors.old errors.new result) }
 {
     match line(rt.alloc(), words) {
-        Ok(job) => print_report(perform(rt, job, input, out), errors),
+        Ok(job) => finish(rt, job, input, out, errors),
         Err(fault) => report_fault_of_words(words, &fault, out, errors),
     }
-}
-
-// Reads the files that the job names, opens its inputs, and puts the answers.
-fn perform<R: Files + Env + AllocGlobal, S: ByteSource, O: ByteSink>(
-    rt: &R,
-    job: Job,
-    input: &mut S,
-    out: &mut O,
-) -> Outcome
-    ensures { Performs S.content S.is_failed S.allowance O.taken O.is_failed R.File.remaining
-        job input.old input.new out.old out.new result }
-{
-    let quiet = job.options.quiet;
-    let (work, inputs) = match read_work(rt, job) {
-        Ok(read) => read,
-        Err(refusal) => {
-            let fault = FileFault::from(refusal.reason);
-            return failed(fault.note(), refusal.place(rt.alloc(), quiet));
-        }
-    };
-    let Inputs { first, file } = inputs;
-    match first {
-        Some(first) => perform_pairs(rt, &work, first.as_str(), file, input, out),
-        None => perform_one(rt, &work, file, input, out),
-    }
-}
-
-// Opens the file of the input, where it has one, and puts the answer.
-fn perform_one<R: Files + Env + AllocGlobal, S: ByteSource, O: ByteSink>(
-    rt: &R,
-    work: &Work,
-    file: Option<String>,
-    input: &mut S,
-    out: &mut O,
-) -> Outcome
-    ensures { PerformsOne S.content S.is_failed S.allowance O.taken O.is_failed R.File.remaining
-        work.now file input.old input.new out.old out.new result }
-{
-    let Some(name) = file else {
-        return run_from(rt.alloc(), work, Origin::StandardInput, input, out);
-    };
-    let (alloc, quiet) = (rt.alloc(), work.options.quiet);
-    let name = name.as_str();
-    match File::open(rt, name) {
-        Ok(file) => match BufReader::with_capacity(alloc, BLOCK, file) {
-            Ok(reader) => run_from(
-                alloc,
-                work,
-                Origin::File(name),
-                &mut ReadSource::new(reader),
-                out,
-            ),
-            Err(_) => {
-                let fault = TakeFault::OutOfMemory;
-                unread(alloc, quiet, UnreadFile::ReadFailed(fault), name)
-            }
-        },
-        Err(error) => unopened(alloc, quiet, name, error.kind()),
-    }
-}
-
-// Opens A, and then B, where the job has one, and puts the answers to their lines.
-fn perform_pairs<R: Files + Env + AllocGlobal, S: ByteSource, O: ByteSink>(
-    rt: &R,
-    work: &Work,
-    first: &str,
-    file: Option<String>,
-    input: &mut S,
-    out: &mut O,
-) -> Outcome
-    ensures { PerformsPairs S.content S.is_failed S.allowance O.taken O.is_failed R.File.remaining
-        work.now first.now file input.old input.new out.old out.new result }
-{
-    let alloc = rt.alloc();
-    let mut lines = match File::open(rt, first) {
-        Ok(file) => ReadSource::new(file),
-        Err(error) => return unopened(alloc, work.options.quiet, first, error.kind()),
-    };
-    let origin = Origin::File(first);
-    let Some(name) = file else {
-        let result = run_pairs(alloc, work, &mut lines, input, out);
-        return outcome_of(alloc, work, result, origin, Origin::StandardInput);
-    };
-    let name = name.as_str();
-    match File::open(rt, name) {
-        Ok(file) => {
-            let result = run_pairs(alloc, work, &mut lines, &mut ReadSource::new(file), out);
-            outcome_of(alloc, work, result, origin, Origin::File(name))
-        }
-        Err(error) => unopened(alloc, work.options.quiet, name, error.kind()),
-    }
-}
-
-// The outcome of a job of which a file of an input was not opened.
-fn unopened(alloc: Global, quiet: bool, name: &str, kind: ErrorKind) -> Outcome
-    ensures { IsUnopened quiet name.now result }
-{
-    let cause = OpenCause::of(kind);
-    unread(alloc, quiet, UnreadFile::OpenFailed(cause), name)
-}
-
-// The outcome of a job of which a file of an input was not read.
-fn unread(alloc: Global, quiet: bool, unread: UnreadFile, name: &str) -> Outcome
-    ensures { IsUnread quiet name.now unread result }
-{
-    failed(
-        FileFault::from(unread).note(),
-        place_of_file(alloc, quiet, unread, name),
-    )
 }

@@ -1,14 +1,14 @@
-//! Why a run is broken off.
+//! Why a run is interrupted.
 ghost use Rattle.std.specs.Prelude.{◌≡◌};
 ghost use Rattle.bcs_tool.specs.Running.{fault_note, of_next};
 
 use bcs_io::{NextFault, TakeFault};
 use thiserror::Error;
 
-/// Why a run has not put all of its answers. The message is the fault's name alone.
+/// Why a run hasn't written all of its answers. The message is only the fault's name.
 #[derive(Clone, Copy, Debug, Drop, Error)]
 pub enum RunFault {
-    /// The input was not taken, or memory ran out.
+    /// The input wasn't read, or memory ran out.
     #[error(transparent)]
     Take(TakeFault),
     /// The output failed.
@@ -28,7 +28,7 @@ impl RunFault {
         })
     }
 
-    /// The line for the standard error.
+    /// The line for standard error.
     pub fn note(self) -> &'static str
         ensures { result.now ≡ fault_note self }
     {

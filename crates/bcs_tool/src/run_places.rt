@@ -1,4 +1,4 @@
-//! Where a run is broken off, and how its lines were answered: what the standard error is told behind the note.
+//! Where a run was interrupted, and how its lines were answered: the line on standard error after the note.
 ghost use Rattle.std.specs.Prelude.{◌≡◌, ◌++◌, IfOk, OnOk};
 ghost use Rattle.std.specs.Fmt.{decimal};
 ghost use Rattle.bcs_tool.specs.Running.{run_place, side_text, stream_text};
@@ -11,7 +11,7 @@ use crate::tally::Tally;
 use bcs_tool_command_line::{Origin, Work, input_line, output_line};
 use std::alloc::{AllocError, Global};
 
-/// Which of these inputs failed, or the output, and at which line, if lines are answered. It is empty at a quiet job, and if
+/// Which of these inputs failed, or the output, and at which line, if lines are answered. It is empty for a quiet job, and if
 /// memory runs out.
 pub fn place_of_interruption(
     alloc: Global,
@@ -70,7 +70,7 @@ fn stream_line(alloc: Global, fault: RunFault, origin: Origin<'_>) -> Result<Vec
     }
 }
 
-/// A text, and a number behind it.
+/// Appends a text and a number.
 pub fn put_count(
     alloc: Global,
     text: &str,
@@ -84,7 +84,7 @@ pub fn put_count(
     line.extend_from_slice(digits.as_bytes())
 }
 
-/// How many lines were answered with which status. It is empty at a quiet job, and where no memory is left for it.
+/// The number of lines by status. It is empty for a quiet job, or if no memory is left for it.
 pub fn place_of_tally(alloc: Global, quiet: bool, tally: Tally) -> Vec<u8>
     ensures { ReportsPlace quiet (tally_text tally.done tally.negative tally.refused) result.items }
 {

@@ -16,9 +16,9 @@ use bcs_tool_command_line::limits::SIZE_LIMIT;
 use bcs_tool_command_line::{Origin, Outcome, Work};
 use std::alloc::Global;
 
-/// Puts the answer to a job and its input; or, where the job is for lines, the answer to each line of it. A whole answer is
-/// made before its first byte is put, and it is put before the next line is read. The input is read only where the job has
-/// one and its own words are not refused.
+/// Writes the answer to a job and its input; or, with `--lines`, the answer to each line of it. An answer is complete before
+/// its first byte is written, and written before the next line is read. The input is read only if the job has one and its
+/// arguments are accepted.
 pub fn run<S: ByteSource, K: ByteSink>(
     alloc: Global,
     work: &Work,
@@ -31,8 +31,8 @@ pub fn run<S: ByteSource, K: ByteSink>(
     run_from(alloc, work, Origin::StandardInput, input, out)
 }
 
-/// The same of an input that is this file or the standard input, and where the job is refused or broken off, which is a
-/// line for the standard error.
+/// The same for an input that is this file or standard input, with the line for standard error if the job is refused or
+/// interrupted.
 pub fn run_from<S: ByteSource, K: ByteSink>(
     alloc: Global,
     work: &Work,
@@ -47,7 +47,7 @@ pub fn run_from<S: ByteSource, K: ByteSink>(
     outcome_of(alloc, work, ended, origin, origin)
 }
 
-/// The outcome of a run over inputs of these origins: the one that it has, or where it was broken off.
+/// The outcome of a run on inputs of these origins: its own, or where it was interrupted.
 pub(crate) fn outcome_of(
     alloc: Global,
     work: &Work,
@@ -66,7 +66,7 @@ pub(crate) fn outcome_of(
     }
 }
 
-/// The outcome of a job that has no answer.
+/// The outcome of a job without an answer.
 pub fn failed(note: &'static str, place: Vec<u8>) -> Outcome
     ensures status { result.status ≡ 4 }
     ensures note { result.note.now ≡ note.now }
@@ -79,7 +79,7 @@ pub fn failed(note: &'static str, place: Vec<u8>) -> Outcome
     }
 }
 
-// Validates the words of the job, and then answers its input, or each line of it.
+// Validates the arguments of the job, and then answers its input, or each line of it.
 fn put_answers<S: ByteSource, K: ByteSink>(
     alloc: Global,
     work: &Work,
@@ -104,7 +104,7 @@ fn put_answers<S: ByteSource, K: ByteSink>(
     }
 }
 
-// Puts the answer to the whole input.
+// Writes the answer to the whole input.
 fn run_whole<S: ByteSource, K: ByteSink>(
     alloc: Global,
     work: &Work,

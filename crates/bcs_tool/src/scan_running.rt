@@ -1,4 +1,4 @@
-//! Bytes that are validated as they come, of which none is held but those of open keys.
+//! Validates bytes as they arrive. Only the bytes of open keys are held in memory.
 ghost use Rattle.std.specs.Prelude.{◌≡◌, ◌↔◌, true, IsErrOf};
 ghost use Rattle.bcs_registry_model.specs.View.{shape_of};
 ghost use Rattle.bcs_registry_model.specs.WellFormed.{Admits};
@@ -14,8 +14,8 @@ use bcs_tool_answers::{Answer, Asked, counted, stopped};
 use bcs_tool_command_line::{Outcome, Work};
 use std::alloc::Global;
 
-/// Puts how many bytes the value has that the input gives, or where they stop being one. Where they stand in the value is
-/// not told.
+/// Writes the number of bytes of the value in the input, or where the bytes stop being one. Which part of the value that is,
+/// isn't reported.
 pub fn run_scan<S: ByteSource, K: ByteSink>(
     alloc: Global,
     work: &Work,
@@ -48,7 +48,7 @@ fn scan_answer<S: ByteSource>(
     }
 }
 
-// The answer to bytes that stop being a value. Another fault is no refusal.
+// The answer to bytes that stop being a value. Any other fault isn't a refusal.
 fn refusal(alloc: Global, fault: DecodeFault) -> Result<Answer, Interruption>
     ensures { RefusesScan fault result }
 {
@@ -59,7 +59,7 @@ fn refusal(alloc: Global, fault: DecodeFault) -> Result<Answer, Interruption>
     }
 }
 
-// How many bytes the value has, at the front of what the input gives or of all of it.
+// The number of bytes of the value, which is at the start of the input, or all of it.
 fn scanned<S: ByteSource>(
     alloc: Global,
     work: &Work,

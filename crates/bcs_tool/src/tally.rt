@@ -1,8 +1,8 @@
-//! How many lines were answered with which status.
+//! The number of answered lines by status.
 ghost use Rattle.std.specs.Prelude.{◌<◌, ◌+◌, ◌^◌, ◌++◌, ◌∷◌, [], ℕ, List};
 ghost use Rattle.bcs_tool.specs.Lines.{IsTally};
 
-/// How many lines were answered, how many of them with which status, and the greatest one.
+/// The number of answered lines, the number with each status, and the greatest status.
 #[derive(Clone, Copy, Debug, Drop)]
 pub struct Tally {
     pub answered: u64,
@@ -12,12 +12,12 @@ pub struct Tally {
     pub negative: u64,
     /// With status 2.
     pub refused: u64,
-    /// The greatest status, which is 0 where no line was answered.
+    /// The greatest status, or 0 if no line was answered.
     pub status: u8,
 }
 
 impl Tally {
-    /// No line was answered yet.
+    /// No line has been answered yet.
     pub fn new() -> Tally
         ensures { IsTally result [] }
     {
@@ -30,7 +30,7 @@ impl Tally {
         }
     }
 
-    /// One line more was answered, with this status.
+    /// One more line was answered, with this status.
     pub fn with(self, status: u8) -> Tally
         requires below { status < 3 }
         requires counted { (statuses : List ℕ) × IsTally self statuses }

@@ -1,5 +1,6 @@
 pub mod Prelude
 pub mod AnswerLemmas
+pub mod NotationLemmas
 pub mod PartAnswers
 pub mod ScanAnswers
 pub mod ValidatingLemmas
@@ -12,6 +13,7 @@ pub mod Base64Lemmas
 pub mod SomeInput
 pub mod SomePair
 pub mod SomeAnswer
+pub mod FormLemmas
 pub mod LineAnswerLemmas
 pub mod LineLaws
 pub mod PairAnswerLemmas

@@ -1,11 +1,12 @@
 -- The answers to lines, one after another: one more behind them, and their statuses.
-use Rattle.bcs_tool_answers.proofs.Prelude.{◌≡◌, ◌<◌, ◌≤◌, ◌++◌, ◌∷◌, ◌∙◌, ◌==◌, [], ℕ, suc, List, Bool, true, false, max, append_assoc, append-nil, ap, arith, if◌then◌else◌, length, refl, subst, sym, Answers, AnswersAll, count_of, greatest, Work}
+use Rattle.bcs_tool_answers.proofs.Prelude.{◌≡◌, ◌<◌, ◌≤◌, ◌++◌, ◌∷◌, ◌∙◌, ◌==◌, [], ℕ, suc, List, Bool, true, false, max, append_assoc, append-nil, ap, arith, if◌then◌else◌, length, refl, subst, sym, Answers, AnswersAll, AnswersLine, count_of, greatest, Work}
 use Rattle.bcs_tool_answers.specs.LineAnswers as all
 use Rattle.bcs_tool_answers.proofs.AnswerLemmas.{status_below}
+use Rattle.bcs_tool_answers.proofs.FormLemmas.{form_below}
 
 -- the line's answer stands behind those of the lines before it
 pub answers_snoc : (work : Work) (lines : List (List ℕ)) (statuses outputs line : List ℕ) (status : ℕ) (output : List ℕ)
-    → AnswersAll work lines statuses outputs → Answers work line status output
+    → AnswersAll work lines statuses outputs → AnswersLine work line status output
     → AnswersAll work (lines ++ line ∷ []) (statuses ++ status ∷ []) (outputs ++ output)
 answers_snoc work lines statuses outputs line status output all.none answers =
     subst (λ (bytes : List ℕ). AnswersAll work (line ∷ []) (status ∷ []) bytes) (append-nil output) (all.next line [] status [] output [] answers all.none)
@@ -24,10 +25,13 @@ pub greatest-snoc : (statuses : List ℕ) (status : ℕ) → greatest (statuses 
 greatest-snoc [] status = omega arith
 greatest-snoc (s ∷ ss) status = omega (arith, greatest-snoc ss status)
 
+pub line_below : (work : Work) (line : List ℕ) (status : ℕ) (output : List ℕ) → AnswersLine work line status output → status < 3
+line_below work line status output h = form_below work.options.json_refusals (Answers work line) status output (status_below work line) h
+
 pub greatest_below : (work : Work) (lines : List (List ℕ)) (statuses outputs : List ℕ) → AnswersAll work lines statuses outputs → greatest statuses < 3
 greatest_below work lines statuses outputs all.none = omega arith
 greatest_below work lines statuses outputs (all.next l ls s ss o os h more) =
-    omega (arith, status_below work l s o h, greatest_below work ls ss os more)
+    omega (arith, line_below work l s o h, greatest_below work ls ss os more)
 
 -- two that are counted, in either order
 counted_twice : (a b : Bool) (n : ℕ) → (if a then suc (if b then suc n else n) else (if b then suc n else n)) ≡ (if b then suc (if a then suc n else n) else (if a then suc n else n))

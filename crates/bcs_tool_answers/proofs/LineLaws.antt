@@ -1,6 +1,7 @@
 -- The lines of an input have exactly one answer each.
-use Rattle.bcs_tool_answers.proofs.Prelude.{◌≡◌, ◌<◌, ◌≤◌, ◌++◌, ◌∷◌, ◌∙◌, ◌==◌, [], ℕ, List, ap, ap₂, cond, inl, inr, length, refl, subst, sym, All, cases_Bool, All-nil, All-cons, All-head, All-tail, AreBytes, lines_of, onto, IsExact, OneAnswerALine, SomeAnswerALine, Answers, AnswersAll, greatest, size_limit, Work}
+use Rattle.bcs_tool_answers.proofs.Prelude.{◌≡◌, ◌<◌, ◌≤◌, ◌++◌, ◌∷◌, ◌∙◌, ◌==◌, [], ℕ, List, false, ap, ap₂, cond, inl, inr, length, refl, subst, sym, All, cases_Bool, All-nil, All-cons, All-head, All-tail, AreBytes, lines_of, onto, IsExact, OneAnswerALine, SomeAnswerALine, Answers, AnswersAll, AnswersLine, greatest, size_limit, Work}
 use Rattle.bcs_tool_answers.specs.LineAnswers as all
+use Rattle.bcs_tool_answers.proofs.FormLemmas.{as_answered, some_form}
 use Rattle.bcs_tool_answers.proofs.OneAnswer.{one_answer}
 use Rattle.bcs_tool_answers.proofs.SomeAnswer.{some_answer}
 
@@ -10,24 +11,26 @@ module _ (work : Work) where
   -- the lines' answers, as the lines have them
   abbrev InTurn : List (List ℕ) → List ℕ → List ℕ → Type 0
   InTurn [] statuses outputs = (statuses ≡ []) × (outputs ≡ [])
-  InTurn (l ∷ ls) statuses outputs = (s : ℕ) × (ss : List ℕ) × (o : List ℕ) × (os : List ℕ) × Answers work l s o × AnswersAll work ls ss os
+  InTurn (l ∷ ls) statuses outputs = (s : ℕ) × (ss : List ℕ) × (o : List ℕ) × (os : List ℕ) × AnswersLine work l s o × AnswersAll work ls ss os
       × (statuses ≡ s ∷ ss) × (outputs ≡ o ++ os)
 
   in_turn : {lines : List (List ℕ)} {statuses outputs : List ℕ} → AnswersAll work lines statuses outputs → InTurn lines statuses outputs
   in_turn all.none = (refl, refl)
   in_turn (all.next l ls s ss o os h more) = (s, ss, o, os, h, more, refl, refl)
 
-  pub one_for_all : (lines : List (List ℕ)) (statuses others outputs again : List ℕ) → IsExact work.command work.options.list → AnswersAll work lines statuses outputs
+  pub one_for_all : (lines : List (List ℕ)) (statuses others outputs again : List ℕ) → IsExact work.command work.options.notation work.options.list → work.options.json_refusals ≡ false → AnswersAll work lines statuses outputs
       → AnswersAll work lines others again → (statuses ≡ others) × (outputs ≡ again)
-  one_for_all [] statuses others outputs again exact h k =
+  one_for_all [] statuses others outputs again exact plain h k =
       let p = in_turn h in
       let q = in_turn k in
       (p.0 ∙ sym q.0, p.1 ∙ sym q.1)
-  one_for_all (l ∷ ls) statuses others outputs again exact h k =
+  one_for_all (l ∷ ls) statuses others outputs again exact plain h k =
       let p = in_turn h in
       let q = in_turn k in
-      let first = one_answer work l p.0 q.0 p.2 q.2 exact p.4 q.4 in
-      let behind = one_for_all ls p.1 q.1 p.3 q.3 exact p.5 q.5 in (
+      let one = as_answered work.options.json_refusals (Answers work l) p.0 p.2 plain p.4 in
+      let other = as_answered work.options.json_refusals (Answers work l) q.0 q.2 plain q.4 in
+      let first = one_answer work l p.0 q.0 p.2 q.2 exact one other in
+      let behind = one_for_all ls p.1 q.1 p.3 q.3 exact plain p.5 q.5 in (
         p.6 ∙ ap₂ (λ (x : ℕ) (xs : List ℕ). x ∷ xs) first.0 behind.0 ∙ sym q.6,
         p.7 ∙ ap₂ (λ (xs ys : List ℕ). xs ++ ys) first.1 behind.1 ∙ sym q.7,
       )
@@ -38,7 +41,8 @@ module _ (work : Work) where
       → (statuses : List ℕ) × (outputs : List ℕ) × AnswersAll work lines statuses outputs
   some_for_all [] are within = ([], [], all.none)
   some_for_all (l ∷ ls) are within =
-      let first = some_answer work l (All-head AreBytes l ls are) (λ _. All-head (λ line. length line ≤ size_limit) l ls within) in
+      let answer = some_answer work l (All-head AreBytes l ls are) (λ _. All-head (λ line. length line ≤ size_limit) l ls within) in
+      let first = some_form work.options.json_refusals (Answers work l) answer.0 answer.1 answer.2 in
       let behind = some_for_all ls (All-tail AreBytes l ls are) (All-tail (λ line. length line ≤ size_limit) l ls within) in
       (first.0 ∷ behind.0, first.1 ++ behind.1, all.next l ls first.0 behind.0 first.1 behind.1 first.2 behind.2)
 
@@ -63,8 +67,8 @@ bytes_of_lines (c ∷ cs) are =
 -- ---- the laws
 
 pub one_answer_a_line : OneAnswerALine
-one_answer_a_line work content status other output again exact (ss, h, is) (tt, k, also) =
-    let same = one_for_all work (lines_of content) ss tt output again exact h k in
+one_answer_a_line work content status other output again exact plain (ss, h, is) (tt, k, also) =
+    let same = one_for_all work (lines_of content) ss tt output again exact plain h k in
     (is ∙ ap greatest same.0 ∙ sym also, same.1)
 
 pub some_answer_a_line : SomeAnswerALine

@@ -1,5 +1,5 @@
 -- A job has at most one answer to an input.
-use Rattle.bcs_tool_answers.proofs.Prelude.{◌≡◌, ◌∙◌, ◌⊎◌, ◌++◌, inl, inr, ℕ, List, codes, length, string_bytes, ap, refl, sym, subst, Entries, Grows, IsOrderly, Shape, plain, Step, same_registry, SpellsPath, one_path, coding_of, Work, Command, Check, Encode, Decode, Normalise, IsExact, OneAnswer, json_fault_name, Answers, AnswersTexts, IsAsked, Lists, count_line, line_of, lists, printed, printed_none, refusal_line, stop_line, IsFormatWord, IsPathOf, IsRegistry, RefusesJobOf, RefusesFormatted, job_fault_name, JobFault}
+use Rattle.bcs_tool_answers.proofs.Prelude.{◌≡◌, ◌∙◌, ◌⊎◌, ◌++◌, inl, inr, ℕ, List, codes, length, string_bytes, ap, refl, sym, subst, Entries, Grows, IsOrderly, Shape, plain, Step, same_registry, SpellsPath, SpellsSteps, one_path, coding_of, Notation, Work, Command, Check, Encode, Decode, Normalise, IsExact, OneAnswer, json_fault_name, Answers, AnswersTexts, IsAsked, Lists, count_line, line_of, lists, printed, printed_none, refusal_line, stop_line, IsFormatWord, IsPathOf, IsRegistry, RefusesJobOf, RefusesFormatted, job_fault_name, JobFault}
 use Rattle.bcs_tool_command_line.specs.declared.command.Command.TheVariants as command
 use Rattle.bcs_tool_answers.specs.Answers as answer
 use Rattle.bcs_tool_answers.specs.Input as given
@@ -29,7 +29,7 @@ module _ (work : Work) (input : List ℕ) where
   Late Normalise s p = Valued (Normalised work input) s p
   Late command.Same s p = Valued Compared s p
   Late command.Scan s p = Valued (Scanned work input) s p
-  Late command.Part s p = (path : List Step) × SpellsPath (string_bytes work.path) path × Valued (λ r f. Parted work input r f path) s p
+  Late command.Part s p = (path : List Step) × SpellsSteps work.options.notation (string_bytes work.path) path × Valued (λ r f. Parted work input r f path) s p
 
   abbrev Early : Command → ℕ → List ℕ → Type 0
   Early c s p = (fault : JobFault) × (list : List ℕ) × RefusesJobOf c work fault × Lists (lists work fault) list × (s ≡ 2) × (p ≡ list ++ refusal_line (job_fault_name fault))
@@ -39,14 +39,14 @@ module _ (work : Work) (input : List ℕ) where
 
   -- `part`, whose PATH spells these steps
   parted : (r : Entries) (f : Shape) (path : List Step) (s : ℕ) (p : List ℕ) → IsAsked work input command.Part r f
-      → SpellsPath (string_bytes work.path) path → Parted work input r f path s p → Late command.Part s p
+      → SpellsSteps work.options.notation (string_bytes work.path) path → Parted work input r f path s p → Late command.Part s p
   parted r f path s p asked spells is = (path, spells, valued (λ r f. Parted work input r f path) command.Part r f s p asked is)
 
   -- its PATH spells steps, since it is not refused
-  spelled : (c : Command) (r : Entries) (f : Shape) → c ≡ command.Part → IsAsked work input c r f → (path : List Step) × SpellsPath (string_bytes work.path) path
+  spelled : (c : Command) (r : Entries) (f : Shape) → c ≡ command.Part → IsAsked work input c r f → (path : List Step) × SpellsSteps work.options.notation (string_bytes work.path) path
   spelled c r f is asked =
       let has = asked.asks.has_path in
-      (has.0, subst (λ (k : Command). IsPathOf k (string_bytes work.path) has.0) (asked.is_command ∙ is) has.1)
+      (has.0, subst (λ (k : Command). IsPathOf k work.options.notation (string_bytes work.path) has.0) (asked.is_command ∙ is) has.1)
 
   by : (c : Command) (s : ℕ) (p : List ℕ) → work.command ≡ c → Late c s p → Early work.command s p ⊎ Late work.command s p
   by c s p is late = inr (subst (λ k. Late k s p) (sym is) late)
@@ -101,7 +101,7 @@ module _ (work : Work) (input : List ℕ) where
       let format : g ≡ f = one_format_word r (string_bytes work.format) g f (subst (λ (m : Entries). IsFormatWord m (string_bytes work.format) g) same b) a in
       one r f h.0.2.orderly s z p q x (subst (λ (i : Shape). P r i z q) format (subst (λ (m : Entries). P m g z q) same y))
 
-  one_late : (c : Command) → IsExact c work.options.list → IsOne (Late c)
+  one_late : (c : Command) → IsExact c work.options.notation work.options.list → IsOne (Late c)
   one_late Check exact s z p q (r, h, hs, hp) (n, k, ks, kq) =
       (hs ∙ sym ks, hp ∙ ap (λ (m : Entries). count_line (length m)) (same_registry work.registry.items r n h.0 k.0) ∙ sym kq)
   one_late command.Grows exact s z p q (r, n, h, g, w, l, a, hs, hp) (r2, n2, k, i, x, m, b, ks, kq) =
@@ -115,7 +115,9 @@ module _ (work : Work) (input : List ℕ) where
   one_late Normalise exact s z p q h k = one_valued (Normalised work input) (one_normalised work input) s z p q h k
   one_late command.Same exact s z p q h k = one_valued Compared (λ r f. one_pair r work.limits f work.second.items input) s z p q h k
   one_late command.Part exact s z p q (path, spells, h) (other, also, k) =
-      let same : other ≡ path = one_path (string_bytes work.path) other path also spells in
+      let by_path : (steps : List Step) → SpellsSteps work.options.notation (string_bytes work.path) steps → SpellsPath (string_bytes work.path) steps =
+      λ steps is. subst (λ (n : Notation). SpellsSteps n (string_bytes work.path) steps) exact is in
+      let same : other ≡ path = one_path (string_bytes work.path) other path (by_path other also) (by_path path spells) in
       one_valued (λ r f. Parted work input r f path) (λ r f orderly. one_parted work input r f orderly path) s z p q h
       (subst (λ (t : List Step). Valued (λ r f. Parted work input r f t) z q) same k)
   one_late command.Scan exact s z p q h k = one_valued (Scanned work input) (one_scanned work input) s z p q h k
@@ -124,7 +126,7 @@ module _ (work : Work) (input : List ℕ) where
   of_valued : (P : Entries → Shape → ℕ → List ℕ → Type 0) (fault : JobFault) (s : ℕ) (p : List ℕ) → RefusesFormatted work fault → Valued P s p → ⊥
   of_valued P fault s p h (r, f, is, a, x) = not_formatted work fault r f h is a
 
-  not_late : (c : Command) (fault : JobFault) (s : ℕ) (p : List ℕ) → IsExact c work.options.list → RefusesJobOf c work fault → Late c s p → ⊥
+  not_late : (c : Command) (fault : JobFault) (s : ℕ) (p : List ℕ) → IsExact c work.options.notation work.options.list → RefusesJobOf c work fault → Late c s p → ⊥
   not_late Check fault s p exact h (r, is, ks, kq) = not_checked work fault r h is
   not_late command.Grows fault s p exact h (r, n, is, i, g, l, a, ks, kq) = not_grown work fault r n h is i g
   not_late command.Show fault s p exact h k = absurd exact
@@ -138,7 +140,7 @@ module _ (work : Work) (input : List ℕ) where
   not_late command.Scan fault s p exact h k = of_valued (Scanned work input) fault s p h k
   not_late command.Part fault s p exact h (path, spells, (r, f, is, a, x)) = not_parted work fault r f path h is a spells
 
-  one_of_both : (c : Command) (s z : ℕ) (p q : List ℕ) → IsExact c work.options.list → Early c s p ⊎ Late c s p → Early c z q ⊎ Late c z q → Agrees s p z q
+  one_of_both : (c : Command) (s z : ℕ) (p q : List ℕ) → IsExact c work.options.notation work.options.list → Early c s p ⊎ Late c s p → Early c z q ⊎ Late c z q → Agrees s p z q
   one_of_both c s z p q exact (inl (e, l, h, a, hs, hp)) (inl (g, m, k, b, ks, kq)) =
       let none = a (unlisted c work e exact h) ∙ sym (b (unlisted c work g exact k)) in (
         hs ∙ sym ks,

@@ -1,5 +1,6 @@
 -- The words of a job are refused for one reason, and then nothing else is answered.
-use Rattle.bcs_tool_answers.proofs.Prelude.{◌≡◌, ◌∙◌, inl, inr, ℕ, List, Option, Some, None, Result, Ok, Err, true, false, ap, refl, string_bytes, sym, subst, is_some, result_err, true≢false, Entries, container_at, growth_fault, Grows, IsFirstGrowthFault, Shape, RegistryFault, GrowthFault, fault_exactly, ok_exactly, IsLeastFault, one_fault, one_format_fault, same_format, same_registry, Step, SpellsPath, Work, Command, IsExact, lists, IsFormatWord, IsPathOf, IsRegistry, ReadsInput, RefusesJobOf, RefusesCheck, RefusesEarly, RefusesFormatWord, RefusesFormatted, RefusesGrowth, RefusesPart, is_json_word, works_on_values, JobFault, BadPath, Registry, Growth}
+use Rattle.bcs_tool_answers.proofs.Prelude.{◌≡◌, ◌∙◌, inl, inr, ℕ, List, Option, Some, None, Result, Ok, Err, true, false, ap, refl, string_bytes, sym, subst, is_some, result_err, true≢false, Entries, container_at, growth_fault, Grows, IsFirstGrowthFault, Shape, RegistryFault, GrowthFault, fault_exactly, ok_exactly, IsLeastFault, one_fault, one_format_fault, same_format, same_registry, Step, SpellsSteps, Work, Command, IsExact, lists, IsFormatWord, IsPathOf, IsRegistry, ReadsInput, RefusesJobOf, RefusesCheck, RefusesEarly, RefusesFormatWord, RefusesFormatted, RefusesGrowth, RefusesPart, is_json_word, works_on_values, JobFault, BadPath, Registry, Growth}
+use Rattle.bcs_tool_answers.proofs.NotationLemmas.{not_both_spelled}
 use Rattle.bcs_tool_command_line.specs.declared.command.Command.TheVariants as command
 
 -- ---- FORMAT
@@ -120,9 +121,9 @@ module _ (work : Work) where
   one_part (Growth e) g h k = absurd h
 
   pub not_parted : (e : JobFault) (r : Entries) (s : Shape) (path : List Step) → RefusesPart work e → IsRegistry work.registry.items r
-      → IsFormatWord r (string_bytes work.format) s → SpellsPath (string_bytes work.path) path → ⊥
+      → IsFormatWord r (string_bytes work.format) s → SpellsSteps work.options.notation (string_bytes work.path) path → ⊥
   not_parted (Registry e) r s path h is f spells = not_formatted (Registry e) r s h is f
-  not_parted BadPath r s path (q, g, i, j, never) is f spells = never path spells
+  not_parted BadPath r s path (q, g, i, j, never) is f spells = not_both_spelled work.options.notation (string_bytes work.path) path spells never
   not_parted (Growth e) r s path h is f spells = h
 
   pub not_checked : (e : JobFault) (r : Entries) → RefusesCheck work e → IsRegistry work.registry.items r → ⊥
@@ -139,7 +140,7 @@ module _ (work : Work) where
       not_both r n e (subst (λ (x : Entries). IsFirstGrowthFault r x e) newer (subst (λ (x : Entries). IsFirstGrowthFault x m e) older h)) g
   not_grown BadPath r n h is i g = h
 
-pub one_refusal : (c : Command) (work : Work) (e g : JobFault) → IsExact c work.options.list → RefusesJobOf c work e → RefusesJobOf c work g → e ≡ g
+pub one_refusal : (c : Command) (work : Work) (e g : JobFault) → IsExact c work.options.notation work.options.list → RefusesJobOf c work e → RefusesJobOf c work g → e ≡ g
 one_refusal command.Check work e g exact h k = one_check work e g h k
 one_refusal command.Grows work e g exact h k = one_growth work e g h k
 one_refusal command.Show work e g exact h k = absurd exact
@@ -154,7 +155,7 @@ one_refusal command.Part work e g exact h k = one_part work e g h k
 one_refusal command.Scan work e g exact h k = one_formatted work e g h k
 
 -- before a refusal stands no list, where the output is exact
-pub unlisted : (c : Command) (work : Work) (e : JobFault) → IsExact c work.options.list → RefusesJobOf c work e → lists work e ≡ false
+pub unlisted : (c : Command) (work : Work) (e : JobFault) → IsExact c work.options.notation work.options.list → RefusesJobOf c work e → lists work e ≡ false
 unlisted c work (Registry e) exact h = refl
 unlisted c work BadPath exact h = refl
 unlisted command.Grows work (Growth e) exact h = exact
@@ -210,7 +211,7 @@ module _ (work : Work) where
   refused_reads_nothing command.Scan fault is h reads = not_valued fault h reads
   refused_reads_nothing command.Part fault is h (r, s, asks) =
       let has = asks.has_path in
-      not_parted work fault r s has.0 h asks.is_registry asks.is_format (subst (λ (k : Command). IsPathOf k (string_bytes work.path) has.0) is has.1)
+      not_parted work fault r s has.0 h asks.is_registry asks.is_format (subst (λ (k : Command). IsPathOf k work.options.notation (string_bytes work.path) has.0) is has.1)
 
   pub refusal_reads_nothing : (fault : JobFault) → RefusesEarly work fault → ReadsInput work → ⊥
   refusal_reads_nothing fault h reads = refused_reads_nothing work.command fault refl h reads

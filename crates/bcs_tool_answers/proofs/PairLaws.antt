@@ -1,6 +1,7 @@
 -- The lines of two files have exactly one answer.
-use Rattle.bcs_tool_answers.proofs.Prelude.{◌≡◌, ◌++◌, ◌∷◌, ◌∙◌, [], ℕ, List, ap, ap₂, codes, refl, string_bytes, subst, sym, Entries, Shape, same_registry, lines_of, OneComparison, SomeComparison, AnswersTexts, line_of, IsFormatWord, ReadsInput, greatest, AnswersPair, AnswersPairs, Ending, Together, FirstEnds, SecondEnds, Work}
+use Rattle.bcs_tool_answers.proofs.Prelude.{◌≡◌, ◌++◌, ◌∷◌, ◌∙◌, [], ℕ, List, false, ap, ap₂, codes, refl, string_bytes, subst, sym, Entries, Shape, same_registry, lines_of, OneComparison, SomeComparison, AnswersTexts, line_of, IsFormatWord, ReadsInput, greatest, AnswersLinePair, AnswersPair, AnswersPairs, Ending, Together, FirstEnds, SecondEnds, Work}
 use Rattle.bcs_tool_answers.specs.PairAnswers as pairs
+use Rattle.bcs_tool_answers.proofs.FormLemmas.{as_answered, some_form}
 use Rattle.bcs_tool_answers.proofs.OnePair.{Agrees, one_pair}
 use Rattle.bcs_tool_answers.proofs.OneRefusal.{one_format_word}
 use Rattle.bcs_tool_answers.proofs.SomePair.{some_pair}
@@ -21,7 +22,7 @@ module _ (work : Work) where
   InTurn [] [] statuses outputs = (statuses ≡ []) × (outputs ≡ [])
   InTurn [] (g ∷ gs) statuses outputs = (statuses ≡ 1 ∷ []) × (outputs ≡ line_of (codes "different"))
   InTurn (f ∷ fs) [] statuses outputs = (statuses ≡ 1 ∷ []) × (outputs ≡ line_of (codes "different"))
-  InTurn (f ∷ fs) (g ∷ gs) statuses outputs = (e : Ending) × (s : ℕ) × (ss : List ℕ) × (o : List ℕ) × (os : List ℕ) × AnswersPair work f g s o
+  InTurn (f ∷ fs) (g ∷ gs) statuses outputs = (e : Ending) × (s : ℕ) × (ss : List ℕ) × (o : List ℕ) × (os : List ℕ) × AnswersLinePair work f g s o
       × AnswersPairs work fs gs e ss os × (statuses ≡ s ∷ ss) × (outputs ≡ o ++ os)
 
   in_turn : {firsts seconds : List (List ℕ)} {ending : Ending} {statuses outputs : List ℕ} → AnswersPairs work firsts seconds ending statuses outputs
@@ -31,25 +32,27 @@ module _ (work : Work) where
   in_turn (pairs.second_ends l ls) = (refl, refl)
   in_turn (pairs.next f g fs gs e s ss o os h more) = (e, s, ss, o, os, h, more, refl, refl)
 
-  one_for_all : (firsts seconds : List (List ℕ)) (e d : Ending) (statuses others outputs again : List ℕ) → AnswersPairs work firsts seconds e statuses outputs
+  one_for_all : (firsts seconds : List (List ℕ)) (e d : Ending) (statuses others outputs again : List ℕ) → work.options.json_refusals ≡ false → AnswersPairs work firsts seconds e statuses outputs
       → AnswersPairs work firsts seconds d others again → (statuses ≡ others) × (outputs ≡ again)
-  one_for_all [] [] e d statuses others outputs again h k =
+  one_for_all [] [] e d statuses others outputs again plain h k =
       let p = in_turn h in
       let q = in_turn k in
       (p.0 ∙ sym q.0, p.1 ∙ sym q.1)
-  one_for_all [] (g ∷ gs) e d statuses others outputs again h k =
+  one_for_all [] (g ∷ gs) e d statuses others outputs again plain h k =
       let p = in_turn h in
       let q = in_turn k in
       (p.0 ∙ sym q.0, p.1 ∙ sym q.1)
-  one_for_all (f ∷ fs) [] e d statuses others outputs again h k =
+  one_for_all (f ∷ fs) [] e d statuses others outputs again plain h k =
       let p = in_turn h in
       let q = in_turn k in
       (p.0 ∙ sym q.0, p.1 ∙ sym q.1)
-  one_for_all (f ∷ fs) (g ∷ gs) e d statuses others outputs again h k =
+  one_for_all (f ∷ fs) (g ∷ gs) e d statuses others outputs again plain h k =
       let p = in_turn h in
       let q = in_turn k in
-      let first = one_pair_answer f g p.1 q.1 p.3 q.3 p.5 q.5 in
-      let behind = one_for_all fs gs p.0 q.0 p.2 q.2 p.4 q.4 p.6 q.6 in (
+      let one = as_answered work.options.json_refusals (AnswersPair work f g) p.1 p.3 plain p.5 in
+      let other = as_answered work.options.json_refusals (AnswersPair work f g) q.1 q.3 plain q.5 in
+      let first = one_pair_answer f g p.1 q.1 p.3 q.3 one other in
+      let behind = one_for_all fs gs p.0 q.0 p.2 q.2 p.4 q.4 plain p.6 q.6 in (
         p.7 ∙ ap₂ (λ (x : ℕ) (xs : List ℕ). x ∷ xs) first.0 behind.0 ∙ sym q.7,
         p.8 ∙ ap₂ (λ (xs ys : List ℕ). xs ++ ys) first.1 behind.1 ∙ sym q.8,
       )
@@ -68,15 +71,16 @@ module _ (work : Work) where
     some_for_all [] (g ∷ gs) = (FirstEnds, 1 ∷ [], line_of (codes "different"), pairs.first_ends g gs)
     some_for_all (f ∷ fs) [] = (SecondEnds, 1 ∷ [], line_of (codes "different"), pairs.second_ends f fs)
     some_for_all (f ∷ fs) (g ∷ gs) =
-        let first = some_pair_answer f g in
+        let answer = some_pair_answer f g in
+        let first = some_form work.options.json_refusals (AnswersPair work f g) answer.0 answer.1 answer.2 in
         let behind = some_for_all fs gs in
         (behind.0, first.0 ∷ behind.1, first.1 ++ behind.2, pairs.next f g fs gs behind.0 first.0 behind.1 first.1 behind.2 first.2 behind.3)
 
 -- ---- the laws
 
 pub one_comparison : OneComparison
-one_comparison work first second status other output again (e, ss, h, is) (d, tt, k, also) =
-    let same = one_for_all work (lines_of first) (lines_of second) e d ss tt output again h k in
+one_comparison work first second status other output again plain (e, ss, h, is) (d, tt, k, also) =
+    let same = one_for_all work (lines_of first) (lines_of second) e d ss tt output again plain h k in
     (is ∙ ap greatest same.0 ∙ sym also, same.1)
 
 pub some_comparison : SomeComparison

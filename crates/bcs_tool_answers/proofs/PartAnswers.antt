@@ -1,16 +1,11 @@
 -- The answers to a part, by what `part` hands out.
-use Rattle.bcs_tool_answers.proofs.Prelude.{◌≡◌, ℕ, List, Option, Some, None, refl, string_bytes, sym, subst, Entries, Shape, Tree, Accepts, Step, Part, part_at, GivesPart, SpellsPath, Answers, IsAsked, found, nowhere, printed, printed_none, GivesBytes, IsPathOf, coding_of, Work, Command}
+use Rattle.bcs_tool_answers.proofs.Prelude.{◌≡◌, ℕ, List, Option, Some, None, refl, string_bytes, sym, subst, Entries, Shape, Tree, Accepts, Step, Part, part_at, GivesPart, SpellsSteps, Answers, IsAsked, found, nowhere, printed, printed_none, GivesBytes, coding_of, Work}
 use Rattle.bcs_registry_model.specs.Container.{of}
 use Rattle.bcs_decode_parts.specs.declared.part.Part as handed
 use Rattle.bcs_tool_command_line.specs.declared.command.Command.TheVariants as command
 
--- the steps of the job's PATH, which are these too
-pub spells : (k : Command) (word : List ℕ) (path steps : List Step) → k ≡ command.Part → steps ≡ path → IsPathOf k word path → SpellsPath word steps
-spells k word path steps is same h =
-    subst (λ (p : List Step). SpellsPath word p) (sym same) (subst (λ (c : Command). IsPathOf c word path) is h)
-
 module _ (work : Work) (input : List ℕ) (registry : Entries) (s : Shape) (bytes : List ℕ) (n : ℕ) (t : Tree) (path : List Step)
-    (asked : IsAsked work input command.Part registry s) (spelled : SpellsPath (string_bytes work.path) path)
+    (asked : IsAsked work input command.Part registry s) (spelled : SpellsSteps work.options.notation (string_bytes work.path) path)
     (gives : GivesBytes (coding_of work) input bytes) (accepts : Accepts registry work.limits s bytes n t) where
   pub finds : (o : Option handed.Part) (r : handed.Part) → o ≡ Some r → GivesPart registry bytes (part_at registry path (of s) t) o
       → Answers work input 0 (printed (coding_of work) r.bytes.now)

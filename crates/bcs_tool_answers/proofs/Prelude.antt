@@ -1,6 +1,7 @@
 -- What the proofs use of other crates, and of this crate's definitions.
 pub use Rattle.std.proofs.Common.{[], ap, append-nil, append_assoc, ap₂, arith, Bool, bytes_eq, codes, cond, drop, Err, false, IfErr, IfOk, IfSome, if◌then◌else◌, inl, inr, length, List, map, max, None, Ok, Option, refl, Result, Some, string_bytes, subst, suc, sym, take, true, zero, ℕ, ◌++◌, ◌+◌, ◌-◌, ◌<◌, ◌==◌, ◌∙◌, ◌∷◌, ◌≡◌, ◌≢◌, ◌≤◌, ◌⊎◌}
 pub use Rattle.std.proofs.lemmas.Bool.{cases_Bool, cases_lt, true≢false}
+pub use Rattle.std.proofs.lemmas.Bool.Decides.{eqb_tells}
 pub use Rattle.std.proofs.lemmas.List.Elements.{All-cons, All-from_get_or, All-head, All-nil, All-tail}
 pub use Rattle.std.proofs.lemmas.Option.{none-some}
 pub use Rattle.std.proofs.lemmas.Result.{err_from_is_err_and, IfErr-weaker, IfOk-weaker}
@@ -28,6 +29,7 @@ pub use Rattle.bcs_decode_spec.specs.Stopping.{Stops, StopsAll}
 pub use Rattle.bcs_decode_spec.specs.declared.reason.Reason.{Reason}
 pub use Rattle.bcs_decode_spec.specs.declared.stop.Stop.{Stop}
 pub use Rattle.bcs_display_pieces.specs.EndsAt.{EndsAt}
+pub use Rattle.bcs_display_pieces.specs.PartTexts.{is_name, is_pointer}
 pub use Rattle.bcs_encode_spec.proofs.FormLaws.{bytes_decide_same, forms_same}
 pub use Rattle.bcs_encode_spec.specs.Encodes.{Encodes, IsForm}
 pub use Rattle.bcs_encode_spec.specs.Plain.{plain}
@@ -67,6 +69,7 @@ pub use Rattle.bcs_tool_command_line.specs.declared.coding.Coding.{Coding}
 pub use Rattle.bcs_tool_command_line.specs.declared.coding.Coding.TheVariants.{Base64, Hexadecimal, Raw}
 pub use Rattle.bcs_tool_command_line.specs.declared.command.Command.{Command}
 pub use Rattle.bcs_tool_command_line.specs.declared.command.Command.TheVariants.{Check, Decode, Encode, Example, Explain, Normalise, Same, Scan, Schema, Show}
+pub use Rattle.bcs_tool_command_line.specs.declared.notation.Notation.{Notation}
 pub use Rattle.bcs_tool_command_line.specs.declared.work.Work.{Work}
 pub use Rattle.bcs_value_model.proofs.Equivalence.{same-refl}
 pub use Rattle.bcs_value_model.specs.Limits.{Bounds}
@@ -81,9 +84,11 @@ pub use Rattle.bcs_tool_answers.specs.AnswerLaws.{IsExact, OneAnswer, OneAnswerA
 pub use Rattle.bcs_tool_answers.specs.Answers.{Answers, AnswersTexts, checked, compared, count_line, damaged, decoded, described, different, encoded, equal, exampled, explained, first_refused, found, front_stopped, grown, IsAsked, IsWithin, line_of, Lists, lists, no_bytes, normalised, nowhere, printed, printed_none, refusal_line, refused, refused_early, scan_stopped, scanned, ScanStops, second_refused, stop_line, stopped, too_nested}
 pub use Rattle.bcs_tool_answers.specs.Input.{GivesBytes, input_fault_name, is_blank, IsBase64Of, without_blanks}
 unfoldable pub use Rattle.bcs_tool_answers.specs.Input.{base64_text}
-pub use Rattle.bcs_tool_answers.specs.LineAnswers.{AnswersAll, count_of, greatest}
-pub use Rattle.bcs_tool_answers.specs.PairAnswers.{AnswersPair, AnswersPairs}
-pub use Rattle.bcs_tool_answers.specs.Places.{IsAnswer, MayReport, nothing, Places, PrintsWithoutPlace, told}
+pub use Rattle.bcs_tool_answers.specs.JsonRefusals.{HasForm, InForm, IsJsonRefusal, is_of_name, refusal_name}
+pub use Rattle.bcs_tool_answers.specs.LineAnswers.{AnswersAll, AnswersLine, count_of, greatest}
+pub use Rattle.bcs_tool_answers.specs.PairAnswers.{AnswersLinePair, AnswersPair, AnswersPairs}
+pub use Rattle.bcs_tool_answers.specs.Notations.{SpellsNoSteps, SpellsSteps}
+pub use Rattle.bcs_tool_answers.specs.Places.{IsAnswer, IsPrintable, MayReport, nothing, Places, PrintsWithoutPlace, told}
 pub use Rattle.bcs_tool_answers.specs.Preparing.{IsAskedBy}
 pub use Rattle.bcs_tool_answers.specs.Validating.{is_json_word, IsFormatWord, IsPathOf, IsRegistry, job_fault_name, name_of, NamesNone, ReadsInput, RefusesCheck, RefusesEarly, RefusesFormatted, RefusesFormatWord, RefusesGrowth, RefusesJobOf, RefusesPart, works_on_values}
 pub use Rattle.bcs_tool_answers.specs.declared.answer.Answer.{Answer}

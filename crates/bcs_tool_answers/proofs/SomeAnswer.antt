@@ -1,9 +1,10 @@
 -- Each job has an answer to each input within the size, a lemma for each command.
-use Rattle.bcs_tool_answers.proofs.Prelude.{◌≡◌, inl, inr, ℕ, List, true, refl, string_bytes, subst, sym, [], Option, Some, None, cases_lt, depth, Entries, Shape, UnknownName, Tree, some_verdict_is, some_verdict_of_all_is, Accepts, AreBytes, Part, Step, part_at, of, nesting_limit, some_bytes, some_normal_text, some_shown_text, SomeAnswer, Answers, IsAsked, IsWithin, checked, compared, damaged, decoded, described, encoded, exampled, explained, found, front_stopped, grown, no_bytes, normalised, nowhere, refused, refused_early, scan_stopped, scanned, stopped, too_nested, GivesBytes, IsFormatWord, IsPathOf, IsRegistry, RefusesJobOf, name_of, works_on_values, JobFault, BadPath, Growth, Registry, coding_of, Work, some_path, SpellsPath, Command}
+use Rattle.bcs_tool_answers.proofs.Prelude.{◌≡◌, inl, inr, ℕ, List, true, refl, string_bytes, subst, sym, [], Option, Some, None, cases_lt, depth, Entries, Shape, UnknownName, Tree, some_verdict_is, some_verdict_of_all_is, Accepts, AreBytes, Part, Step, part_at, of, nesting_limit, some_bytes, some_normal_text, some_shown_text, SomeAnswer, Answers, IsAsked, IsWithin, checked, compared, damaged, decoded, described, encoded, exampled, explained, found, front_stopped, grown, no_bytes, normalised, nowhere, refused, refused_early, scan_stopped, scanned, stopped, too_nested, GivesBytes, IsFormatWord, IsPathOf, IsRegistry, RefusesJobOf, name_of, works_on_values, JobFault, BadPath, Growth, Registry, coding_of, Work, SpellsSteps, Command}
 use Rattle.bcs_registry_model.specs.Container as container
 use Rattle.bcs_json_spec.specs.Shown as value
 use Rattle.bcs_tool_answers.specs.Answers.{shown}
 use Rattle.bcs_tool_answers.proofs.AnswerLemmas.{refuses_formatted}
+use Rattle.bcs_tool_answers.proofs.NotationLemmas.{some_steps}
 use Rattle.bcs_tool_answers.proofs.ScanAnswers.{some_scan}
 use Rattle.bcs_tool_answers.proofs.SomeInput.{some_given}
 use Rattle.bcs_tool_answers.proofs.SomePair.{validated, some_pair}
@@ -112,7 +113,7 @@ module _ (work : Work) (input : List ℕ) where
     ]
 
     -- a value stands at the front of bytes, and the steps lead to a part of it or nowhere; or the bytes stop
-    front_answered : IsAsked work input command.Part r s → (path : List Step) → SpellsPath (string_bytes work.path) path → (bytes : List ℕ) → AreBytes bytes → GivesBytes (coding_of work) input bytes → Answered
+    front_answered : IsAsked work input command.Part r s → (path : List Step) → SpellsSteps work.options.notation (string_bytes work.path) path → (bytes : List ℕ) → AreBytes bytes → GivesBytes (coding_of work) input bytes → Answered
     front_answered asked path spells bytes are given = elim (some_verdict_is r work.limits s bytes are) [
       | inr h ↦ (_, _, front_stopped r s bytes h.0 h.1 asked given h.2)
       | inl h ↦ at h.0 h.1 h.2 (part_at r path (container.of s) h.1) refl
@@ -122,7 +123,7 @@ module _ (work : Work) (input : List ℕ) where
         at n c accepted None is = (_, _, nowhere r s path bytes n c asked spells given accepted is)
         at n c accepted (Some x) is = (_, _, found r s path bytes n c x asked spells given accepted is)
 
-    some_part : AreBytes input → (path : List Step) → SpellsPath (string_bytes work.path) path → IsAsked work input command.Part r s → Answered
+    some_part : AreBytes input → (path : List Step) → SpellsSteps work.options.notation (string_bytes work.path) path → IsAsked work input command.Part r s → Answered
     some_part are path spells asked = elim (some_given input (coding_of work) are) [
       | inl h ↦ front_answered asked path spells h.0 h.1 h.2
       | inr none ↦ (_, _, no_bytes command.Part r s (inr (inl refl)) asked none)
@@ -145,14 +146,14 @@ module _ (work : Work) (input : List ℕ) where
 
   -- a command on values asks for its input, where its words are good
   asks_for : (c : Command) → works_on_values c ≡ true → IsWithin work input → work.command ≡ c → (r : Entries) (s : Shape) → IsRegistry work.registry.items r → IsFormatWord r (string_bytes work.format) s
-      → (path : List Step) → IsPathOf c (string_bytes work.path) path → IsAsked work input c r s
+      → (path : List Step) → IsPathOf c work.options.notation (string_bytes work.path) path → IsAsked work input c r s
   asks_for c values within is r s registry format path spells =
       let works : works_on_values work.command ≡ true = subst (λ (d : Command). works_on_values d ≡ true) (sym is) values in
-      let has : IsPathOf work.command (string_bytes work.path) path = subst (λ (d : Command). IsPathOf d (string_bytes work.path) path) (sym is) spells in
+      let has : IsPathOf work.command work.options.notation (string_bytes work.path) path = subst (λ (d : Command). IsPathOf d work.options.notation (string_bytes work.path) path) (sym is) spells in
       record { is_command = is; asks = record { command = works; is_registry = registry; is_format = format; has_path = (path, has) }; within = within }
 
   -- a command on values without a PATH, from its answer to an input that is asked for
-  valued : (c : Command) → works_on_values c ≡ true → IsPathOf c (string_bytes work.path) [] → IsWithin work input
+  valued : (c : Command) → works_on_values c ≡ true → IsPathOf c work.options.notation (string_bytes work.path) [] → IsWithin work input
       → ((r : Entries) (s : Shape) → IsRegistry work.registry.items r → IsAsked work input c r s → Answered) → work.command ≡ c → Answered
   valued c values none within answer is = elim (some_formatted work) [
     | inr h ↦ refused_words c is h.0 (refuses_formatted c work h.0 values h.1)
@@ -163,7 +164,7 @@ module _ (work : Work) (input : List ℕ) where
   of_part : AreBytes input → IsWithin work input → work.command ≡ command.Part → Answered
   of_part are within is = elim (some_formatted work) [
     | inr h ↦ refused_words command.Part is h.0 (refuses_formatted command.Part work h.0 refl h.1)
-    | inl h ↦ elim (some_path (string_bytes work.path)) [
+    | inl h ↦ elim (some_steps work.options.notation (string_bytes work.path)) [
       | inr none ↦ refused_words command.Part is BadPath (h.0, h.1, h.2, h.3, none)
       | inl path ↦ some_part h.0 h.1 h.2 are path.0 path.1 (asks_for command.Part refl within is h.0 h.1 h.2 h.3 path.0 path.1)
     ]

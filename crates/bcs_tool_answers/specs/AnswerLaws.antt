@@ -11,19 +11,23 @@ use Rattle.bcs_tool_command_line.specs.Files.{size_limit}
 use Rattle.bcs_tool_command_line.specs.declared.work.Work.{Work}
 use Rattle.bcs_tool_command_line.specs.declared.command.Command.{Command}
 use Rattle.bcs_tool_command_line.specs.declared.command.Command.TheVariants as command
+use Rattle.bcs_tool_command_line.specs.declared.notation.Notation.{Notation}
+use Rattle.bcs_tool_command_line.specs.declared.notation.Notation.TheVariants.{Path}
 
--- the command's output is promised byte by byte: it isn't for reading, nor is a list asked for that stands before it
-abbrev pub IsExact : Command → Bool → Type 0
-IsExact command.Grows listed = listed ≡ false
-IsExact command.Show listed = ⊥
-IsExact command.Example listed = ⊥
-IsExact command.Schema listed = ⊥
-IsExact command.Explain listed = ⊥
-IsExact other listed = Unit {0}
+-- the command's output is promised byte by byte: it isn't for reading, nor is a list asked for that stands before it, nor is
+-- the part named in another way than by PATH
+abbrev pub IsExact : Command → Notation → Bool → Type 0
+IsExact command.Grows notation listed = listed ≡ false
+IsExact command.Show notation listed = ⊥
+IsExact command.Example notation listed = ⊥
+IsExact command.Schema notation listed = ⊥
+IsExact command.Explain notation listed = ⊥
+IsExact command.Part notation listed = notation ≡ Path
+IsExact other notation listed = Unit {0}
 
 -- there is at most one answer, where the output is exact
 abbrev pub OneAnswer : Type 0
-OneAnswer = (work : Work) (input : List ℕ) (status other : ℕ) (output again : List ℕ) → IsExact work.command work.options.list
+OneAnswer = (work : Work) (input : List ℕ) (status other : ℕ) (output again : List ℕ) → IsExact work.command work.options.notation work.options.list
     → Answers work input status output → Answers work input other again → (status ≡ other) × (output ≡ again)
 
 -- and there is one, to each input of bytes within the size
@@ -33,9 +37,10 @@ SomeAnswer = (work : Work) (input : List ℕ) → AreBytes input → IsWithin wo
 
 -- ---- each line as an input of its own
 
--- there is at most one answer to the lines of an input, where the output is exact
+-- there is at most one answer to the lines of an input, where the output is exact, and refusals aren't JSON
 abbrev pub OneAnswerALine : Type 0
-OneAnswerALine = (work : Work) (content : List ℕ) (status other : ℕ) (output again : List ℕ) → IsExact work.command work.options.list
+OneAnswerALine = (work : Work) (content : List ℕ) (status other : ℕ) (output again : List ℕ) → IsExact work.command work.options.notation work.options.list
+    → work.options.json_refusals ≡ false
     → AnswersLines work content status output → AnswersLines work content other again → (status ≡ other) × (output ≡ again)
 
 -- and there is one, to bytes of which each line is within the size
@@ -45,9 +50,9 @@ SomeAnswerALine = (work : Work) (content : List ℕ) → AreBytes content → Al
 
 -- ---- the lines of two files
 
--- there is at most one answer to them
+-- there is at most one answer to them, unless refusals are JSON
 abbrev pub OneComparison : Type 0
-OneComparison = (work : Work) (first second : List ℕ) (status other : ℕ) (output again : List ℕ)
+OneComparison = (work : Work) (first second : List ℕ) (status other : ℕ) (output again : List ℕ) → work.options.json_refusals ≡ false
     → AnswersFiles work first second status output → AnswersFiles work first second other again → (status ≡ other) × (output ≡ again)
 
 -- and there is one, unless the job's own words are refused

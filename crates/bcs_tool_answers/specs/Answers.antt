@@ -21,7 +21,7 @@ use Rattle.bcs_json_spec.specs.JsonContent.{of}
 use Rattle.bcs_json_spec.specs.Shown as value
 use Rattle.bcs_json_spec.specs.Texts.{Denotes, RefusesText, nesting_limit}
 use Rattle.bcs_json_spec.specs.declared.json_fault.JsonFault.{JsonFault}
-use Rattle.bcs_decode_parts.specs.Path.{SpellsPath}
+use Rattle.bcs_tool_answers.specs.Notations.{SpellsSteps}
 use Rattle.bcs_tool_command_line.specs.Files.{size_limit}
 use Rattle.bcs_tool_answers.specs.Input as given
 use Rattle.bcs_tool_answers.specs.Validating.{Asks, IsFormatWord, IsRegistry, NamesNone, RefusesEarly, is_unlimited, job_fault_name, name_of}
@@ -146,9 +146,9 @@ pub data Answers (work : Work) (input : List ℕ) : ℕ → List ℕ → Type 0 
   -- `decode`, `explain`, `part` and `scan`: the input gives no bytes
   no_bytes : (asked : Command) (registry : Entries) (s : Shape) → TakesBytes asked → IsAsked work input asked registry s → ((bytes : List ℕ) → given.GivesBytes (coding_of work) input bytes → ⊥) → Answers work input 2 (refusal_line (given.input_fault_name (coding_of work)))
   -- `part`: a value stands at the front of the bytes, and the steps of PATH lead to a part of it, whose bytes these are
-  found : (registry : Entries) (s : Shape) (path : List Step) (bytes : List ℕ) (n : ℕ) (c : Tree) (x : Part) → IsAsked work input command.Part registry s → SpellsPath (string_bytes work.path) path → given.GivesBytes (coding_of work) input bytes → Accepts registry work.limits s bytes n c → part_at registry path (container.of s) c ≡ Some x → Answers work input 0 (printed (coding_of work) (plain registry x.value x.content))
+  found : (registry : Entries) (s : Shape) (path : List Step) (bytes : List ℕ) (n : ℕ) (c : Tree) (x : Part) → IsAsked work input command.Part registry s → SpellsSteps work.options.notation (string_bytes work.path) path → given.GivesBytes (coding_of work) input bytes → Accepts registry work.limits s bytes n c → part_at registry path (container.of s) c ≡ Some x → Answers work input 0 (printed (coding_of work) (plain registry x.value x.content))
   -- `part`: they lead nowhere in it
-  nowhere : (registry : Entries) (s : Shape) (path : List Step) (bytes : List ℕ) (n : ℕ) (c : Tree) → IsAsked work input command.Part registry s → SpellsPath (string_bytes work.path) path → given.GivesBytes (coding_of work) input bytes → Accepts registry work.limits s bytes n c → part_at registry path (container.of s) c ≡ None → Answers work input 1 (printed_none (coding_of work))
+  nowhere : (registry : Entries) (s : Shape) (path : List Step) (bytes : List ℕ) (n : ℕ) (c : Tree) → IsAsked work input command.Part registry s → SpellsSteps work.options.notation (string_bytes work.path) path → given.GivesBytes (coding_of work) input bytes → Accepts registry work.limits s bytes n c → part_at registry path (container.of s) c ≡ None → Answers work input 1 (printed_none (coding_of work))
   -- `part`: no value stands at their front, since they stop being one at a place
   front_stopped : (registry : Entries) (s : Shape) (bytes : List ℕ) (reason : Reason) (place : ℕ) → IsAsked work input command.Part registry s → given.GivesBytes (coding_of work) input bytes → Stops registry work.limits s bytes reason place → Answers work input 2 (stop_line reason place)
   -- `scan`: a value stands at the front of the bytes, and it is all of them unless the front alone is asked for

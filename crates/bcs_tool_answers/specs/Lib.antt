@@ -1,6 +1,8 @@
+pub mod Notations
 pub mod Validating
 pub mod Input
 pub mod Answers
+pub mod JsonRefusals
 pub mod LineAnswers
 pub mod PairAnswers
 pub mod AnswerLaws

@@ -3,12 +3,17 @@ use Rattle.std.specs.Prelude.{◌≡◌, ◌==◌, ◌++◌, ◌∷◌, [], ℕ,
 use Rattle.std.specs.Fmt.{decimal}
 use Rattle.bcs_io.specs.Lines.{lines_of}
 use Rattle.bcs_tool_answers.specs.Answers.{Answers}
+use Rattle.bcs_tool_answers.specs.JsonRefusals.{InForm}
 use Rattle.bcs_tool_command_line.specs.declared.work.Work.{Work}
+
+-- the answer to a line: the one to an input of its own, with `--refusals json` in that form
+abbrev pub AnswersLine : Work → List ℕ → ℕ → List ℕ → Type 0
+AnswersLine work line status output = InForm work.options.json_refusals (Answers work line) status output
 
 -- the answers to these lines in turn: their statuses, and their outputs joined
 pub data AnswersAll (work : Work) : List (List ℕ) → List ℕ → List ℕ → Type 0 where
   none : AnswersAll work [] [] []
-  next : (line : List ℕ) (lines : List (List ℕ)) (status : ℕ) (statuses output outputs : List ℕ) → Answers work line status output → AnswersAll work lines statuses outputs → AnswersAll work (line ∷ lines) (status ∷ statuses) (output ++ outputs)
+  next : (line : List ℕ) (lines : List (List ℕ)) (status : ℕ) (statuses output outputs : List ℕ) → AnswersLine work line status output → AnswersAll work lines statuses outputs → AnswersAll work (line ∷ lines) (status ∷ statuses) (output ++ outputs)
 
 -- the greatest of the statuses, or 0 of none
 abbrev pub greatest : List ℕ → ℕ

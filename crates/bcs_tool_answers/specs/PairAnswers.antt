@@ -6,6 +6,7 @@ use Rattle.bcs_registry_model.specs.Shape.{Shape}
 use Rattle.bcs_io.specs.Lines.{lines_of}
 use Rattle.bcs_tool_answers.specs.Answers.{AnswersTexts, line_of}
 use Rattle.bcs_tool_answers.specs.Validating.{Asks}
+use Rattle.bcs_tool_answers.specs.JsonRefusals.{InForm}
 use Rattle.bcs_tool_answers.specs.LineAnswers.{greatest, summary}
 use Rattle.bcs_tool_answers.specs.declared.ending.Ending.{Ending}
 use Rattle.bcs_tool_answers.specs.declared.ending.Ending.TheVariants.{Together, FirstEnds, SecondEnds}
@@ -16,6 +17,10 @@ abbrev pub AnswersPair : Work → List ℕ → List ℕ → ℕ → List ℕ →
 AnswersPair work first second status output = (registry : Entries) × (s : Shape) × Asks work registry s
     × AnswersTexts registry work.limits s first second status output
 
+-- the same with `--refusals json` in that form
+abbrev pub AnswersLinePair : Work → List ℕ → List ℕ → ℕ → List ℕ → Type 0
+AnswersLinePair work first second status output = InForm work.options.json_refusals (AnswersPair work first second) status output
+
 -- the answers to these lines of the two files in turn: by which of them it ends, their statuses, and their outputs joined
 pub data AnswersPairs (work : Work) : List (List ℕ) → List (List ℕ) → Ending → List ℕ → List ℕ → Type 0 where
   -- both files end
@@ -23,7 +28,7 @@ pub data AnswersPairs (work : Work) : List (List ℕ) → List (List ℕ) → En
   -- one has a line where the other ends, and there they are different; no line behind it counts
   first_ends : (line : List ℕ) (lines : List (List ℕ)) → AnswersPairs work [] (line ∷ lines) FirstEnds (1 ∷ []) (line_of (codes "different"))
   second_ends : (line : List ℕ) (lines : List (List ℕ)) → AnswersPairs work (line ∷ lines) [] SecondEnds (1 ∷ []) (line_of (codes "different"))
-  next : (first second : List ℕ) (firsts seconds : List (List ℕ)) (ending : Ending) (status : ℕ) (statuses output outputs : List ℕ) → AnswersPair work first second status output → AnswersPairs work firsts seconds ending statuses outputs → AnswersPairs work (first ∷ firsts) (second ∷ seconds) ending (status ∷ statuses) (output ++ outputs)
+  next : (first second : List ℕ) (firsts seconds : List (List ℕ)) (ending : Ending) (status : ℕ) (statuses output outputs : List ℕ) → AnswersLinePair work first second status output → AnswersPairs work firsts seconds ending statuses outputs → AnswersPairs work (first ∷ firsts) (second ∷ seconds) ending (status ∷ statuses) (output ++ outputs)
 
 -- which file has no line of this number, where one ends before the other
 abbrev pub lacking_text : Ending → ℕ → List ℕ

@@ -15,7 +15,7 @@ pub record IsAskedBy (work : Work) (asked : Asked) : Type 0 where
   pub on_values : works_on_values work.command ≡ true
   pub asks : Asks work asked.registry (shape_of asked.format)
   pub admitted : Admits asked.registry (shape_of asked.format)
-  pub path : IsPathOf work.command (string_bytes work.path) (all_spelled asked.path.items)
+  pub path : IsPathOf work.command work.options.notation (string_bytes work.path) (all_spelled asked.path.items)
 
 -- behind any list that may stand before a verdict on growth it answers the job, whatever the input
 abbrev pub IsVerdict : Work → Answer → Type 0

@@ -10,7 +10,6 @@ use Rattle.bcs_registry_model.specs.WellFormed.{IsWellFormed, Admits}
 use Rattle.bcs_registry_model.specs.declared.fault.RegistryFault.{RegistryFault}
 use Rattle.bcs_registry_model.specs.declared.fault.RegistryFault.TheVariants.{UnknownName, OutOfMemory}
 use Rattle.bcs_decode_parts.specs.Parts.{Step}
-use Rattle.bcs_decode_parts.specs.Path.{SpellsNoPath, SpellsPath}
 use Rattle.bcs_decode_parts.specs.declared.path_fault.PathFault.{PathFault}
 use Rattle.bcs_decode_parts.specs.declared.path_fault.PathFault.TheVariants as path
 use Rattle.bcs_tool_command_line.specs.declared.command.Command.{Command}
@@ -18,6 +17,8 @@ use Rattle.bcs_tool_command_line.specs.declared.command.Command.TheVariants as c
 use Rattle.bcs_tool_answers.specs.declared.job_fault.JobFault.{JobFault}
 use Rattle.bcs_tool_answers.specs.declared.job_fault.JobFault.TheVariants as job
 use Rattle.bcs_tool_command_line.specs.Jobs.{coding_of, is_raw}
+use Rattle.bcs_tool_command_line.specs.declared.notation.Notation.{Notation}
+use Rattle.bcs_tool_answers.specs.Notations.{SpellsNoSteps, SpellsSteps}
 use Rattle.bcs_tool_command_line.specs.declared.work.Work.{Work}
 
 -- ---- the names that are printed
@@ -68,10 +69,10 @@ NamesNone (Some word) registry = container_at word registry ≡ None
 
 -- ---- the path's word
 
--- the steps that a command's word PATH spells; none where the command has no such word
-abbrev pub IsPathOf : Command → List ℕ → List Step → Type 0
-IsPathOf command.Part word path = SpellsPath word path
-IsPathOf other word path = path ≡ []
+-- the steps that a command's word PATH, or the one in its place, spells; none where the command has no such word
+abbrev pub IsPathOf : Command → Notation → List ℕ → List Step → Type 0
+IsPathOf command.Part notation word path = SpellsSteps notation word path
+IsPathOf other notation word path = path ≡ []
 
 -- ---- the job
 
@@ -98,7 +99,7 @@ pub record Asks (work : Work) (registry : Entries) (s : Shape) : Type 0 where
   pub command : works_on_values work.command ≡ true
   pub is_registry : IsRegistry work.registry.items registry
   pub is_format : IsFormatWord registry (string_bytes work.format) s
-  pub has_path : (path : List Step) × IsPathOf work.command (string_bytes work.path) path
+  pub has_path : (path : List Step) × IsPathOf work.command work.options.notation (string_bytes work.path) path
 
 -- the job has an input, which is read, since its words are not refused
 abbrev pub ReadsInput : Work → Type 0
@@ -136,7 +137,7 @@ abbrev pub RefusesPart : Work → JobFault → Type 0
 RefusesPart work (job.Registry fault) = RefusesFormatted work (job.Registry fault)
 RefusesPart work (job.Growth fault) = ⊥
 RefusesPart work job.BadPath = (registry : Entries) × (s : Shape) × IsRegistry work.registry.items registry
-    × IsFormatWord registry (string_bytes work.format) s × SpellsNoPath (string_bytes work.path)
+    × IsFormatWord registry (string_bytes work.format) s × SpellsNoSteps work.options.notation (string_bytes work.path)
 
 abbrev pub RefusesJobOf : Command → Work → JobFault → Type 0
 RefusesJobOf command.Check = RefusesCheck

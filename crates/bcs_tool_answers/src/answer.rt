@@ -8,7 +8,6 @@ ghost use Rattle.bcs_tool_answers.specs.Places.{PrintsWithoutPlace};
 
 use base64::engine::general_purpose::STANDARD;
 use bcs_decode::Stop;
-use bcs_display_text::style::Form;
 use bcs_json::JsonFault;
 use bcs_tool_command_line::Coding;
 use std::alloc::{AllocError, Global};
@@ -57,22 +56,6 @@ pub fn stopped(alloc: Global, stop: Stop) -> Result<Answer, AllocError>
     let reason = stop.reason.name();
     let text = format!(in alloc; "{reason} at {}", stop.place)?;
     refused(alloc, text.as_str())
-}
-
-/// The pieces before bytes stop being a value, and behind them the line of this, but for JSON, which has an object for it.
-pub fn damaged(
-    alloc: Global,
-    form: Form,
-    mut text: Vec<u8>,
-    stop: Stop,
-) -> Result<Answer, AllocError>
-    ensures { IfOk result (λ a. PrintsWithoutPlace a 2 a.output.items) }
-{
-    let line = stopped(alloc, stop)?;
-    if form != Form::Json {
-        text.extend_from_slice(line.output.as_slice())?;
-    }
-    Ok(unplaced(alloc, 2, text))
 }
 
 /// A word on a line of its own.

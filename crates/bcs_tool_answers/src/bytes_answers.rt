@@ -6,17 +6,16 @@ ghost use Rattle.bcs_tool_answers.specs.Answers.{TakesBytes, refusal_line};
 ghost use Rattle.bcs_tool_answers.specs.Places.{AnswersBytes, IsAnswer, MayReport};
 ghost use Rattle.bcs_tool_answers.specs.Preparing.{IsAskedBy};
 
-use crate::answer::{Answer, damaged, found, nowhere, placed, refused, shown, unplaced};
+use crate::answer::{Answer, placed, refused, shown};
 use crate::base64_input::bytes_of_base64;
 use crate::blanks::without_blanks;
+use crate::explanations::answer_explain;
 use crate::input_places::{place_of_base64, place_of_digits};
+use crate::part_answers::answer_part;
 use crate::scan_answers::answer_scan;
 use crate::stop_answers::answer_stop;
 use crate::validating::Asked;
 use base64::DecodeAllocError;
-use bcs_decode::part;
-use bcs_decode_parts::steps_of;
-use bcs_display_pieces::{Explanation, explain_text};
 use bcs_json::{FromFault, from_bcs};
 use bcs_tool_command_line::{Coding, Command, Work};
 use hex::FromHexError;
@@ -162,60 +161,5 @@ fn answer_decode(
         Err(FromFault::Stop(stop)) => answer_stop(alloc, work, asked, bytes, stop),
         Err(FromFault::TooNested) => refused(alloc, "TooNested"),
         Err(FromFault::OutOfMemory) => Err(AllocError),
-    }
-}
-
-// The pieces of the value whose bytes these are; where they are none, those before they stop being one.
-fn answer_explain(
-    alloc: Global,
-    work: &Work,
-    asked: &Asked,
-    bytes: &[u8],
-) -> Result<Answer, AllocError>
-    requires command { work.now.command ≡ Command.Explain }
-    requires asked { IsAskedBy work.now asked.now }
-    ensures { IfOk result (λ a. AnswersBytes work.now bytes.now a) }
-{
-    let Asked {
-        registry,
-        format,
-        ..
-    } = asked;
-    let explained = explain_text(
-        alloc,
-        registry,
-        format,
-        &work.limits,
-        work.options.display.style(),
-        bytes,
-    )?;
-    let Explanation { text, stop } = explained;
-    match stop {
-        None => Ok(unplaced(alloc, 0, text)),
-        Some(stop) => damaged(alloc, work.options.display.form, text, stop),
-    }
-}
-
-// The bytes of the part to which the path leads in the value at the front of these bytes.
-fn answer_part(
-    alloc: Global,
-    work: &Work,
-    asked: &Asked,
-    bytes: &[u8],
-) -> Result<Answer, AllocError>
-    requires command { work.now.command ≡ Command.Part }
-    requires asked { IsAskedBy work.now asked.now }
-    ensures { IfOk result (λ a. AnswersBytes work.now bytes.now a) }
-{
-    let Asked {
-        registry,
-        format,
-        path,
-    } = asked;
-    let steps = steps_of(alloc, path.as_slice())?;
-    match part(registry, format, &work.limits, bytes, steps.as_slice()) {
-        Ok(Some(part)) => found(alloc, part.bytes, work.coding()),
-        Ok(None) => nowhere(alloc, work.coding()),
-        Err(stop) => answer_stop(alloc, work, asked, bytes, stop),
     }
 }

@@ -2,11 +2,12 @@
 ghost use Rattle.std.specs.Prelude.{◌≡◌, ℕ, List, IfOk};
 ghost use Rattle.bcs_registry_model.specs.View.{shape_of};
 ghost use Rattle.bcs_tool_answers.specs.Answers.{AsksOfFormat};
-ghost use Rattle.bcs_tool_answers.specs.Places.{IsAnswer, PrintsWithoutPlace};
+ghost use Rattle.bcs_tool_answers.specs.Places.{IsAnswer, MayReport};
 
-use crate::answer::{Answer, refused, shown};
+use crate::answer::{Answer, placed, refused, shown};
 use crate::refusing::refused_words;
 use crate::validating::validate_formatted;
+use crate::word_places::place_of_wish;
 use bcs_display_example::{
     ExampleForm, ExampleOptions, ExampleOptionsFault, ExampleTextFault, example_text,
 };
@@ -41,7 +42,7 @@ fn answer_wish(
     };
     match example_text(alloc, registry, format, &wish, &work.limits) {
         Ok(text) => shown(alloc, text),
-        Err(fault) => refused_wish(alloc, fault),
+        Err(fault) => refused_wish(alloc, work, registry, format, fault),
     }
 }
 
@@ -55,11 +56,20 @@ fn form_of(work: &Work) -> ExampleForm {
 }
 
 // The answer to a wish that can't be granted. Want of memory is no refusal.
-fn refused_wish(alloc: Global, fault: ExampleTextFault) -> Result<Answer, AllocError>
-    ensures { IfOk result (λ a. PrintsWithoutPlace a 2 a.output.items) }
+fn refused_wish(
+    alloc: Global,
+    work: &Work,
+    registry: &Registry,
+    format: &Format,
+    fault: ExampleTextFault,
+) -> Result<Answer, AllocError>
+    ensures { IfOk result (λ a. (a.status ≡ 2) × MayReport work.now a.place.items) }
 {
     match fault {
         ExampleTextFault::Options(ExampleOptionsFault::OutOfMemory) => Err(AllocError),
-        _ => refused(alloc, fault.name()),
+        _ => {
+            let place = place_of_wish(alloc, work, registry, format, fault);
+            Ok(placed(refused(alloc, fault.name())?, place))
+        }
     }
 }

@@ -2,7 +2,7 @@
 ghost use Rattle.bcs_tool_answers.specs.Places.{MayReport};
 
 use crate::blanks::{blanks_before, without_blanks};
-use crate::places::place_of_line;
+use crate::places::{place_of_line, reports_place};
 use base64::DecodeError;
 use bcs_display_errors::{WrongText, input_line, wrong_digits};
 use bcs_tool_command_line::Work;
@@ -56,7 +56,7 @@ fn place_of_input(
 ) -> Vec<u8>
     ensures { MayReport work.now result.items }
 {
-    if work.options.quiet || work.options.lines {
+    if !reports_place(work) {
         return Vec::new(alloc);
     }
     let blanks = blanks_before(input);

@@ -1,12 +1,20 @@
-//! Where a refusal stands: the line that the standard error is told.
-ghost use Rattle.std.specs.Prelude.{◌≡◌, true};
+//! Where a refusal occurred: the line for standard error.
+ghost use Rattle.std.specs.Prelude.{◌≡◌, true, false};
 ghost use Rattle.std.specs.List.{All};
 ghost use Rattle.bcs_tool_answers.specs.Places.{IsPrintable};
 
+use bcs_tool_command_line::Work;
 use std::alloc::Global;
 
-/// The place of this line, if each of its bytes is printable ASCII; else none. Every place is made here, so that nothing
-/// need be known of what words the lines.
+/// Whether the place of a refused input is reported: not for a quiet job, and for a line only in JSON.
+pub fn reports_place(work: &Work) -> bool
+    ensures { result ≡ true → work.now.options.quiet ≡ false }
+{
+    !work.options.quiet && (!work.options.lines || work.options.json_refusals)
+}
+
+/// Returns this line as a place, if each of its bytes is printable ASCII, and otherwise nothing. Every place is made here, so
+/// the text of a line needs no contract.
 pub fn place_of_line(alloc: Global, line: Option<Vec<u8>>) -> Vec<u8>
     ensures { All IsPrintable result.items }
 {

@@ -5,7 +5,7 @@ ghost use Rattle.bcs_tool_answers.specs.Places.{MayReport};
 ghost use Rattle.bcs_tool_answers.specs.Preparing.{IsAskedBy};
 
 use crate::answer::{Answer, placed, stopped};
-use crate::places::place_of_line;
+use crate::places::{place_of_line, reports_place};
 use crate::validating::Asked;
 use bcs_decode::Stop;
 use bcs_display_errors::put_limit;
@@ -35,7 +35,7 @@ fn place_of_stop(alloc: Global, work: &Work, asked: &Asked, bytes: &[u8], stop: 
     requires { IsAskedBy work.now asked.now }
     ensures { MayReport work.now result.items }
 {
-    if work.options.quiet || work.options.lines {
+    if !reports_place(work) {
         return Vec::new(alloc);
     }
     match halt_line(alloc, work, asked, bytes, stop) {

@@ -1,7 +1,7 @@
 //! Where JSON texts of values are refused.
 ghost use Rattle.bcs_tool_answers.specs.Places.{MayReport};
 
-use crate::places::place_of_line;
+use crate::places::{place_of_line, reports_place};
 use crate::validating::Asked;
 use bcs_display_errors::{line_in, put_text_limit, refusal_line};
 use bcs_json::{TextRefusal, read_value_or_refusal};
@@ -18,7 +18,7 @@ pub fn place_of_refusal(
 ) -> Vec<u8>
     ensures { MayReport work.now result.items }
 {
-    if work.options.quiet || work.options.lines {
+    if !reports_place(work) {
         return Vec::new(alloc);
     }
     place_of_line(alloc, limited_line(alloc, work, asked, text, refusal))

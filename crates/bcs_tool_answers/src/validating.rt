@@ -5,12 +5,13 @@ ghost use Rattle.bcs_registry_model.specs.Shape as shape;
 ghost use Rattle.bcs_registry_model.specs.View.{shape_of};
 ghost use Rattle.bcs_registry_model.specs.WellFormed.{Admits};
 ghost use Rattle.bcs_registry_model.specs.declared.fault.RegistryFault.TheVariants.{OutOfMemory};
-ghost use Rattle.bcs_decode_parts.specs.Path.{SpellsNoPath};
 ghost use Rattle.bcs_decode_parts.specs.PathSteps.{all_spelled};
+ghost use Rattle.bcs_tool_answers.specs.Notations.{SpellsNoSteps};
 ghost use Rattle.bcs_tool_answers.specs.Validating.{Asks, IsFormatWord, IsPathOf, IsRegistry, RefusesCheck, RefusesEarly, RefusesFormatWord, RefusesFormatted, RefusesGrowth, is_json_word, works_on_values};
 
 use crate::job_fault::JobFault;
-use bcs_decode_parts::{PathFault, PathStep, read_path};
+use crate::notations::read_steps;
+use bcs_decode_parts::{PathFault, PathStep};
 use bcs_registry::{Format, Registry, RegistryFault};
 use bcs_tool_command_line::{Command, Work};
 use std::alloc::{AllocError, Global};
@@ -41,7 +42,7 @@ pub fn validate_pair(alloc: Global, work: &Work) -> Result<(Registry, Registry),
 pub struct Asked {
     pub registry: Registry,
     pub format: Format,
-    /// The steps of PATH; none where the command has no PATH.
+    /// The steps of PATH; none where the command has no PATH, or where names or a pointer stand in its place.
     pub path: Vec<PathStep>,
 }
 
@@ -50,7 +51,7 @@ pub fn validate_asked(alloc: Global, work: &Work) -> Result<Asked, JobFault>
     requires { works_on_values work.now.command ≡ true }
     ensures ok { IfOk result (λ asked. Asks work.now asked.registry (shape_of asked.format)) }
     ensures admitted { IfOk result (λ asked. Admits asked.registry (shape_of asked.format)) }
-    ensures path { IfOk result (λ asked. IsPathOf work.now.command (string_bytes work.now.path) (all_spelled asked.path.items)) }
+    ensures path { IfOk result (λ asked. IsPathOf work.now.command work.now.options.notation (string_bytes work.now.path) (all_spelled asked.path.items)) }
     ensures fault { IfErr result (λ e. e ≢ JobFault.Registry OutOfMemory → RefusesEarly work.now e) }
 {
     let (registry, format) = validate_formatted(alloc, work)?;
@@ -75,11 +76,11 @@ pub fn validate_formatted(alloc: Global, work: &Work) -> Result<(Registry, Forma
 
 // The steps of the job's PATH; none where the command has no PATH.
 fn validate_path(alloc: Global, work: &Work) -> Result<Vec<PathStep>, PathFault>
-    ensures ok { IfOk result (λ path. IsPathOf work.now.command (string_bytes work.now.path) (all_spelled path.items)) }
-    ensures bad { result ≡ Err PathFault.BadPath → (work.now.command ≡ Command.Part) × SpellsNoPath (string_bytes work.now.path) }
+    ensures ok { IfOk result (λ path. IsPathOf work.now.command work.now.options.notation (string_bytes work.now.path) (all_spelled path.items)) }
+    ensures bad { result ≡ Err PathFault.BadPath → (work.now.command ≡ Command.Part) × SpellsNoSteps work.now.options.notation (string_bytes work.now.path) }
 {
     match work.command {
-        Command::Part => read_path(alloc, work.path.as_str()),
+        Command::Part => read_steps(alloc, work.options.notation, work.path.as_str()),
         Command::Check
         | Command::Grows
         | Command::Show

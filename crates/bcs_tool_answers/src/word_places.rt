@@ -4,10 +4,13 @@ ghost use Rattle.bcs_tool_answers.specs.Places.{MayReport};
 use crate::job_fault::JobFault;
 use crate::places::place_of_line;
 use bcs_display_errors::{
-    format_line, line_in, place_of_container, place_of_growth, place_of_path, registry_line,
+    format_line, line_in, place_of_container, place_of_growth, place_of_path, place_of_variant,
+    registry_line,
 };
-use bcs_registry::{Registry, RegistryFault};
-use bcs_tool_command_line::{Command, Work};
+use bcs_display_example::{ExampleOptionsFault, ExampleTextFault};
+use bcs_display_pieces::{wrong_name_line, wrong_pointer_line};
+use bcs_registry::{Format, Registry, RegistryFault};
+use bcs_tool_command_line::{Command, Notation, Work};
 use std::alloc::{AllocError, Global};
 
 /// Where the job's own words are refused, for this fault. It is empty at a quiet job, where the fault has no place, and
@@ -42,6 +45,28 @@ pub fn place_of_difference(
     }
 }
 
+/// The name after `--variant` that isn't the name of a variant, if the example is refused for that. It is empty at a quiet
+/// job, and where no memory is left for it.
+pub fn place_of_wish(
+    alloc: Global,
+    work: &Work,
+    registry: &Registry,
+    format: &Format,
+    fault: ExampleTextFault,
+) -> Vec<u8>
+    ensures { MayReport work.now result.items }
+{
+    if work.options.quiet {
+        return Vec::new(alloc);
+    }
+    match (fault, work.options.name.as_deref()) {
+        (ExampleTextFault::Options(ExampleOptionsFault::UnknownVariant), Some(name)) => {
+            place_of_line(alloc, place_of_variant(alloc, registry, format, name).ok())
+        }
+        _ => Vec::new(alloc),
+    }
+}
+
 fn words_line(
     alloc: Global,
     work: &Work,
@@ -50,7 +75,17 @@ fn words_line(
     match fault {
         JobFault::Registry(fault) => registries_line(alloc, work, fault),
         JobFault::Growth(_) => Ok(None),
-        JobFault::BadPath => Ok(place_of_path(alloc, work.path.as_str())?),
+        JobFault::BadPath => Ok(steps_line(alloc, work)?),
+    }
+}
+
+// The first step that is none.
+fn steps_line(alloc: Global, work: &Work) -> Result<Option<Vec<u8>>, AllocError> {
+    let word = work.path.as_str();
+    match work.options.notation {
+        Notation::Path => place_of_path(alloc, word),
+        Notation::Names => Ok(Some(wrong_name_line(alloc, word)?)),
+        Notation::Pointer => Ok(Some(wrong_pointer_line(alloc, word)?)),
     }
 }
 

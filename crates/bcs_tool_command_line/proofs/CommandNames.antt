@@ -1,5 +1,5 @@
 -- Words in which clap finds no fault name one of the commands of `bcs`.
-use Rattle.bcs_tool_command_line.proofs.Prelude.{◌≡◌, ap, subst, sym, refl, inl, inr, codes, true, false, not, ◌&&◌, Bool, List, [], Option, Some, None, is_some, option_map, ◌∙◌, IsSomeAnd, option_and_then, Box, box_value, bytes_eq, list_any, explicit_source, is_given, check_kinds, or_else, built_fault, check_fault, defaults_fault, entered_fault, fault_of, level_fault, settle_fault, walk_fault, HasMatchesOf, Shape, argument_words, built, entered, is_simple, names_of, subcommand_of, subcommand_rows, subcommand_rows_of, subcommand_name_of, ArgMatches, out-ArgMatches, out-SubCommand, SubCommand, Row, Text, finished, nothing_held, settled, stop_after, walk, walk_from, bcs_app, IsJob, IsJobOf, command_named, Command, Job}
+use Rattle.bcs_tool_command_line.proofs.Prelude.{◌≡◌, ap, ap₂, subst, sym, refl, inl, inr, codes, true, false, not, ◌&&◌, Bool, List, [], Option, Some, None, is_some, option_map, ◌∙◌, IsSomeAnd, option_and_then, Box, box_value, bytes_eq, list_any, explicit_source, is_given, check_kinds, or_else, built_fault, check_fault, defaults_fault, entered_fault, fault_of, level_fault, settle_fault, walk_fault, HasMatchesOf, Shape, argument_words, built, entered, is_simple, names_of, subcommand_of, subcommand_rows, subcommand_rows_of, subcommand_name_of, ArgMatches, out-ArgMatches, out-SubCommand, SubCommand, Row, Text, finished, nothing_held, settled, stop_after, walk, walk_from, bcs_app, IsJob, IsJobOf, command_named, misuse_in, misuse_of, spelled, Command, Job}
 use Rattle.clap.specs.Simple.{App}
 use Rattle.bcs_tool_command_line.proofs.Subcommands.{IsAmong, IsEntered, enters, none_left}
 
@@ -92,24 +92,35 @@ met_is_named a words m name same matches passes met none =
     is_simple_bcs : is_simple bcs_app ≡ true
     is_simple_bcs = refl
 
--- the job of the subcommand that is met is the one that the words ask for
-is_job : (found : Option (Text × List Row)) (name : Text) (rows : List Row) (command : Command) (job : Job)
-    → Some name ≡ option_map (λ p. p.0) found → Some rows ≡ option_map (λ p. p.1) found → Some command ≡ command_named name
-    → IsJob command rows job → IsSomeAnd found (λ p. IsSomeAnd (command_named p.0) (λ k. IsJob k p.1 job))
-is_job None name rows command job of_name of_rows named h = cc
-is_job (Some p) name rows command job of_name of_rows named h =
+-- what clap found is the subcommand that is met
+found_is : (found : Option (Text × List Row)) (name : Text) (rows : List Row)
+    → Some name ≡ option_map (λ p. p.0) found → Some rows ≡ option_map (λ p. p.1) found → found ≡ Some (name, rows)
+found_is None name rows of_name of_rows = cc
+found_is (Some p) name rows of_name of_rows =
     let same_name : name ≡ p.0 = cc in
     let same_rows : rows ≡ p.1 = cc in
-    let is : Some command ≡ command_named p.0 = named ∙ ap command_named same_name in
-    subst (λ (o : Option Command). IsSomeAnd o (λ k. IsJob k p.1 job)) is (subst (λ (found : List Row). IsJob command found job) same_rows h)
+    ap Some (sym (ap₂ (λ (t : Text) (r : List Row). (t, r)) same_name same_rows))
 
-pub met_job : (a : App) (words : List Text) (m : ArgMatches) (name : Text) (rows : List Row) (command : Command) (job : Job) → a ≡ bcs_app → HasMatchesOf a words m
-    → Some name ≡ subcommand_name_of m → Some rows ≡ option_map (λ p. p.1) (subcommand_rows_of m) → Some command ≡ command_named name
-    → IsJob command rows job → IsJobOf words job
-met_job a words m name rows command job same matches of_name of_rows named h =
-    let found : subcommand_rows_of m ≡ subcommand_of bcs_app words = (subst (λ (b : App). HasMatchesOf b words m) same matches is_simple_bcs).1 in
-    is_job (subcommand_of bcs_app words) name rows command job
-    (of_name ∙ (name_of_rows (out-ArgMatches m).subcommand ∙ ap (option_map (λ p. p.0)) found)) (of_rows ∙ ap (option_map (λ p. p.1)) found) named h
+pub met_found : (a : App) (given words : List Text) (m : ArgMatches) (name : Text) (rows : List Row) → a ≡ bcs_app → HasMatchesOf a given m → given ≡ words
+    → Some name ≡ subcommand_name_of m → Some rows ≡ option_map (λ p. p.1) (subcommand_rows_of m) → subcommand_of bcs_app words ≡ Some (name, rows)
+met_found a given words m name rows same matches is of_name of_rows =
+    let found : subcommand_rows_of m ≡ subcommand_of bcs_app given = (subst (λ (b : App). HasMatchesOf b given m) same matches is_simple_bcs).1 in
+    ap (subcommand_of bcs_app) (sym is) ∙ found_is (subcommand_of bcs_app given) name rows
+    (of_name ∙ (name_of_rows (out-ArgMatches m).subcommand ∙ ap (option_map (λ p. p.0)) found)) (of_rows ∙ ap (option_map (λ p. p.1)) found)
   where
     is_simple_bcs : is_simple bcs_app ≡ true
     is_simple_bcs = refl
+
+-- the job of the subcommand that is met is the one that the arguments ask for
+pub found_job : (words : List Text) (name : Text) (rows : List Row) (command : Command) (job : Job) → subcommand_of bcs_app (spelled words) ≡ Some (name, rows)
+    → Some command ≡ command_named name → IsJob command rows job → IsJobOf words job
+found_job words name rows command job found named h =
+    subst (λ (o : Option (Text × List Row)). IsSomeAnd o (λ p. IsSomeAnd (command_named p.0) (λ k. IsJob k p.1 job))) (sym found)
+    (subst (λ (o : Option Command). IsSomeAnd o (λ k. IsJob k rows job)) named h)
+
+-- and so is its misuse
+pub found_misuse : (words : List Text) (name : Text) (rows : List Row) (command : Command) → subcommand_of bcs_app (spelled words) ≡ Some (name, rows)
+    → Some command ≡ command_named name → misuse_in command rows ≡ misuse_of words
+found_misuse words name rows command found named =
+    sym (ap (λ (o : Option (Text × List Row)). option_and_then (λ p. option_and_then (λ k. misuse_in k p.1) (command_named p.0)) o) found
+    ∙ ap (λ (o : Option Command). option_and_then (λ k. misuse_in k rows) o) (sym named))

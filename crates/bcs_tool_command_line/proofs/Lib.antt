@@ -5,5 +5,6 @@ pub mod FoundTexts
 pub mod LimitLemmas
 pub mod LineFaultLemmas
 pub mod Program
+pub mod SpellingLemmas
 pub mod Subcommands
 pub mod Values

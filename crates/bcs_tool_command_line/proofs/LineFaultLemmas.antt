@@ -1,6 +1,6 @@
 -- What a parse by the definition of `bcs` says of the words.
-use Rattle.bcs_tool_command_line.proofs.Prelude.{◌≡◌, ◌∙◌, ◌⊎◌, ◌&&◌, [], ◌∷◌, List, Option, Some, None, inl, inr, refl, true, false, true≢false, codes, ap, ap₂, subst, sym, IsSomeAnd, option_map_or, App, HasKind, IsAmong, is_simple_and_free, kind_of, Error, ErrorKind, clap_on_literals, bcs_app, IsJob, IsJobOf, coding, coding_found, command_named, is_raw, is_set, IsFaultAmong, IsFaultOf, IsFaultOfKind, ReportsJoined, AcceptsArguments, joins_raw_and_lines, Command, Job, LineFault, Usage, Help, OutOfMemory}
-use Rattle.clap.specs.Words.{Kinds, Row, Text, fault_of, subcommand_of}
+use Rattle.bcs_tool_command_line.proofs.Prelude.{◌≡◌, ◌∙◌, ◌⊎◌, [], ◌∷◌, List, Option, Some, None, inl, inr, refl, true, ap, subst, sym, IsSomeAnd, App, HasKind, IsAmong, is_simple_and_free, kind_of, Error, ErrorKind, clap_on_literals, bcs_app, IsFaultAmong, IsFaultOf, IsFaultOfKind, ReportsMisuse, AcceptsArguments, misuse_of, spelled, LineFault, Misuse, Usage, Help, OutOfMemory}
+use Rattle.clap.specs.Words.{Kinds, Text, fault_of}
 use Rattle.clap.specs.declared.error.kind.ErrorKind.TheVariants as kind
 
 -- clap's contracts are exact for the definition
@@ -42,30 +42,15 @@ none_is_memory [] (Help text) h e = absurd h.1
 none_is_memory [] OutOfMemory h e = refl
 
 pub memory_alone : (words : List Text) (f : LineFault) → IsFaultOf words f → AcceptsArguments words → f ≡ OutOfMemory
-memory_alone words f (inl h) takes = none_is_memory (fault_of bcs_app words) f h takes.0
-memory_alone words f (inr h) takes = absurd (true≢false (sym h.1 ∙ takes.1))
+memory_alone words f (inl h) takes = none_is_memory (fault_of bcs_app (spelled words)) f h takes.0
+memory_alone words f (inr h) takes = absurd (subst (λ (o : Option Misuse). IsSomeAnd o (λ misuse. ReportsMisuse misuse f)) takes.1 h.1)
 
--- the job of words tells whether they join `--raw` and `--lines`
-found_job_joins : (found : Option (Text × List Row)) (job : Job)
-    → IsSomeAnd found (λ p. IsSomeAnd (command_named p.0) (λ command. IsJob command p.1 job))
-    → (is_raw (coding job.raw job.options.base64) && job.options.lines) ≡ option_map_or (λ p. is_raw (coding_found p.1) && is_set (codes "lines") p.1) found false
-found_job_joins None job h = absurd h
-found_job_joins (Some p) job h = joined_in (command_named p.0) h
-  where
-    joined_in : (o : Option Command) → IsSomeAnd o (λ command. IsJob command p.1 job)
-        → (is_raw (coding job.raw job.options.base64) && job.options.lines) ≡ (is_raw (coding_found p.1) && is_set (codes "lines") p.1)
-    joined_in None h = absurd h
-    joined_in (Some command) h = ap₂ ◌&&◌ (ap is_raw (ap₂ coding h.raw h.options.base64)) h.options.lines
+pub takes_words : (words : List Text) (misuse : Option Misuse) → fault_of bcs_app (spelled words) ≡ [] → misuse ≡ misuse_of words → misuse ≡ None → AcceptsArguments words
+takes_words words misuse none is apart = (none, sym is ∙ apart)
 
-job_joins : (words : List Text) (job : Job) → IsJobOf words job → (is_raw (coding job.raw job.options.base64) && job.options.lines) ≡ joins_raw_and_lines words
-job_joins words job h = found_job_joins (subcommand_of bcs_app words) job h
-
-pub takes_words : (words : List Text) (job : Job) → IsJobOf words job → fault_of bcs_app words ≡ []
-    → (is_raw (coding job.raw job.options.base64) && job.options.lines) ≡ false → AcceptsArguments words
-takes_words words job h none apart = (none, sym (job_joins words job h) ∙ apart)
-
--- the fault for a job that joins the two
-pub fault_of_joined : (words : List Text) (job : Job) (f : LineFault) → IsJobOf words job → fault_of bcs_app words ≡ []
-    → (is_raw (coding job.raw job.options.base64) && job.options.lines) ≡ true → (f ≡ OutOfMemory) ⊎ ReportsJoined f → IsFaultOf words f
-fault_of_joined words job f h none both (inl e) = subst (IsFaultOf words) (sym e) (inl tt)
-fault_of_joined words job f h none both (inr reports) = inr (none, sym (job_joins words job h) ∙ both, reports)
+-- the fault for arguments that don't go together
+pub fault_of_misuse : (words : List Text) (found : Option Misuse) (misuse : Misuse) (f : LineFault) → fault_of bcs_app (spelled words) ≡ []
+    → found ≡ misuse_of words → found ≡ Some misuse → (f ≡ OutOfMemory) ⊎ ReportsMisuse misuse f → IsFaultOf words f
+fault_of_misuse words found misuse f none is some (inl e) = subst (IsFaultOf words) (sym e) (inl tt)
+fault_of_misuse words found misuse f none is some (inr reports) =
+    inr (none, subst (λ (o : Option Misuse). IsSomeAnd o (λ m. ReportsMisuse m f)) (sym some ∙ is) reports)

@@ -3,14 +3,16 @@ pub use Rattle.std.proofs.Common.{[], ap, ap₂, arith, Bool, Bor, codes, cond, 
 pub use Rattle.std.proofs.lemmas.Bool.{ne_eqb}
 pub use Rattle.std.proofs.lemmas.Grind.{common_steps}
 pub use Rattle.std.proofs.lemmas.Int.{ints}
+pub use Rattle.std.proofs.lemmas.List.{append-nil, append_assoc, at_drop_more, map-append}
 pub use Rattle.std.proofs.lemmas.List.Folds.{list_all-append}
+pub use Rattle.std.proofs.Math.ListN.{drop_of_length-le}
 pub use Rattle.std.proofs.lemmas.Result.{IfOk-weaker}
 pub use Rattle.std.proofs.lemmas.Slice.Eq.{bytes_eq-Decides}
 pub use Rattle.std.proofs.lemmas.Str.Parse.{digit_from_value}
 pub use Rattle.std.specs.Box.{box_value}
 pub use Rattle.std.specs.List.{list_all, list_any}
 pub use Rattle.std.specs.Option.{option_map_or, option_or}
-pub use Rattle.std.specs.Prelude.{Box, IsSomeAnd, option_and_then}
+pub use Rattle.std.specs.Prelude.{Box, IsSomeAnd, option_and_then, string_bytes}
 pub use Rattle.std.specs.Str.{bytes_eq, chars}
 pub use Rattle.std.specs.Str.Parse.{digits_value, ExplainsUnsignedError, HasUnsignedDigitsIfOk, IsNumeral, ParsesUnsigned, starts_with_minus, without_leading_plus}
 pub use Rattle.std.specs.declared.alloc.AllocError.{AllocError}
@@ -46,12 +48,17 @@ pub use Rattle.clap.specs.declared.parser.matches.Found.{Found}
 pub use Rattle.clap.specs.declared.parser.matches.SubCommand.{SubCommand}
 pub use Rattle.clap.specs.declared.parser.matches.ValueSource.{ValueSource}
 pub use Rattle.clap.specs.declared.parser.matches.ValueSource.TheVariants.{CommandLine, DefaultValue}
-pub use Rattle.bcs_tool_command_line.specs.AcceptedArguments.{AcceptsArguments, joins_raw_and_lines}
+pub use Rattle.bcs_tool_command_line.specs.AcceptedArguments.{AcceptsArguments}
 pub use Rattle.bcs_tool_command_line.specs.CommandLine.{bcs_app, reports_version, texts_of, wants_command}
-pub use Rattle.bcs_tool_command_line.specs.Jobs.{coding, coding_found, command_named, is_raw, is_set, IsJob, IsJobOf, text_or_empty, WritesLimit, WritesLimits}
-pub use Rattle.bcs_tool_command_line.specs.LineFaults.{IsFaultAmong, IsFaultOf, IsFaultOfKind, ReportsJoined}
+pub use Rattle.bcs_tool_command_line.specs.Jobs.{coding, coding_found, command_named, file_by, file_found, has_value, is_raw, is_set, IsJob, IsJobOf, notation_found, path_found, text_or_empty, WritesLimit, WritesLimits}
+pub use Rattle.bcs_tool_command_line.specs.LineFaults.{IsFaultAmong, IsFaultOf, IsFaultOfKind, ReportsMisuse}
+pub use Rattle.bcs_tool_command_line.specs.Misuses.{misuse_in, misuse_of}
+pub use Rattle.bcs_tool_command_line.specs.Spelling.{may_be_option, spelled, spelled_word}
+unfoldable pub use Rattle.bcs_tool_command_line.specs.Spelling.{spelled_from}
 pub use Rattle.bcs_tool_command_line.specs.Words.{input_apps, registry_apps, rule_of_word, with_command}
 pub use Rattle.bcs_tool_command_line.specs.declared.command.Command.{Command}
 pub use Rattle.bcs_tool_command_line.specs.declared.job.Job.{Job}
 pub use Rattle.bcs_tool_command_line.specs.declared.line_fault.LineFault.{LineFault}
 pub use Rattle.bcs_tool_command_line.specs.declared.line_fault.LineFault.TheVariants.{Help, OutOfMemory, Usage}
+pub use Rattle.bcs_tool_command_line.specs.declared.misuse.Misuse.{Misuse}
+pub use Rattle.bcs_tool_command_line.specs.declared.notation.Notation.{Notation}

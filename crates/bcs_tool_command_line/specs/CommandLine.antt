@@ -27,27 +27,31 @@ number_option name most =
 abbrev pub text_option : Text → Rule
 text_option name = record (new_rule name) { long = Some name; value_names = 1 }
 
+-- the file to write instead of the standard output: `--output FILE`, or `-o FILE`
+abbrev pub output_option : Rule
+output_option = record (text_option (codes "output")) { short = Some 111 }
+
 -- a command of this name that takes these words, in this order
 abbrev pub command_with : Text → List Rule → App
 command_with name rules = fold with_rule (new_app name) rules
 
--- whether the line that says where a refusal stands is left out
-abbrev pub quiet_option : Rule
-quiet_option = flag_option (codes "quiet")
+-- the options of every command: whether the line that says where a refusal occurred is left out, and where answers go
+abbrev pub common_options : List Rule
+common_options = flag_option (codes "quiet") ∷ output_option ∷ []
 
 abbrev pub check_app : App
-check_app = command_with (codes "check") (required (codes "REG") ∷ quiet_option ∷ [])
+check_app = command_with (codes "check") (required (codes "REG") ∷ common_options)
 
 -- whether all differences are listed
 abbrev pub growth_options : List Rule
-growth_options = flag_option (codes "list") ∷ quiet_option ∷ []
+growth_options = flag_option (codes "list") ∷ common_options
 
 abbrev pub grows_app : App
 grows_app = fold with_rule (command_with (codes "grows") (required (codes "OLD") ∷ required (codes "NEW") ∷ [])) growth_options
 
 -- whether a registry is printed as JSON
 abbrev pub show_options : List Rule
-show_options = flag_option (codes "json") ∷ quiet_option ∷ []
+show_options = flag_option (codes "json") ∷ common_options
 
 -- a registry, and one of its containers
 abbrev pub show_app : App
@@ -55,7 +59,7 @@ show_app = fold with_rule (command_with (codes "show") (required (codes "REG") �
 
 -- what each command on values takes
 abbrev pub value_options : List Rule
-value_options = number_option (codes "depth") 500 ∷ number_option (codes "nodes") 4294967295 ∷ quiet_option ∷ []
+value_options = number_option (codes "depth") 500 ∷ number_option (codes "nodes") 4294967295 ∷ common_options
 
 -- a command on values of a format, within limits
 abbrev pub value_app : Text → App
@@ -69,19 +73,15 @@ abbrev pub example_app : App
 example_app = fold with_rule (value_app (codes "example")) (variant_option ∷ flag_option (codes "full") ∷ [])
 
 abbrev pub schema_app : App
-schema_app = command_with (codes "schema") (required (codes "REG") ∷ required (codes "FORMAT") ∷ quiet_option ∷ [])
+schema_app = command_with (codes "schema") (required (codes "REG") ∷ required (codes "FORMAT") ∷ common_options)
 
--- whether each line of the input is an input of its own
-abbrev pub lines_option : Rule
-lines_option = flag_option (codes "lines")
+-- whether each line of the input is an input of its own, and how the lines that are refused are answered
+abbrev pub lines_options : List Rule
+lines_options = flag_option (codes "lines") ∷ text_option (codes "refusals") ∷ []
 
--- where the input is from, and how bytes are read and written
-abbrev pub coding_options : List Rule
-coding_options = optional (codes "FILE") ∷ flag_option (codes "raw") ∷ flag_option (codes "base64") ∷ []
-
--- the same, and whether each line is an input
+-- where the input is from, how bytes are read and written, and whether each line is an input
 abbrev pub input_options : List Rule
-input_options = optional (codes "FILE") ∷ flag_option (codes "raw") ∷ flag_option (codes "base64") ∷ lines_option ∷ []
+input_options = optional (codes "FILE") ∷ flag_option (codes "raw") ∷ flag_option (codes "base64") ∷ lines_options
 
 abbrev pub encode_app : App
 encode_app = fold with_rule (value_app (codes "encode")) input_options
@@ -95,19 +95,23 @@ form_options = flag_option (codes "paths") ∷ flag_option (codes "tree") ∷ fl
 
 -- whether they are in color
 abbrev pub color_options : List Rule
-color_options = flag_option (codes "color") ∷ flag_option (codes "no-color") ∷ []
+color_options = text_option (codes "color") ∷ flag_option (codes "no-color") ∷ []
 
 abbrev pub explain_app : App
-explain_app = fold with_rule (fold with_rule (fold with_rule (value_app (codes "explain")) coding_options) form_options) color_options
+explain_app = fold with_rule (fold with_rule (fold with_rule (value_app (codes "explain")) input_options) form_options) color_options
 
 abbrev pub normalise_app : App
-normalise_app = fold with_rule (value_app (codes "normalise")) (optional (codes "FILE") ∷ lines_option ∷ [])
+normalise_app = on_top (λ s. record s { aliases = codes "normalize" ∷ [] }) (fold with_rule (value_app (codes "normalise")) (optional (codes "FILE") ∷ lines_options))
 
 abbrev pub same_app : App
-same_app = fold with_rule (value_app (codes "same")) (required (codes "A") ∷ optional (codes "B") ∷ lines_option ∷ [])
+same_app = fold with_rule (value_app (codes "same")) (required (codes "A") ∷ optional (codes "B") ∷ lines_options)
+
+-- other ways to write PATH
+abbrev pub notation_options : List Rule
+notation_options = text_option (codes "name") ∷ text_option (codes "pointer") ∷ []
 
 abbrev pub part_app : App
-part_app = fold with_rule (fold with_rule (value_app (codes "part")) (required (codes "PATH") ∷ [])) input_options
+part_app = fold with_rule (fold with_rule (fold with_rule (value_app (codes "part")) (optional (codes "PATH") ∷ [])) input_options) notation_options
 
 abbrev pub scan_app : App
 scan_app = fold with_rule (fold with_rule (value_app (codes "scan")) input_options) (flag_option (codes "front") ∷ [])

@@ -1,5 +1,5 @@
 -- The job that a command line asks for.
-use Rattle.std.specs.Prelude.{◌≡◌, ◌≤◌, IsSomeAnd, ℕ, List, [], Option, Some, None, Bool, true, false, codes, option_map, unwrap_or, if◌then◌else◌, string_bytes}
+use Rattle.std.specs.Prelude.{◌≡◌, ◌≤◌, IsSomeAnd, ℕ, List, [], Option, Some, None, Bool, true, false, codes, is_some, option_map, unwrap_or, if◌then◌else◌, string_bytes}
 use Rattle.std.specs.Str.{bytes_eq}
 use Rattle.std.specs.Str.Parse.{IsNumeral, digits_value, without_leading_plus}
 use Rattle.std.specs.Option.{option_or}
@@ -12,7 +12,10 @@ use Rattle.bcs_tool_command_line.specs.declared.command.Command.{Command}
 use Rattle.bcs_tool_command_line.specs.declared.command.Command.TheVariants.{Check, Grows, Show, Example, Schema, Encode, Decode, Explain, Normalise, Same, Part, Scan}
 use Rattle.bcs_tool_command_line.specs.declared.job.Job.{Job}
 use Rattle.bcs_tool_command_line.specs.declared.job.JobOptions.{JobOptions}
+use Rattle.bcs_tool_command_line.specs.declared.notation.Notation.{Notation}
+use Rattle.bcs_tool_command_line.specs.declared.notation.Notation.TheVariants.{Path, Names, Pointer}
 use Rattle.bcs_tool_command_line.specs.declared.work.Work.{Work}
+use Rattle.bcs_tool_command_line.specs.Spelling.{spelled}
 
 -- the command of a name
 abbrev pub command_named : Text → Option Command
@@ -36,6 +39,27 @@ text_or_empty word = unwrap_or word []
 -- clap gives an option without a value the text `true` where it was used, and `false` else
 abbrev pub is_set : Text → List Row → Bool
 is_set name found = bytes_eq (text_or_empty (first_of name found)) (codes "true")
+
+-- whether an argument has a value
+abbrev pub has_value : Text → List Row → Bool
+has_value name found = is_some (first_of name found)
+
+-- how PATH is written. `--name` comes first, though it isn't accepted together with `--pointer`
+abbrev pub notation_found : List Row → Notation
+notation_found found = if has_value (codes "name") found then Names else (if has_value (codes "pointer") found then Pointer else Path)
+
+-- PATH, or the value of the option in its place
+abbrev pub path_found : List Row → Option Text
+path_found found = option_or (first_of (codes "name") found) (option_or (first_of (codes "pointer") found) (first_of (codes "PATH") found))
+
+-- the file of the input. With an option in the place of PATH, FILE comes third, where clap expects PATH
+abbrev pub file_by : Notation → List Row → Option Text
+file_by Path found = option_or (first_of (codes "FILE") found) (first_of (codes "B") found)
+file_by Names found = first_of (codes "PATH") found
+file_by Pointer found = first_of (codes "PATH") found
+
+abbrev pub file_found : List Row → Option Text
+file_found found = file_by (notation_found found) found
 
 -- how bytes are read and written, with `--raw` and with `--base64`, which overrides it
 abbrev pub coding : Bool → Bool → Coding
@@ -73,6 +97,9 @@ pub record HasOptions (found : List Row) (options : JobOptions) : Type 0 where
   pub front : options.front ≡ is_set (codes "front") found
   pub list : options.list ≡ is_set (codes "list") found
   pub quiet : options.quiet ≡ is_set (codes "quiet") found
+  pub notation : options.notation ≡ notation_found found
+  pub output : option_map string_bytes options.output ≡ first_of (codes "output") found
+  pub json_refusals : options.json_refusals ≡ has_value (codes "refusals") found
 
 -- no option is set
 pub record HasNoOptions (options : JobOptions) : Type 0 where
@@ -82,6 +109,9 @@ pub record HasNoOptions (options : JobOptions) : Type 0 where
   pub front : options.front ≡ false
   pub list : options.list ≡ false
   pub quiet : options.quiet ≡ false
+  pub notation : options.notation ≡ Path
+  pub output : options.output ≡ None
+  pub json_refusals : options.json_refusals ≡ false
 
 -- the job of a command, where clap found these arguments
 pub record IsJob (command : Command) (found : List Row) (job : Job) : Type 0 where
@@ -90,8 +120,8 @@ pub record IsJob (command : Command) (found : List Row) (job : Job) : Type 0 whe
       ≡ text_or_empty (option_or (first_of (codes "REG") found) (first_of (codes "OLD") found))
   pub second : string_bytes job.second ≡ text_or_empty (option_or (first_of (codes "NEW") found) (first_of (codes "A") found))
   pub format : string_bytes job.format ≡ text_or_empty (first_of (codes "FORMAT") found)
-  pub path : string_bytes job.path ≡ text_or_empty (first_of (codes "PATH") found)
-  pub file : option_map string_bytes job.file ≡ option_or (first_of (codes "FILE") found) (first_of (codes "B") found)
+  pub path : string_bytes job.path ≡ text_or_empty (path_found found)
+  pub file : option_map string_bytes job.file ≡ file_found found
   pub raw : job.raw ≡ is_set (codes "raw") found
   pub limits : WritesLimits found job.limits
   pub options : HasOptions found job.options
@@ -99,5 +129,5 @@ pub record IsJob (command : Command) (found : List Row) (job : Job) : Type 0 whe
 -- the job that the words ask for, of which the first is the program's own name: that of the
 -- subcommand that clap finds in them, by its name and its words
 abbrev pub IsJobOf : List Text → Job → Type 0
-IsJobOf words job = IsSomeAnd (subcommand_of bcs_app words) (λ p.
+IsJobOf words job = IsSomeAnd (subcommand_of bcs_app (spelled words)) (λ p.
     IsSomeAnd (command_named p.0) (λ command. IsJob command p.1 job))

@@ -1,6 +1,8 @@
 pub mod Jobs
 pub mod LineFaults
 pub mod AcceptedArguments
+pub mod Misuses
+pub mod Spelling
 pub mod CommandLine
 pub mod Words
 pub mod Files

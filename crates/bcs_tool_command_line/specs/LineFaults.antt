@@ -1,12 +1,14 @@
 -- Why a command line asks for no job.
-use Rattle.std.specs.Prelude.{◌≡◌, ◌≢◌, ◌⊎◌, ℕ, List, [], true, codes, string_bytes}
+use Rattle.std.specs.Prelude.{◌≡◌, ◌≢◌, ◌⊎◌, IsSomeAnd, ℕ, List, [], string_bytes}
 use Rattle.clap.specs.Words.{IsAmong, Kinds, Text, fault_of}
 use Rattle.clap.specs.declared.error.kind.ErrorKind.{ErrorKind}
 use Rattle.clap.specs.declared.error.kind.ErrorKind.TheVariants as kind
 use Rattle.bcs_tool_command_line.specs.CommandLine.{bcs_app}
 use Rattle.bcs_tool_command_line.specs.declared.line_fault.LineFault.{LineFault}
 use Rattle.bcs_tool_command_line.specs.declared.line_fault.LineFault.TheVariants.{Usage, Help, OutOfMemory}
-use Rattle.bcs_tool_command_line.specs.AcceptedArguments.{joins_raw_and_lines}
+use Rattle.bcs_tool_command_line.specs.Misuses.{misuse_of, misuse_text}
+use Rattle.bcs_tool_command_line.specs.Spelling.{spelled}
+use Rattle.bcs_tool_command_line.specs.declared.misuse.Misuse.{Misuse}
 
 -- clap's error of this kind has a text that the words ask for: help, or the version
 abbrev pub IsAskedFor : ErrorKind → Type 0
@@ -24,20 +26,16 @@ IsFaultAmong kinds (Usage text) = (k : ErrorKind) × IsAmong k kinds × (¬ IsAs
 IsFaultAmong kinds (Help text) = (k : ErrorKind) × IsAmong k kinds × IsAskedFor k
 IsFaultAmong kinds OutOfMemory = Unit {0}
 
--- what is told of words that join `--raw` and `--lines`, as clap tells of arguments that don't go together
-abbrev pub joined_text : List ℕ
-joined_text = codes "error: the argument '--raw' cannot be used with '--lines'\n\nFor more information, try '--help'.\n"
+-- the fault reports this misuse
+abbrev pub ReportsMisuse : Misuse → LineFault → Type 0
+ReportsMisuse misuse (Usage text) = string_bytes text ≡ misuse_text misuse
+ReportsMisuse misuse (Help text) = ⊥
+ReportsMisuse misuse OutOfMemory = ⊥
 
--- the fault tells that
-abbrev pub ReportsJoined : LineFault → Type 0
-ReportsJoined (Usage text) = string_bytes text ≡ joined_text
-ReportsJoined (Help text) = ⊥
-ReportsJoined OutOfMemory = ⊥
+-- the fault is for arguments that are otherwise good, but don't go together
+abbrev pub IsMisuseFault : List Text → LineFault → Type 0
+IsMisuseFault words fault = (fault_of bcs_app (spelled words) ≡ []) × IsSomeAnd (misuse_of words) (λ misuse. ReportsMisuse misuse fault)
 
--- the fault is for words that are otherwise good, and join the two
-abbrev pub IsJoinedFault : List Text → LineFault → Type 0
-IsJoinedFault words fault = (fault_of bcs_app words ≡ []) × (joins_raw_and_lines words ≡ true) × ReportsJoined fault
-
--- the fault is one that clap finds in the words, the program's own name first, or it is for words that join the two
+-- the fault is one that clap finds in the arguments, the program's own name first, or it is for arguments that don't go together
 abbrev pub IsFaultOf : List Text → LineFault → Type 0
-IsFaultOf words fault = IsFaultAmong (fault_of bcs_app words) fault ⊎ IsJoinedFault words fault
+IsFaultOf words fault = IsFaultAmong (fault_of bcs_app (spelled words)) fault ⊎ IsMisuseFault words fault

@@ -2,14 +2,15 @@
 use Rattle.std.specs.Prelude.{List, [], ◌∷◌, codes}
 use Rattle.clap.specs.Words.{App, Rule, with_subcommand}
 use Rattle.bcs_tool_command_line.specs.declared.word.Word.{Word}
-use Rattle.bcs_tool_command_line.specs.declared.word.Word.TheVariants.{Required, Optional, Flag, Variant, Depth, Nodes}
-use Rattle.bcs_tool_command_line.specs.CommandLine.{check_app, decode_app, encode_app, example_app, explain_app, flag_option, grows_app, normalise_app, number_option, optional, part_app, required, same_app, scan_app, schema_app, show_app, variant_option}
+use Rattle.bcs_tool_command_line.specs.declared.word.Word.TheVariants.{Required, Optional, Flag, Text, Output, Depth, Nodes}
+use Rattle.bcs_tool_command_line.specs.CommandLine.{check_app, decode_app, encode_app, example_app, explain_app, flag_option, grows_app, normalise_app, number_option, optional, part_app, required, same_app, output_option, scan_app, schema_app, show_app, text_option}
 
 abbrev pub rule_of_word : Word → Rule
 rule_of_word (Required name help) = required name.now
 rule_of_word (Optional name help) = optional name.now
 rule_of_word (Flag name help) = flag_option name.now
-rule_of_word Variant = variant_option
+rule_of_word (Text name value_name help) = text_option name.now
+rule_of_word Output = output_option
 rule_of_word Depth = number_option (codes "depth") 500
 rule_of_word Nodes = number_option (codes "nodes") 4294967295
 

@@ -1,17 +1,19 @@
-//! The job of a command's words, as clap found them.
+//! The job of a command, from the arguments that clap found.
 ghost use Rattle.std.specs.Prelude.{◌≡◌, ℕ, IfOk, option_map, string_bytes};
 ghost use Rattle.clap.specs.Words.{found_of, one_of, rows_of};
 ghost use Rattle.bcs_value_model.specs.Limits.{Bounds};
-ghost use Rattle.bcs_tool_command_line.specs.Jobs.{HasOptions, IsJob, WritesLimit, WritesLimits, is_set as is_set_in, text_or_empty};
+ghost use Rattle.bcs_tool_command_line.specs.Jobs.{HasOptions, IsJob, WritesLimit, WritesLimits, coding_found, file_found, has_value as has_value_in, is_set as is_set_in, notation_found, path_found, text_or_empty};
 
+use crate::coding::Coding;
 use crate::command::Command;
 use crate::display::Display;
 use crate::job::{Job, JobOptions};
+use crate::notation::Notation;
 use bcs_value::Limits;
 use clap::ArgMatches;
 use std::alloc::{AllocError, Global};
 
-/// The job of a command with the words that were given to it.
+/// The job of a command with these arguments.
 pub fn job_of(alloc: Global, command: Command, given: &ArgMatches<'_>) -> Result<Job, AllocError>
     requires { (limits : Bounds) × WritesLimits (rows_of (found_of given.now)) limits }
     ensures { IfOk result (IsJob command (rows_of (found_of given.now))) }
@@ -21,15 +23,15 @@ pub fn job_of(alloc: Global, command: Command, given: &ArgMatches<'_>) -> Result
         registry: text_of(alloc, given.get_str("REG").or(given.get_str("OLD")))?,
         second: text_of(alloc, given.get_str("NEW").or(given.get_str("A")))?,
         format: text_of(alloc, given.get_str("FORMAT"))?,
-        path: text_of(alloc, given.get_str("PATH"))?,
-        file: given_name(alloc, given.get_str("FILE").or(given.get_str("B")))?,
+        path: text_of(alloc, path_of(given))?,
+        file: given_name(alloc, file_of(given))?,
         raw: is_set(given, "raw"),
         limits: limits_of(given),
         options: options_of(alloc, given)?,
     })
 }
 
-// What was given in addition.
+// The options.
 fn options_of(alloc: Global, given: &ArgMatches<'_>) -> Result<JobOptions, AllocError>
     ensures { IfOk result (HasOptions (rows_of (found_of given.now))) }
 {
@@ -40,6 +42,9 @@ fn options_of(alloc: Global, given: &ArgMatches<'_>) -> Result<JobOptions, Alloc
         front: is_set(given, "front"),
         list: is_set(given, "list"),
         quiet: is_set(given, "quiet"),
+        notation: notation_of(given),
+        output: given_name(alloc, given.get_str("output"))?,
+        json_refusals: has_value(given, "refusals"),
         display: Display::given(given),
     })
 }
@@ -51,14 +56,60 @@ pub(crate) fn is_set(given: &ArgMatches<'_>, option: &str) -> bool
     given.get_str(option).unwrap_or("") == "true"
 }
 
-// The text of a word, which is empty where there is none.
+/// Whether an argument has a value.
+pub(crate) fn has_value(given: &ArgMatches<'_>, argument: &str) -> bool
+    ensures { result ≡ has_value_in argument.now (rows_of (found_of given.now)) }
+{
+    given.get_str(argument).is_some()
+}
+
+/// How bytes are read and written.
+pub(crate) fn coding_of(given: &ArgMatches<'_>) -> Coding
+    ensures { result ≡ coding_found (rows_of (found_of given.now)) }
+{
+    Coding::of(is_set(given, "raw"), is_set(given, "base64"))
+}
+
+/// How PATH is written.
+pub(crate) fn notation_of(given: &ArgMatches<'_>) -> Notation
+    ensures { result ≡ notation_found (rows_of (found_of given.now)) }
+{
+    if has_value(given, "name") {
+        Notation::Names
+    } else if has_value(given, "pointer") {
+        Notation::Pointer
+    } else {
+        Notation::Path
+    }
+}
+
+// PATH, or the value of the option in its place.
+fn path_of<'a>(given: &ArgMatches<'a>) -> Option<&'a str>
+    ensures { option_map (λ t. t.now) result ≡ path_found (rows_of (found_of given.now)) }
+{
+    given
+        .get_str("name")
+        .or(given.get_str("pointer").or(given.get_str("PATH")))
+}
+
+// The file of the input. With an option in the place of PATH, FILE comes third, where clap expects PATH.
+fn file_of<'a>(given: &ArgMatches<'a>) -> Option<&'a str>
+    ensures { option_map (λ t. t.now) result ≡ file_found (rows_of (found_of given.now)) }
+{
+    match notation_of(given) {
+        Notation::Path => given.get_str("FILE").or(given.get_str("B")),
+        Notation::Names | Notation::Pointer => given.get_str("PATH"),
+    }
+}
+
+// The text of an argument, or the empty text if it wasn't given.
 fn text_of(alloc: Global, word: Option<&str>) -> Result<String, AllocError>
     ensures { IfOk result (λ s. string_bytes s ≡ text_or_empty (option_map (λ t. t.now) word.entry)) }
 {
     String::from_str(alloc, word.unwrap_or(""))
 }
 
-// A word that may be left out, as a file's name or a container's.
+// An optional argument, such as the name of a file or a container.
 fn given_name(alloc: Global, word: Option<&str>) -> Result<Option<String>, AllocError>
     ensures { IfOk result (λ o. option_map string_bytes o ≡ option_map (λ t. t.now) word.entry) }
 {
@@ -68,7 +119,7 @@ fn given_name(alloc: Global, word: Option<&str>) -> Result<Option<String>, Alloc
     }
 }
 
-// The limits of the options, and the standard ones where there are none. clap has validated their numbers.
+// The limits of the options, or the standard ones. clap has validated the numbers.
 fn limits_of(given: &ArgMatches<'_>) -> Limits
     requires { (limits : Bounds) × WritesLimits (rows_of (found_of given.now)) limits }
     ensures { WritesLimits (rows_of (found_of given.now)) result }
@@ -79,7 +130,7 @@ fn limits_of(given: &ArgMatches<'_>) -> Limits
     Limits::new(depth, nodes).unwrap_or(standard)
 }
 
-// The number of an option, and the standard one where there is none.
+// The number of an option, or the standard one.
 fn number_of(given: &ArgMatches<'_>, option: &str, standard: u32) -> u32
     requires { (n : ℕ) × WritesLimit standard (one_of option.now (rows_of (found_of given.now))) n }
     ensures { WritesLimit standard (one_of option.now (rows_of (found_of given.now))) result }

@@ -2,7 +2,7 @@
 ghost use Rattle.std.specs.Prelude.{◌≡◌};
 ghost use Rattle.bcs_tool_command_line.specs.Jobs.{coding, is_raw};
 
-/// What stands for a value's bytes in an input, and in an answer.
+/// How bytes are represented in an input and in an answer.
 #[derive(Clone, Copy, Debug, PartialEq, Eq)]
 pub enum Coding {
     /// Hexadecimal digits.
@@ -14,7 +14,7 @@ pub enum Coding {
 }
 
 impl Coding {
-    /// The coding that `--raw` and `--base64` ask for. `--base64` overrides `--raw`.
+    /// The coding that `--raw` and `--base64` request. `--base64` overrides `--raw`.
     pub fn of(raw: bool, base64: bool) -> Coding
         ensures { result ≡ coding raw base64 }
     {
@@ -27,7 +27,7 @@ impl Coding {
         }
     }
 
-    /// Whether the bytes stand there as they are.
+    /// Whether the bytes are there as they are.
     pub fn is_raw(self) -> bool
         ensures { result ≡ is_raw self }
     {

@@ -1,12 +1,12 @@
 //! Whether an answer is printed in color.
 
-/// What the command line says of color.
+/// What the command line requests.
 #[derive(Clone, Copy, Debug, PartialEq, Eq)]
 pub enum Color {
-    /// Nothing: the output decides.
+    /// Nothing, or `--color=auto`: the output decides.
     Auto,
-    /// `--color`.
+    /// `--color` or `--color=always`.
     Always,
-    /// `--no-color`.
+    /// `--no-color` or `--color=never`.
     Never,
 }

@@ -1,8 +1,8 @@
-//! What `bcs` can be asked to do.
+//! The commands of `bcs`.
 ghost use Rattle.std.specs.Prelude.{◌≡◌};
 ghost use Rattle.bcs_tool_command_line.specs.Jobs.{command_named};
 
-/// A command of `bcs`, which the first word after the program's name says.
+/// A command of `bcs`: the first argument after the program's name.
 #[derive(Clone, Copy, Debug, PartialEq, Eq)]
 pub enum Command {
     /// `check`: reads a registry and counts its containers.
@@ -32,7 +32,7 @@ pub enum Command {
 }
 
 impl Command {
-    // The command of this name.
+    /// The command of this name.
     pub fn named(name: &str) -> Option<Command>
         ensures { result ≡ command_named name.now }
     {

@@ -1,4 +1,4 @@
-//! What words each command takes, in clap's terms.
+//! Which arguments each command accepts, in clap's terms.
 ghost use Rattle.std.specs.Prelude.{◌≡◌, IfOk, IsOkAnd, false, fold, map};
 ghost use Rattle.clap.specs.Words.{app_of, with_rule};
 ghost use Rattle.clap.specs.declared.builder.command.Command.TheViews.{out-Command};
@@ -19,14 +19,18 @@ const FILE: Word<'static> = Word::Optional("FILE", texts::FILE);
 
 const LINES: Word<'static> = Word::Flag("lines", texts::LINES);
 
+const REFUSALS: Word<'static> = Word::Text("refusals", "FORM", texts::REFUSALS);
+
 const QUIET: Word<'static> = Word::Flag("quiet", texts::QUIET);
 
-/// The whole command line, of which the first word is the program's own name.
+/// The whole command line, which starts with the program's own name.
 pub fn bcs_command<'a>(alloc: Global) -> Result<Command<'a>, AllocError>
     ensures { IfOk result (λ c. app_of c ≡ bcs_app) }
 {
     let program = Command::new(alloc, "bcs")
-        .about("Binary Canonical Serialization, by a registry of formats")
+        .about(
+            "Binary Canonical Serialization: encodes, decodes and explains values, with a registry of formats",
+        )
         .after_help(texts::PROGRAM_EXAMPLES)
         .version(VERSION)
         .subcommand_required(true);
@@ -60,7 +64,7 @@ fn with_input_commands<'a>(alloc: Global, program: Command<'a>) -> Result<Comman
     with_made(program, scan_command(alloc))
 }
 
-// Callers hand on what a command's function gave: the program is dropped in this one place where there is none.
+// Callers pass on the result of a command's function: if it is an error, the program is dropped here, in one place.
 fn with_made<'a>(
     program: Command<'a>,
     command: Result<Command<'a>, AllocError>,
@@ -78,9 +82,9 @@ fn check_command<'a>(alloc: Global) -> Result<Command<'a>, AllocError>
     command_of(
         alloc,
         "check",
-        "Checks a registry and prints how many containers it has",
+        "Checks a registry, and prints how many containers it has",
         texts::CHECK_EXAMPLES,
-        &[REGISTRY, QUIET],
+        &[REGISTRY, QUIET, Word::Output],
     )
 }
 
@@ -91,13 +95,14 @@ fn grows_command<'a>(alloc: Global) -> Result<Command<'a>, AllocError>
     command_of(
         alloc,
         "grows",
-        "Tells whether a registry only adds to an older one",
+        "Checks whether a registry only adds to an older one",
         texts::GROWS_EXAMPLES,
         &[
             Word::Required("OLD", texts::OLD_REGISTRY),
             Word::Required("NEW", texts::NEW_REGISTRY),
             Word::Flag("list", texts::LIST),
             QUIET,
+            Word::Output,
         ],
     )
 }
@@ -109,13 +114,14 @@ fn show_command<'a>(alloc: Global) -> Result<Command<'a>, AllocError>
     command_of(
         alloc,
         "show",
-        "Prints a registry for reading, or one container with all that it stands on",
+        "Prints a registry in readable form, or one container with everything it depends on",
         texts::SHOW_EXAMPLES,
         &[
             REGISTRY,
             Word::Optional("NAME", texts::CONTAINER),
             Word::Flag("json", texts::REGISTRY_JSON),
             QUIET,
+            Word::Output,
         ],
     )
 }
@@ -127,9 +133,12 @@ fn example_command<'a>(alloc: Global) -> Result<Command<'a>, AllocError>
     value_command(
         alloc,
         "example",
-        "Prints the JSON text of a value of a format, ready to be filled in",
+        "Prints the JSON of a value of a format, as a template to fill in",
         texts::EXAMPLE_EXAMPLES,
-        &[Word::Variant, Word::Flag("full", texts::FULL)],
+        &[
+            Word::Text("variant", "NAME", texts::VARIANT),
+            Word::Flag("full", texts::FULL),
+        ],
     )
 }
 
@@ -140,9 +149,9 @@ fn schema_command<'a>(alloc: Global) -> Result<Command<'a>, AllocError>
     command_of(
         alloc,
         "schema",
-        "Prints a JSON Schema of the JSON texts of a format's values",
+        "Prints a JSON Schema for the JSON of a format's values",
         texts::SCHEMA_EXAMPLES,
-        &[REGISTRY, FORMAT, QUIET],
+        &[REGISTRY, FORMAT, QUIET, Word::Output],
     )
 }
 
@@ -153,13 +162,14 @@ fn encode_command<'a>(alloc: Global) -> Result<Command<'a>, AllocError>
     value_command(
         alloc,
         "encode",
-        "Prints the bytes of a value's JSON text",
+        "Prints the bytes of a value's JSON",
         texts::ENCODE_EXAMPLES,
         &[
             FILE,
             Word::Flag("raw", texts::RAW_OUTPUT),
             Word::Flag("base64", texts::BASE64_OUTPUT),
             LINES,
+            REFUSALS,
         ],
     )
 }
@@ -171,13 +181,14 @@ fn decode_command<'a>(alloc: Global) -> Result<Command<'a>, AllocError>
     value_command(
         alloc,
         "decode",
-        "Prints the JSON text of a value's bytes",
+        "Prints the JSON of a value's bytes",
         texts::DECODE_EXAMPLES,
         &[
             FILE,
             Word::Flag("raw", texts::RAW_INPUT),
             Word::Flag("base64", texts::BASE64_INPUT),
             LINES,
+            REFUSALS,
         ],
     )
 }
@@ -189,16 +200,18 @@ fn explain_command<'a>(alloc: Global) -> Result<Command<'a>, AllocError>
     value_command(
         alloc,
         "explain",
-        "Prints a value's bytes, piece by piece: place, bytes, what they are, and the way to them",
+        "Prints a value's bytes piece by piece: offset, bytes, meaning and name of each piece",
         texts::EXPLAIN_EXAMPLES,
         &[
             FILE,
             Word::Flag("raw", texts::RAW_INPUT),
             Word::Flag("base64", texts::BASE64_INPUT),
+            Word::Flag("lines", texts::LINES_OF_PIECES),
+            REFUSALS,
             Word::Flag("paths", texts::PATHS),
             Word::Flag("tree", texts::TREE),
             Word::Flag("json", texts::JSON),
-            Word::Flag("color", texts::COLOR),
+            Word::Text("color", "WHEN", texts::COLOR),
             Word::Flag("no-color", texts::NO_COLOR),
         ],
     )
@@ -208,13 +221,14 @@ fn normalise_command<'a>(alloc: Global) -> Result<Command<'a>, AllocError>
     ensures app { IfOk result (λ c. app_of c ≡ normalise_app) }
     ensures global { IfOk result (λ c. (out-Command c).has_globals ≡ false) }
 {
-    value_command(
+    let command = value_command(
         alloc,
         "normalise",
-        "Prints the one normal JSON text of a value's JSON text",
+        "Prints the JSON of a value in its one normal form",
         texts::NORMALISE_EXAMPLES,
-        &[FILE, LINES],
-    )
+        &[FILE, LINES, REFUSALS],
+    )?;
+    command.visible_alias("normalize")
 }
 
 fn same_command<'a>(alloc: Global) -> Result<Command<'a>, AllocError>
@@ -224,12 +238,13 @@ fn same_command<'a>(alloc: Global) -> Result<Command<'a>, AllocError>
     value_command(
         alloc,
         "same",
-        "Tells whether two JSON texts have the same value",
+        "Checks whether two JSON documents have the same value",
         texts::SAME_EXAMPLES,
         &[
             Word::Required("A", texts::FIRST_FILE),
             Word::Optional("B", texts::SECOND_FILE),
             Word::Flag("lines", texts::LINES_OF_BOTH),
+            REFUSALS,
         ],
     )
 }
@@ -241,14 +256,17 @@ fn part_command<'a>(alloc: Global) -> Result<Command<'a>, AllocError>
     value_command(
         alloc,
         "part",
-        "Prints the bytes of a part of a value, out of the value's bytes",
+        "Prints the bytes of a part of a value, from the value's bytes",
         texts::PART_EXAMPLES,
         &[
-            Word::Required("PATH", texts::PATH),
+            Word::Optional("PATH", texts::PATH),
             FILE,
             Word::Flag("raw", texts::RAW_BOTH),
             Word::Flag("base64", texts::BASE64_BOTH),
             LINES,
+            REFUSALS,
+            Word::Text("name", "NAME", texts::NAME),
+            Word::Text("pointer", "POINTER", texts::POINTER),
         ],
     )
 }
@@ -260,19 +278,20 @@ fn scan_command<'a>(alloc: Global) -> Result<Command<'a>, AllocError>
     value_command(
         alloc,
         "scan",
-        "Checks the bytes of a value and prints how many there are",
+        "Checks the bytes of a value, and prints their number",
         texts::SCAN_EXAMPLES,
         &[
             FILE,
             Word::Flag("raw", texts::RAW_INPUT),
             Word::Flag("base64", texts::BASE64_INPUT),
             LINES,
+            REFUSALS,
             Word::Flag("front", texts::FRONT),
         ],
     )
 }
 
-// A command on values of a format, within limits, that takes these words after the format.
+// A command on values of a format, within limits, that accepts these arguments after the format.
 fn value_command<'a>(
     alloc: Global,
     name: &'a str,
@@ -283,12 +302,19 @@ fn value_command<'a>(
     ensures app { IfOk result (λ c. app_of c ≡ fold with_rule (value_app name.entry.now) (map rule_of_word words.now)) }
     ensures global { IfOk result (λ c. (out-Command c).has_globals ≡ false) }
 {
-    let shared = [REGISTRY, FORMAT, Word::Depth, Word::Nodes, QUIET];
+    let shared = [
+        REGISTRY,
+        FORMAT,
+        Word::Depth,
+        Word::Nodes,
+        QUIET,
+        Word::Output,
+    ];
     let command = command_of(alloc, name, about, after_help, &shared)?;
     with_words(alloc, command, words)
 }
 
-// A command of this name that takes these words, in this order.
+// A command of this name that accepts these arguments, in this order.
 fn command_of<'a>(
     alloc: Global,
     name: &'a str,

@@ -64,9 +64,11 @@ fn form_of(given: &ArgMatches<'_>) -> Form {
 fn color_of(given: &ArgMatches<'_>) -> Color {
     if is_set(given, "no-color") {
         Color::Never
-    } else if is_set(given, "color") {
-        Color::Always
     } else {
-        Color::Auto
+        match given.get_str("color") {
+            Some("always") => Color::Always,
+            Some("never") => Color::Never,
+            _ => Color::Auto,
+        }
     }
 }

@@ -1,4 +1,4 @@
-//! Where faults stand: the line behind the note.
+//! Where faults occurred: the line after the note.
 ghost use Rattle.std.specs.Prelude.{◌≡◌, ◌++◌, IfOk};
 ghost use Rattle.bcs_tool_command_line.specs.FaultPlaces.{ReportsPlace, cause_text, file_place, file_text, origin_text, output_text, take_place};
 
@@ -9,8 +9,8 @@ use bcs_display_text::escaping::put_escaped;
 use bcs_io::TakeFault;
 use std::alloc::{AllocError, Global};
 
-/// The file of this name, which was not read, and why it wasn't opened. It is empty at a quiet job, at want of memory, and
-/// where no memory is left for it.
+/// The file of this name, which couldn't be read or written, and why it couldn't be opened. It is empty for a quiet job, if
+/// memory ran out, or if no memory is left for it.
 pub fn place_of_file(alloc: Global, quiet: bool, unread: UnreadFile, name: &str) -> Vec<u8>
     ensures { ReportsPlace quiet (file_place unread name.now) result.items }
 {
@@ -23,7 +23,7 @@ pub fn place_of_file(alloc: Global, quiet: bool, unread: UnreadFile, name: &str)
     }
 }
 
-/// The input, which was not taken; nothing at want of memory.
+/// The input, which couldn't be read; nothing if memory ran out.
 pub fn input_line(
     alloc: Global,
     fault: TakeFault,
@@ -37,7 +37,7 @@ pub fn input_line(
     }
 }
 
-/// The standard output, which didn't take an answer.
+/// Standard output, which didn't accept an answer.
 pub fn output_line(alloc: Global) -> Result<Vec<u8>, AllocError>
     ensures { IfOk result (λ line. line.items ≡ output_text) }
 {
@@ -54,7 +54,7 @@ fn unread_line(alloc: Global, unread: UnreadFile, name: &str) -> Result<Vec<u8>,
     }
 }
 
-// The file, and why the system opened none.
+// The file, and why the system couldn't open it.
 fn unopened_line(alloc: Global, name: &str, cause: OpenCause) -> Result<Vec<u8>, AllocError>
     ensures { IfOk result (λ line. line.items ≡ file_text name.now ++ cause_text cause) }
 {
@@ -72,7 +72,7 @@ fn origin_line(alloc: Global, origin: Origin<'_>) -> Result<Vec<u8>, AllocError>
     }
 }
 
-// A name is escaped as in JSON, in ASCII, so that no byte of it reaches a terminal as it is.
+// A name is escaped as in JSON, in ASCII, so that no byte of it reaches a terminal unchanged.
 fn file_line(alloc: Global, name: &str) -> Result<Vec<u8>, AllocError>
     ensures { IfOk result (λ line. line.items ≡ file_text name.now) }
 {

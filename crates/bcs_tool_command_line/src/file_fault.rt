@@ -1,4 +1,4 @@
-//! Why a named file was not read.
+//! Why a named file couldn't be read.
 ghost use Rattle.std.specs.Prelude.{◌≡◌};
 ghost use Rattle.bcs_tool_command_line.specs.Files.{file_note};
 
@@ -6,13 +6,14 @@ use crate::unread_file::UnreadFile;
 use bcs_io::TakeFault;
 use thiserror::Error;
 
-/// Why the content of a named file was not read. The message is the variant's name alone, and the variants count from 1.
+/// Why the content of a named file couldn't be read. The message is only the variant's name, and the variants are numbered
+/// from 1.
 #[derive(Clone, Copy, Debug, Drop, PartialEq, Eq, Error)]
 pub enum FileFault {
     /// The file could not be opened.
     #[error("Open")]
     Open = 1,
-    /// The file failed while it was read.
+    /// Reading the file failed.
     #[error("Read")]
     Read,
     /// It has more than 268435456 bytes.
@@ -24,7 +25,7 @@ pub enum FileFault {
 }
 
 impl FileFault {
-    /// The line for the standard error.
+    /// The line for standard error.
     pub fn note(self) -> &'static str
         ensures { result.now ≡ file_note self }
     {

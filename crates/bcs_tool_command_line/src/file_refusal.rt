@@ -1,4 +1,4 @@
-//! Why a job has no work.
+//! Why a file of a job couldn't be read.
 ghost use Rattle.std.specs.Prelude.{string_bytes};
 ghost use Rattle.bcs_tool_command_line.specs.FaultPlaces.{ReportsPlace, file_place};
 
@@ -7,17 +7,17 @@ use crate::unread_file::UnreadFile;
 use std::alloc::Global;
 use thiserror::Error;
 
-/// Why a job has no work: a file that it names was not read. The message is the fault's name alone.
+/// Why a job can't be done: a file that it names couldn't be read. The message is only the fault's name.
 #[derive(Debug, Drop, Error)]
 #[error("{reason}")]
 pub struct FileRefusal {
     pub reason: UnreadFile,
-    /// The file's name. Where memory ran out, it may be a registry's text.
+    /// The file's name. If memory ran out, it may be a registry's JSON.
     pub name: String,
 }
 
 impl FileRefusal {
-    /// Where the fault stands. It is empty at a quiet job, at want of memory, and where no memory is left for it.
+    /// Where the fault occurred. It is empty for a quiet job, if memory ran out, or if no memory is left for it.
     pub fn place(&self, alloc: Global, quiet: bool) -> Vec<u8>
         ensures { ReportsPlace quiet (file_place self.now.reason (string_bytes self.now.name)) result.items }
     {

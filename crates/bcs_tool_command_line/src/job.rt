@@ -1,10 +1,11 @@
-//! A command with its words.
+//! A command with its arguments.
 ghost use Rattle.std.specs.Prelude.{◌≡◌};
 ghost use Rattle.bcs_tool_command_line.specs.Jobs.{HasNoOptions, coding};
 
 use crate::coding::Coding;
 use crate::command::Command;
 use crate::display::Display;
+use crate::notation::Notation;
 use bcs_value::Limits;
 
 /// What a command line asks for: the command and its arguments as they are. An argument that the command doesn't have is
@@ -18,7 +19,7 @@ pub struct Job {
     pub second: String,
     /// FORMAT: a format's JSON, or a container's name.
     pub format: String,
-    /// PATH, the steps to a part of a value.
+    /// PATH, the steps to a part of a value; or the value of `--name` or of `--pointer`.
     pub path: String,
     /// FILE, or B of `same`: the name of the file to read instead of standard input.
     pub file: Option<String>,
@@ -45,6 +46,12 @@ pub struct JobOptions {
     pub list: bool,
     /// `--quiet`: the line that says where a refusal occurred is left out.
     pub quiet: bool,
+    /// `--name`, `--pointer`: how PATH is written.
+    pub notation: Notation,
+    /// `--output`: the name of the file to write instead of standard output.
+    pub output: Option<String>,
+    /// `--refusals json`: a line that is refused is answered by a JSON object.
+    pub json_refusals: bool,
     /// The options of output that people read.
     pub display: Display,
 }
@@ -99,6 +106,9 @@ impl JobOptions {
             front: false,
             list: false,
             quiet: false,
+            notation: Notation::Path,
+            output: None,
+            json_refusals: false,
             display: Display::none(),
         }
     }

@@ -1,4 +1,4 @@
-//! The command line of `bcs`, the job that it tells, and what its work and its files are.
+//! The command line of `bcs`, its job, and the types of the job's work and files.
 #![tactic(auto)]
 
 mod arguments;
@@ -13,9 +13,12 @@ mod file_refusal;
 mod job;
 pub mod limits;
 mod line_fault;
+mod misuse;
+mod notation;
 mod open_cause;
 mod origin;
 mod parsing;
+mod spelling;
 mod styling;
 mod texts;
 mod unread_file;
@@ -32,6 +35,8 @@ pub use file_fault::FileFault;
 pub use file_refusal::FileRefusal;
 pub use job::{Job, JobOptions};
 pub use line_fault::LineFault;
+pub use misuse::Misuse;
+pub use notation::Notation;
 pub use open_cause::OpenCause;
 pub use origin::Origin;
 pub use parsing::parsed_job;

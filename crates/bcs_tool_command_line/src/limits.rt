@@ -1,4 +1,4 @@
-//! What is too much.
+//! The limit on sizes.
 
-/// The most bytes of a registry's text, of a second text, and of an input.
+/// The maximal number of bytes of a registry, of a second text, and of an input.
 pub const SIZE_LIMIT: u64 = 268435456;

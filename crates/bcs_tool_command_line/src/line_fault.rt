@@ -1,17 +1,17 @@
-//! Why a command line asks for no job.
+//! Why a command line isn't a job.
 ghost use Rattle.std.specs.Prelude.{◌≡◌};
 
 use std::alloc::AllocError;
 use thiserror::Error;
 
-/// Why the words of a command line give no job. The message is the variant's name alone.
+/// Why the arguments of a command line aren't a job. The message is only the variant's name.
 #[derive(Debug, Drop, Error)]
 pub enum LineFault {
-    /// The words are no command line of `bcs`. It holds a text on what is wrong, clap's or one of its
-    /// form, for the standard error.
+    /// The arguments aren't a command line of `bcs`. The text for standard error says what is wrong; it is clap's, or in its
+    /// form.
     #[error("Usage")]
     Usage(String),
-    /// The words ask for help, or for the version. It holds clap's text of it, for the standard output.
+    /// The arguments ask for help, or for the version: clap's text, for standard output.
     #[error("Help")]
     Help(String),
     /// Memory ran out.

@@ -1,17 +1,17 @@
-//! Why a file was not opened.
+//! Why a file couldn't be opened.
 ghost use Rattle.std.specs.Prelude.{◌≡◌};
 ghost use Rattle.bcs_tool_command_line.specs.FaultPlaces.{cause_of, cause_text};
 
 use std::io::ErrorKind;
 
-/// Why the system opened no file, as far as it is told.
+/// Why the system couldn't open a file, as far as that is reported.
 #[derive(Clone, Copy, Debug, Drop, PartialEq, Eq)]
 pub enum OpenCause {
-    /// There is none of this name.
+    /// There is no file of this name.
     Missing,
-    /// The user may not read it, or not look into its folder.
+    /// The user may not open it, or not look into its folder.
     Forbidden,
-    /// What stands before a slash of the name is no folder.
+    /// What comes before a slash of the name isn't a folder.
     NoFolder,
     /// The name leads through too many symbolic links.
     Loop,
@@ -19,7 +19,7 @@ pub enum OpenCause {
     LongName,
     /// No file can have this name.
     BadName,
-    /// Anything else, of which nothing is told.
+    /// Anything else, which isn't reported.
     Other,
 }
 
@@ -39,7 +39,7 @@ impl OpenCause {
         }
     }
 
-    /// What is told behind the file's name.
+    /// The text after the file's name.
     pub fn text(self) -> &'static str
         ensures { result.now ≡ cause_text self }
     {

@@ -1,10 +1,10 @@
-//! What a source reads.
+//! What an input is.
 
-/// What a job's input is, as the place of a fault tells it.
+/// What a job's input is, for the place of a fault.
 #[derive(Clone, Copy, Debug)]
 pub enum Origin<'a> {
     /// The file of this name.
     File(&'a str),
-    /// The standard input.
+    /// Standard input.
     StandardInput,
 }

@@ -19,7 +19,7 @@ pub fn with_color<R: Files + Env + AllocGlobal>(
     Display { color, ..display }
 }
 
-// Color for a command that has any, on a terminal.
+// Color for the one command that has colors, on a terminal.
 fn usual_color<R: Files + Env + AllocGlobal>(rt: &R, command: Command) -> Color {
     if command == Command::Explain && allows_color(rt) && is_on_terminal(rt) {
         Color::Always
@@ -37,7 +37,7 @@ fn allows_color<R: Env + AllocGlobal>(rt: &R) -> bool {
     }
 }
 
-// Linux says by a link which file the standard output is. Terminals are those of /dev/pts and /dev/tty.
+// On Linux, a link shows which file standard output is. Terminals are in /dev/pts and /dev/tty.
 fn is_on_terminal<R: Files + AllocGlobal>(rt: &R) -> bool {
     match fs::read_link(rt, "/proc/self/fd/1") {
         Ok(path) => {

@@ -1,109 +1,143 @@
-//! What the help says. Each example works as it stands, and prints what stands behind its `#`.
+//! The texts of the help. Each example works as it stands, and prints what comes after its `#`.
 
-// ---- words
+// ---- arguments
 
 pub const REGISTRY: &str =
-    "The registry: its JSON text where the word begins with {, else a file's name";
+    "The registry: its JSON if it begins with {, otherwise the name of its file";
 
-pub const OLD_REGISTRY: &str = "The older registry, as its text or a file";
+pub const OLD_REGISTRY: &str = "The older registry: its JSON, or the name of its file";
 
-pub const NEW_REGISTRY: &str = "The newer registry, as its text or a file";
+pub const NEW_REGISTRY: &str = "The newer registry: its JSON, or the name of its file";
 
 pub const FORMAT: &str =
-    "The format: its JSON text where the word begins with { or \", else a container's name. \
-    JSON's quotes are part of the word, so a shell wants '\"I16\"'";
+    "The format: its JSON if it begins with { or \", otherwise a container's name. JSON keeps its \
+    quotes, so in a shell write '\"I16\"'";
 
 pub const CONTAINER: &str =
-    "The container to print, with all that it stands on, in place of the whole registry";
+    "The container to print, with everything it depends on, instead of the whole registry";
 
 pub const PATH: &str =
-    "The steps to the part, joined by /, or . for the whole value. A number leads to an element or \
-    a field, counted from 0; inner to what an option, a container or a variant holds; key: and \
-    hexadecimal digits to the value at the key of these bytes";
+    "The path to the part: steps joined by /, or . for the whole value. A number leads to an element or \
+    a field, counted from 0; inner to the content of an option, a container or a variant; key: and \
+    hex digits to the value at the key with these bytes. Left out with --name or --pointer";
 
-pub const FILE: &str = "The file to read in place of the standard input";
+pub const FILE: &str = "The file to read instead of standard input";
 
-pub const FIRST_FILE: &str = "The file of the first value's JSON text";
+pub const FIRST_FILE: &str = "The file with the JSON of the first value";
 
-pub const SECOND_FILE: &str = "The file of the second value's, in place of the standard input";
+pub const SECOND_FILE: &str =
+    "The file with the JSON of the second value, instead of standard input";
 
 // ---- how the input is read, and bytes are written
 
-pub const RAW_INPUT: &str = "Reads the bytes as they are, and not as hexadecimal digits";
+pub const RAW_INPUT: &str = "Reads the bytes as they are, instead of hex digits";
 
-pub const RAW_OUTPUT: &str = "Writes the bytes as they are, and not as hexadecimal digits";
+pub const RAW_OUTPUT: &str = "Writes the bytes as they are, instead of hex digits";
 
-pub const RAW_BOTH: &str = "Reads and writes the bytes as they are, and not as hexadecimal digits";
+pub const RAW_BOTH: &str = "Reads and writes the bytes as they are, instead of hex digits";
 
 pub const BASE64_INPUT: &str =
-    "Reads the bytes as base64, with padding, and not as hexadecimal digits. It goes before --raw";
+    "Reads the bytes as base64 with padding, instead of hex digits. Overrides --raw";
 
 pub const BASE64_OUTPUT: &str =
-    "Writes the bytes as base64, with padding, and not as hexadecimal digits. It goes before --raw";
+    "Writes the bytes as base64 with padding, instead of hex digits. Overrides --raw";
 
 pub const BASE64_BOTH: &str =
-    "Reads and writes the bytes as base64, with padding, and not as hexadecimal digits. It goes \
-    before --raw";
+    "Reads and writes the bytes as base64 with padding, instead of hex digits. Overrides --raw";
 
 pub const LINES: &str =
-    "Takes each line of the input as an input of its own, and answers each by a line";
+    "Treats each line of the input as an input of its own, and answers each with a line";
+
+pub const LINES_OF_PIECES: &str =
+    "Treats each line of the input as an input of its own. An empty line follows the pieces of each; with \
+    --json, each is answered with a line, the array of its pieces";
 
 pub const LINES_OF_BOTH: &str =
-    "Compares each line of A with that of B, and answers each pair by a line, until one of them ends";
+    "Compares each line of A with the same line of B, and answers each pair with a line, until one of the \
+    files ends";
 
-pub const FRONT: &str = "Takes a value at the front of the bytes, and leaves the rest";
+pub const REFUSALS: &str =
+    "Answers refused lines with a JSON object each, if FORM is json. They don't change the status. Needs \
+    --lines";
+
+pub const FRONT: &str = "Accepts a value at the start of the bytes, and ignores the rest";
+
+// ---- the options of `part`
+
+pub const NAME: &str =
+    "Finds the part by its name in the output of explain, such as .a[0], instead of PATH";
+
+pub const POINTER: &str =
+    "Finds the part by a JSON pointer into the JSON of the value, such as /a/0, instead of PATH";
 
 // ---- the option of `grows`
 
-pub const LIST: &str = "Prints all differences first, a line each";
+pub const LIST: &str = "Prints all differences first, one on each line";
 
 // ---- the option of `show`
 
 pub const REGISTRY_JSON: &str =
-    "Prints the registry's one compact JSON text, so that two spellings of a registry become one";
+    "Prints the registry as JSON on one line. Equal registries have the same line";
 
 // ---- the options of `example`
 
 pub const VARIANT: &str =
-    "Takes this variant of the enum that FORMAT names, in place of the one that is taken else";
+    "Uses this variant of the enum that FORMAT names, instead of the one used by default";
 
 pub const FULL: &str =
-    "Puts one element into each list, map and option, down to a container that stands in itself";
+    "Puts one element into each list, map and option, except inside a container that contains itself";
 
-// ---- the option of every command
+// ---- limits
 
-pub const QUIET: &str = "Leave out the line on standard error that says where a refusal stands";
+pub const DEPTH: &str = "Limits how many containers may be open at once. At most 500, the default";
+
+pub const NODES: &str = "Limits how many nodes a value may have. At most 4294967295, the default";
+
+// ---- the options of every command
+
+pub const QUIET: &str = "Leaves out the line on standard error that says where a refusal occurred";
+
+pub const OUTPUT: &str =
+    "Writes the answer to this file instead of standard output. If the status isn't 0, the file stays as \
+    it is, and the answer goes to standard error";
 
 // ---- the options of `explain`
 
-pub const PATHS: &str =
-    "Prints behind each way the word PATH that leads `part` there, or - where none does";
+pub const PATHS: &str = "Prints PATH, for the command part, after each name, or - if there is none";
 
 pub const TREE: &str =
-    "Prints the last step of each way alone, set in by how deep it lies. It goes before --paths";
+    "Prints only the last step of each name, indented by its depth. Overrides --paths";
 
 pub const JSON: &str =
-    "Prints a JSON object for each piece, one a line, which has its PATH and all its bytes. It goes \
-    before --tree and --paths";
+    "Prints each piece as a JSON object on a line, with its PATH and all its bytes. Overrides --tree and \
+    --paths";
 
 pub const COLOR: &str =
-    "Prints in color. Without it, that is done on a terminal, if NO_COLOR isn't set";
+    "Prints in color: always, never, or auto, the default, on a terminal unless NO_COLOR is set. WHEN \
+    follows an equals sign; --color alone means always";
 
-pub const NO_COLOR: &str = "Prints without color. It goes before --color";
+pub const NO_COLOR: &str = "Prints without color. Overrides --color";
 
 // ---- the ends of the helps
 
-pub const PROGRAM_EXAMPLES: &str = "Example:
+pub const PROGRAM_EXAMPLES: &str = "Input:
+  Bytes are hex digits, with white space allowed before and after them. With --base64 they are
+  base64, and with --raw the bytes themselves. Without FILE, standard input is read; its file name
+  is /dev/stdin, since - is the name of an ordinary file.
+
+Example:
   echo -4660 | bcs encode '{}' '\"I16\"'  # cced
+  echo cced | bcs decode '{}' '\"I16\"'  # -4660
 
 Status:
-  0  done, or yes: equal, grows
-  1  no: different, none
-  2  refused: the standard output says why
-  3  the command line is wrong: the standard error says how
-  4  a file, the output or memory failed: the standard error says which";
+  0  done, equal, or grows
+  1  different, or none
+  2  refused: standard output says why
+  3  usage error: standard error says which
+  4  a file, the output or memory failed: standard error says which";
 
 pub const CHECK_EXAMPLES: &str = "Example:
+  bcs check '{}'  # ok 0
   bcs check '{\"Id\":{\"NEWTYPESTRUCT\":\"U64\"}}'  # ok 1
 
 Status: 0 done, 2 refused, 3 usage, 4 file or memory";
@@ -116,6 +150,7 @@ Status: 0 grows, 2 refused, 3 usage, 4 file or memory";
 
 pub const SHOW_EXAMPLES: &str = "Example:
   bcs show '{\"Id\":{\"NEWTYPESTRUCT\":\"U64\"}}' | xargs  # Id: NEWTYPESTRUCT, 8 bytes, used by no other U64
+  bcs show --json '{ \"Id\": {\"NEWTYPESTRUCT\": \"U64\"} }'  # {\"Id\":{\"NEWTYPESTRUCT\":\"U64\"}}
 
 Status: 0 done, 2 refused, 3 usage, 4 file or memory";
 
@@ -127,11 +162,13 @@ Status: 0 done, 2 refused, 3 usage, 4 file or memory";
 
 pub const SCHEMA_EXAMPLES: &str = "Example:
   bcs schema '{}' '\"BOOL\"' | grep boolean | xargs  # type: boolean
+  bcs schema '{}' '{\"SEQ\":\"BOOL\"}' | grep '\"array\"' | xargs  # type: array
 
 Status: 0 done, 2 refused, 3 usage, 4 file or memory";
 
 pub const ENCODE_EXAMPLES: &str = "Example:
   echo -4660 | bcs encode '{}' '\"I16\"'  # cced
+  echo '[7,[true,false]]' | bcs encode '{}' '{\"TUPLE\":[\"U16\",{\"SEQ\":\"BOOL\"}]}'  # 0700020100
 
 Status: 0 done, 2 refused, 3 usage, 4 file or memory";
 
@@ -143,25 +180,30 @@ Status: 0 done, 2 refused, 3 usage, 4 file or memory";
 
 pub const EXPLAIN_EXAMPLES: &str = "Example:
   echo cced | bcs explain '{}' '\"I16\"' | xargs  # 0 cced I16 -4660 .
+  echo 0107 | bcs explain '{}' '{\"OPTION\":\"U8\"}' --paths | xargs  # 0 01 OPTION present . . 1 07 U8 7 ? inner
 
 Status: 0 done, 2 refused, 3 usage, 4 file or memory";
 
 pub const NORMALISE_EXAMPLES: &str = "Example:
   echo '\"-4660\"' | bcs normalise '{}' '\"I16\"'  # -4660
+  echo '{\"b\":true,\"a\":\"7\"}' | bcs normalize '{\"S\":{\"STRUCT\":[{\"a\":\"U8\"},{\"b\":\"BOOL\"}]}}' S  # {\"a\":7,\"b\":true}
 
 Status: 0 done, 2 refused, 3 usage, 4 file or memory";
 
 pub const SAME_EXAMPLES: &str = "Example:
   echo 7 > a.json; echo '\"7\"' | bcs same '{}' '\"U8\"' a.json  # equal
+  echo 7 > a.json; echo 8 | bcs same '{}' '\"U8\"' a.json  # different
 
 Status: 0 equal, 1 different, 2 refused, 3 usage, 4 file or memory";
 
 pub const PART_EXAMPLES: &str = "Example:
   echo 02000100010001 | bcs part '{}' '{\"MAP\":{\"KEY\":\"U16\",\"VALUE\":\"BOOL\"}}' key:0100  # 01
+  echo 0708 | bcs part '{\"S\":{\"STRUCT\":[{\"a\":\"U8\"},{\"b\":\"U8\"}]}}' S --name .b  # 08
 
 Status: 0 done, 1 none, 2 refused, 3 usage, 4 file or memory";
 
 pub const SCAN_EXAMPLES: &str = "Example:
   echo cced | bcs scan '{}' '\"I16\"'  # ok 2
+  printf 'cced\\ncc' | bcs scan '{}' '\"I16\"' --lines --quiet | xargs  # ok 2 refused: EndOfInput at 1
 
 Status: 0 done, 2 refused, 3 usage, 4 file or memory";

@@ -1,17 +1,17 @@
-//! Why a named file was not read, and why it wasn't opened.
+//! Why a named file couldn't be read, and why it couldn't be opened.
 ghost use Rattle.std.specs.Prelude.{◌≡◌};
 
 use crate::open_cause::OpenCause;
 use bcs_io::TakeFault;
 use thiserror::Error;
 
-/// Why the content of a named file was not read, with what is told of it. The message is the fault's name alone.
+/// Why the content of a named file couldn't be read. The message is only the fault's name.
 #[derive(Clone, Copy, Debug, Drop, PartialEq, Eq, Error)]
 pub enum UnreadFile {
     /// The file could not be opened.
     #[error("Open")]
     OpenFailed(OpenCause),
-    /// Its content was not taken.
+    /// Its content couldn't be read.
     #[error(transparent)]
     ReadFailed(TakeFault),
 }

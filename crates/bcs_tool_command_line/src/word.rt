@@ -1,4 +1,4 @@
-//! A word that a command takes.
+//! An argument that a command accepts.
 ghost use Rattle.std.specs.Prelude.{◌≡◌, false};
 ghost use Rattle.clap.specs.Words.{rule_of};
 ghost use Rattle.bcs_tool_command_line.specs.Words.{rule_of_word};
@@ -7,25 +7,27 @@ use crate::texts;
 use clap::{Arg, ArgAction, value_parser};
 use std::alloc::Global;
 
-/// A word by its name and its help. The last three are the same wherever they stand.
+/// An argument: its name, and its help at the end. The last three are the same for every command.
 #[derive(Clone, Copy)]
 pub enum Word<'a> {
-    /// It has to be there, and is known by its place.
+    /// A required argument, identified by its position.
     Required(&'a str, &'a str),
-    /// It may be left out, and is known by its place.
+    /// An optional argument, identified by its position.
     Optional(&'a str, &'a str),
     /// An option without a value.
     Flag(&'a str, &'a str),
-    /// The variant whose example is made.
-    Variant,
-    /// How many containers may be open.
+    /// An option with a value, and the value's name.
+    Text(&'a str, &'a str, &'a str),
+    /// `--output`: the file to write.
+    Output,
+    /// `--depth`: the number of containers that may be open.
     Depth,
-    /// How many nodes a value may have.
+    /// `--nodes`: the number of nodes that a value may have.
     Nodes,
 }
 
 impl<'a> Word<'a> {
-    /// The word in clap's terms.
+    /// The argument in clap's terms.
     pub fn argument(self, alloc: Global) -> Arg<'a>
         ensures rule { rule_of result ≡ rule_of_word self.entry }
         ensures global { result.global ≡ false }
@@ -37,20 +39,25 @@ impl<'a> Word<'a> {
                 .long(name)
                 .action(ArgAction::SetTrue)
                 .help(help),
-            Word::Variant => Arg::new(alloc, "variant")
-                .long("variant")
-                .value_name("NAME")
-                .help(texts::VARIANT),
+            Word::Text(name, value_name, help) => Arg::new(alloc, name)
+                .long(name)
+                .value_name(value_name)
+                .help(help),
+            Word::Output => Arg::new(alloc, "output")
+                .long("output")
+                .short('o')
+                .value_name("FILE")
+                .help(texts::OUTPUT),
             Word::Depth => Arg::new(alloc, "depth")
                 .long("depth")
                 .value_name("N")
                 .value_parser(value_parser!(u32).range(..=500))
-                .help("The most containers that may be open at once, at most 500"),
+                .help(texts::DEPTH),
             Word::Nodes => Arg::new(alloc, "nodes")
                 .long("nodes")
                 .value_name("N")
                 .value_parser(value_parser!(u32))
-                .help("The most nodes of a value"),
+                .help(texts::NODES),
         }
     }
 }

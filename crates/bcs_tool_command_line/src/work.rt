@@ -1,25 +1,25 @@
-//! What a run is given, and how it ends.
+//! The input of a run, and its outcome.
 ghost use Rattle.std.specs.Prelude.{◌≡◌};
 ghost use Rattle.bcs_tool_command_line.specs.Jobs.{HasNoOptions, coding_of};
 
 use crate::{Coding, Command, JobOptions};
 use bcs_value::Limits;
 
-/// A job whose named files were read.
+/// A job whose named files have been read.
 #[derive(Debug, Drop)]
 pub struct Work {
     pub command: Command,
     /// The JSON of REG, or of OLD.
     pub registry: Vec<u8>,
-    /// The JSON of NEW, or of A; empty if the command has neither, and if the lines of A are compared.
+    /// The JSON of NEW, or of A; empty if the command has neither, or if the lines of A are compared.
     pub second: Vec<u8>,
-    /// FORMAT as it is; empty if the command has none.
+    /// FORMAT as it is; empty if the command has no FORMAT.
     pub format: String,
-    /// PATH as it is; empty if the command has none.
+    /// PATH as it is, or the value of `--name` or of `--pointer`; empty if the command has none.
     pub path: String,
     /// Whether bytes are read and written as they are, not as hexadecimal digits.
     pub raw: bool,
-    /// What a value may hold.
+    /// The limits of a value.
     pub limits: Limits,
     /// The options of the job, with the color decided.
     pub options: JobOptions,
@@ -64,17 +64,17 @@ impl Work {
 /// The files that a run reads itself.
 #[derive(Debug, Drop)]
 pub struct Inputs {
-    /// The name of A of `same`, where its lines are compared.
+    /// The name of A of `same`, if its lines are compared.
     pub first: Option<String>,
-    /// The name of the file to read in place of the standard input.
+    /// The name of the file to read instead of standard input.
     pub file: Option<String>,
 }
 
 /// How a run ended, and where.
 #[derive(Debug, Drop)]
 pub struct Outcome {
-    /// 0 if it is done, 1 if the answer is a no, 2 if it is refused, and 4 if a read, a write or memory failed or the input is
-    /// too large.
+    /// 0 if it is done, 1 if the answer is a no, 2 if it is refused, and 4 if reading, writing or memory failed, or if the
+    /// input is too large.
     pub status: u8,
     /// The line for standard error: empty except with status 4.
     pub note: &'static str,

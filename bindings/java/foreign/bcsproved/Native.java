@@ -53,6 +53,7 @@ final class Native {
             case CHECK -> "a";
             case SCAN -> "a1";
             case COMPARE, PART -> "a12";
+            case PART_NAMED -> "an21";
             case TO_BCS, FROM_BCS, NORMALISE -> "a1o";
             case TEXT_REFUSAL, STOP_REFUSAL -> "a1o";
             case EXPLAIN, EXAMPLE -> "an1o";

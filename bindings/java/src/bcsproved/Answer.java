@@ -5,6 +5,9 @@ record Answer(int status, int fault, long place, long length, byte[] output) {
     /** enum bcs_status. */
     static final int DONE = 0, REGISTRY = 2, FORMAT = 3, LIMITS = 4, REFUSED = 5, MEMORY = 6, NO = 7, PATH = 8, NEWER = 9;
 
+    /** enum bcs_notation. */
+    static final int NAME = 1, POINTER = 2;
+
     /** BCS_SHOWN_TOO_NESTED, the only refusal of bytes without a place. */
     static final int SHOWN_TOO_NESTED = 501;
 

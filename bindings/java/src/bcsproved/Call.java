@@ -11,6 +11,7 @@ enum Call {
     COMPARE(Kind.JSON),
     SCAN(Kind.BYTES),
     PART(Kind.BYTES),
+    PART_NAMED(Kind.BYTES),
     EXPLAIN(Kind.BYTES),
     TEXT_REFUSAL(null),
     STOP_REFUSAL(null),

@@ -218,7 +218,20 @@ public final class Registry implements AutoCloseable {
      * hexadecimal digits.
      */
     public Part part(String format, byte[] data, String path) throws BcsException {
-        Answer answer = ask(Call.PART, format, data, Question.utf8(path), 0, Answer.NO_OUTPUT);
+        return partOf(ask(Call.PART, format, data, Question.utf8(path), 0, Answer.NO_OUTPUT), data);
+    }
+
+    /** Like {@link #part}, with the name of the part, as {@link #explain} prints it: .payload::EntryFunction.args[0]. */
+    public Part partByName(String format, byte[] data, String name) throws BcsException {
+        return partOf(ask(Call.PART_NAMED, format, data, Question.utf8(name), Answer.NAME, Answer.NO_OUTPUT), data);
+    }
+
+    /** Like {@link #part}, with a JSON Pointer into the value's JSON document, such as /payload/EntryFunction/args/0. */
+    public Part partByPointer(String format, byte[] data, String pointer) throws BcsException {
+        return partOf(ask(Call.PART_NAMED, format, data, Question.utf8(pointer), Answer.POINTER, Answer.NO_OUTPUT), data);
+    }
+
+    private static Part partOf(Answer answer, byte[] data) {
         if (answer.status() == Answer.NO) {
             return null;
         }
@@ -286,7 +299,9 @@ public final class Registry implements AutoCloseable {
             case Answer.FORMAT -> inLine(Kind.FORMAT, "FORMAT", answer,
                     Answer.of(Call.FORMAT_PLACE, handle, question, null, null, 0, 256));
             case Answer.LIMITS -> new BcsException(Kind.LIMITS, null, -1, null, null);
-            case Answer.PATH -> inLine(Kind.PATH, "PATH", answer, Answer.of(Call.PATH_PLACE, second, null, 0, 256));
+            case Answer.PATH -> call == Call.PART
+                    ? inLine(Kind.PATH, "PATH", answer, Answer.of(Call.PATH_PLACE, second, null, 0, 256))
+                    : new BcsException(Kind.PATH, faultName(answer.fault()), -1, null, null);
             case Answer.REFUSED -> refused(handle, call.refused, question, answer, first, call == Call.COMPARE ? second : null);
             default -> throw new AssertionError("unknown status " + answer.status());
         };

@@ -44,8 +44,8 @@ fn declarations_are_those_of_the_header() {
     let block = source.split_once("unsafe extern \"C\" {").unwrap().1.split_once("\n}").unwrap().0;
     let calls = block.split(';').filter_map(|call| call.split_once("fn ").map(|(_, call)| c_declaration(call)));
     let calls: Vec<String> = calls.collect();
-    // Those that open, close and grow a registry, fourteen on a handle, and those of places, lists and names.
-    assert_eq!(calls.len(), 22);
+    // Those that open, close and grow a registry, fifteen on a handle, and those of places, lists and names.
+    assert_eq!(calls.len(), 23);
     assert_eq!(calls[1], "void bcs_close(bcs_handle *);");
     run_c(&calls.concat(), "");
 }
@@ -139,6 +139,8 @@ fn numbers_are_those_of_the_header() {
             ("WANTED", sys::WANTED),
             ("LEAST", sys::LEAST),
             ("FULL", sys::FULL),
+            ("NAME", sys::NAME),
+            ("POINTER", sys::POINTER),
             ("FAULT_NONE", 0),
             ("PATH_BAD_PATH", 601),
             ("SHOWN_TOO_NESTED", sys::SHOWN_TOO_NESTED),

@@ -1,4 +1,4 @@
-use Rattle.bcs_tool.proofs.Prelude.{Bool, Err, List, Result, ap, arith, subst, sym, ℕ, Answers, status_below, EndsLines, IsSoFar, ReadsOn, PutsLine, Interruption, Tally}
+use Rattle.bcs_tool.proofs.Prelude.{Bool, Err, List, Result, ap, arith, subst, sym, ℕ, AnswersLine, line_below, EndsLines, IsSoFar, ReadsOn, PutsLine, Interruption, Tally}
 use Rattle.bcs_tool.proofs.ReadLemmas.{line_room}
 use Rattle.bcs_tool.proofs.RunLemmas.{handed_on, reads_input}
 use Rattle.bcs_tool.proofs.SoFarLemmas.{all_answered, can_count, fails_next, fails_put, so_far_line, so_far_nothing}
@@ -45,7 +45,7 @@ with-tally-requires-clause-room g c =
 pub with-tally-requires-clause-below : goal.with-tally-requires-clause-below
 with-tally-requires-clause-below g c =
     let put = c.in-Ok.ensures in
-    status_below c.args.work.now c.line.result.now c.in-Ok.status put.0 put.1
+    line_below c.args.work.now c.line.result.now c.in-Ok.status put.0 put.1
 
 pub loop-buffer-smaller : goal.loop-buffer-smaller
 loop-buffer-smaller g c =
@@ -63,7 +63,7 @@ loop-buffer-preserved g c =
       far = so_far_line g.S.ByteSource.content g.S.ByteSource.is_failed g.S.ByteSource.allowance g.K.ByteSink.taken g.K.ByteSink.is_failed work
           c.args.input.now l.input c.read_line.new.source c.args.out.now l.out l.buffer c.read_line.new.buffer l.tally l.invariant.far
           c.put_line.new.out c.in-Ok.status put.0 c.with-tally.result takes
-          (subst (λ (line : List ℕ). Answers work line c.in-Ok.status put.0) c.line.ensures put.1) put.2 c.with-tally.ensures;
+          (subst (λ (line : List ℕ). AnswersLine work line c.in-Ok.status put.0) c.line.ensures put.1) put.2 c.with-tally.ensures;
     }
 
 pub returns-in-Err : goal.returns-in-Err

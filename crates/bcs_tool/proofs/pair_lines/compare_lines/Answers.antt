@@ -1,4 +1,4 @@
-use Rattle.bcs_tool.proofs.Prelude.{◌∙◌, List, [], ap, arith, refl, subst, sym, ℕ, Err, Result, AnswersPair, ArePairsSoFar, EndsPaired, PutsPair, ending_of, Interruption, Compared}
+use Rattle.bcs_tool.proofs.Prelude.{◌∙◌, List, [], ap, arith, refl, subst, sym, ℕ, Err, Result, AnswersLinePair, ArePairsSoFar, EndsPaired, PutsPair, ending_of, pair_line_below, Interruption, Compared}
 use Rattle.bcs_tool.proofs.PairLemmas.{both_read, ends_paired, fails_first, fails_pair_put, fails_second, has_ended, no_pairs, pairs_so_far, room_at_end, room_of_first}
 use Rattle.bcs_tool.proofs.ReadLemmas.{line_room}
 use Rattle.bcs_tool.proofs.RunLemmas.{handed_on, reads_input}
@@ -76,6 +76,11 @@ with-tally-requires-clause-room g c =
     l.firsts c.read_line.new.buffer l.seconds c.read_line-in-loop-seconds.new.buffer l.tally l.invariant.far
     (g.met.F.ByteSource.bounded c.args.first.now) reads.of_first
 
+pub with-tally-requires-clause-below : goal.with-tally-requires-clause-below
+with-tally-requires-clause-below g c =
+    let put = c.in-Ok.ensures in
+    pair_line_below c.args.work.now c.line.result.now c.line-in-loop-seconds.result.now c.in-Ok.status put.0 put.1
+
 pub loop-seconds-smaller : goal.loop-seconds-smaller
 loop-seconds-smaller g c =
     let l = c.loop-seconds in
@@ -91,7 +96,7 @@ loop-seconds-preserved g c =
     l.first c.read_line.new.source l.second c.read_line-in-loop-seconds.new.source l.firsts c.read_line.new.buffer l.seconds c.read_line-in-loop-seconds.new.buffer
     c.in_ok-has_first.ensures c.in_ok-has_second.ensures (sym c.ending_of.ensures ∙ c.in_default.is) in
     let put = c.in-Ok.ensures in
-    let Q : List ℕ → List ℕ → Type 0 = λ one other. AnswersPair c.args.work.now one other c.in-Ok.status put.0 in
+    let Q : List ℕ → List ℕ → Type 0 = λ one other. AnswersLinePair c.args.work.now one other c.in-Ok.status put.0 in
     record {
       far = pairs_so_far g.F.ByteSource.content g.F.ByteSource.is_failed g.F.ByteSource.allowance g.S.ByteSource.content g.S.ByteSource.is_failed g.S.ByteSource.allowance g.K.ByteSink.taken g.K.ByteSink.is_failed c.args.work.now
           c.args.first.now l.first c.read_line.new.source c.args.second.now l.second c.read_line-in-loop-seconds.new.source c.args.out.now l.out

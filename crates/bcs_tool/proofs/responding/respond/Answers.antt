@@ -1,18 +1,19 @@
 use Rattle.bcs_tool.proofs.Prelude.{inl, inr, not, refl, subst, texts_of, LineFault, ReportsFault, breaks_lines}
-use Rattle.bcs_tool.proofs.EndingLemmas.{fault_status, report_status}
+use Rattle.bcs_tool.proofs.EndingLemmas.{fault_status}
+use Rattle.bcs_tool.proofs.DeliveringLemmas.{finish_status}
 use Rattle.bcs_tool.proofs.responding.respond.Goals as goal
 
 pub returns-in-Ok-clause-status : goal.returns-in-Ok-clause-status
 returns-in-Ok-clause-status g c =
-    report_status g.S.ByteSource.content g.S.ByteSource.is_failed g.S.ByteSource.allowance g.O.ByteSink.taken g.O.ByteSink.is_failed g.R.File.Read.remaining
-    _ _ _ _ _ c.perform.result _ c.perform.ensures c.print_report.ensures.0
+    finish_status g.S.ByteSource.content g.S.ByteSource.is_failed g.S.ByteSource.allowance g.O.ByteSink.taken g.O.ByteSink.is_failed
+    g.E.ByteSink.taken g.E.ByteSink.is_failed g.R.File.Read.remaining g.R.File.Write.contents _ _ _ _ _ _ _ _ c.finish.ensures
 
 pub returns-in-Ok-clause-no_job : goal.returns-in-Ok-clause-no_job
 returns-in-Ok-clause-no_job g c = λ wrong. absurd (wrong c.in-Ok.ensures.taken)
 
 pub returns-in-Ok-clause-job : goal.returns-in-Ok-clause-job
 returns-in-Ok-clause-job g c =
-    λ good. inr (c.in-Ok.job, c.perform.result, c.in-Ok.ensures.job, c.perform.ensures, c.print_report.ensures)
+    λ good. inr (c.in-Ok.job, c.in-Ok.ensures.job, c.finish.ensures)
 
 pub returns-in-Err-clause-status : goal.returns-in-Err-clause-status
 returns-in-Err-clause-status g c =

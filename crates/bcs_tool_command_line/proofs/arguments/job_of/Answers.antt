@@ -12,9 +12,8 @@ returns c =
       second = c.in_ok-text_of-2.ensures ∙ ap text_or_empty (either c.get_str-3.result c.get_str-4.result c.or-2.result _ _ c.or-2.ensures (c.get_str-3.ensures ∙ first_value-rows f (codes "NEW"))
           (c.get_str-4.ensures ∙ first_value-rows f (codes "A")));
       format = c.in_ok-text_of-3.ensures ∙ ap text_or_empty (c.get_str-5.ensures ∙ first_value-rows f (codes "FORMAT"));
-      path = c.in_ok-text_of-4.ensures ∙ ap text_or_empty (c.get_str-6.ensures ∙ first_value-rows f (codes "PATH"));
-      file = c.in_ok-given_name.ensures ∙ either c.get_str-7.result c.get_str-8.result c.or-3.result _ _ c.or-3.ensures (c.get_str-7.ensures ∙ first_value-rows f (codes "FILE"))
-          (c.get_str-8.ensures ∙ first_value-rows f (codes "B"));
+      path = c.in_ok-text_of-4.ensures ∙ ap text_or_empty c.path_of.ensures;
+      file = c.in_ok-given_name.ensures ∙ c.file_of.ensures;
       raw = c.is_set.ensures;
       limits = c.limits_of.ensures;
       options = c.in_ok-options_of.ensures;

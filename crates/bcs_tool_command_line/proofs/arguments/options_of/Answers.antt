@@ -13,7 +13,13 @@ returns c =
       front = c.is_set-3.ensures;
       list = c.is_set-4.ensures;
       quiet = c.is_set-5.ensures;
+      notation = c.notation_of.ensures;
+      output = c.in_ok-given_name-2.ensures ∙ (c.get_str-3.ensures ∙ first_value-rows f (codes "output"));
+      json_refusals = c.has_value.ensures;
     }
 
 pub returns-in_err-given_name : goal.returns-in_err-given_name
 returns-in_err-given_name c = search rules
+
+pub returns-in_err-given_name-2 : goal.returns-in_err-given_name-2
+returns-in_err-given_name-2 c = search rules

@@ -1,0 +1,38 @@
+//! What helps to correct a name that doesn't exist.
+
+use crate::names::Name;
+use crate::variant_list::VariantList;
+use std::fmt;
+
+/// What a line suggests after its message.
+#[derive(Clone, Copy)]
+pub(crate) enum Hint<'a> {
+    Nothing,
+    /// The name that was probably meant.
+    Nearest(Name<'a>),
+    /// The name that was probably written in place of the one that is missing.
+    Found(Name<'a>),
+    /// The variants that exist.
+    Variants(VariantList<'a>),
+}
+
+impl<'a> Hint<'a> {
+    /// Suggests this name, if there is one.
+    pub(crate) fn nearest(name: Option<&'a str>) -> Hint<'a> {
+        match name {
+            Some(name) => Hint::Nearest(Name::of(name)),
+            None => Hint::Nothing,
+        }
+    }
+}
+
+impl fmt::Display for Hint<'_> {
+    fn fmt<W: fmt::Write>(&self, f: &mut fmt::Formatter<W>) -> fmt::Result {
+        match self {
+            Hint::Nothing => Ok(()),
+            Hint::Nearest(name) => write!(f, "; nearest: {name}"),
+            Hint::Found(name) => write!(f, "; found: {name}"),
+            Hint::Variants(list) => write!(f, "{list}"),
+        }
+    }
+}

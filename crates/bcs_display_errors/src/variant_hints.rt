@@ -1,0 +1,72 @@
+//! Hints about the name of a variant that an enum doesn't have, in JSON or after `--variant`.
+
+use crate::hints::Hint;
+use crate::names::Name;
+use crate::nearest::NearestName;
+use crate::variant_list::VariantList;
+use bcs_registry::{Container, Format, Named, Registry, VariantFormat};
+use std::alloc::{AllocError, Global};
+use std::collections::BTreeMap;
+
+/// The variant with the nearest name, or if none is near, the variants that exist.
+pub(crate) fn variant_hint<'a>(
+    alloc: Global,
+    variants: &'a BTreeMap<u32, Named<VariantFormat>>,
+    word: &'a str,
+) -> Result<Hint<'a>, AllocError> {
+    match nearest_variant(alloc, variants, word)? {
+        Some(name) => Ok(Hint::Nearest(Name::of(name))),
+        None => Ok(Hint::Variants(VariantList(variants))),
+    }
+}
+
+/// The line for a name after `--variant` that isn't the name of a variant, where FORMAT is this format. It always lists
+/// the variants, since the command needs nothing but such a name.
+pub fn place_of_variant(
+    alloc: Global,
+    registry: &Registry,
+    format: &Format,
+    word: &str,
+) -> Result<Vec<u8>, AllocError> {
+    let name = Name::of(word);
+    let line = match variants_of(registry, format) {
+        Some(variants) => {
+            let nearest = Hint::nearest(nearest_variant(alloc, variants, word)?);
+            let list = VariantList(variants);
+            format!(in alloc;
+                "at --variant, {name}: UnknownVariant: no variant has this name{nearest}{list}"
+            )?
+        }
+        None => format!(in alloc;
+            "at --variant, {name}: UnknownVariant: FORMAT isn't the name of an enum"
+        )?,
+    };
+    Ok(line.into_bytes())
+}
+
+fn nearest_variant<'a>(
+    alloc: Global,
+    variants: &'a BTreeMap<u32, Named<VariantFormat>>,
+    word: &'a str,
+) -> Result<Option<&'a str>, AllocError> {
+    let mut search = NearestName::to(word);
+    for variant in variants.values() {
+        search.consider(alloc, variant.name.as_str())?;
+    }
+    Ok(search.found())
+}
+
+// The variants of the enum that the format names, if it names one.
+fn variants_of<'a>(
+    registry: &'a Registry,
+    format: &Format,
+) -> Option<&'a BTreeMap<u32, Named<VariantFormat>>> {
+    let Format::TypeName(name) = format else {
+        return None;
+    };
+    let name = name.as_str();
+    match registry.container(name)? {
+        Container::Enum(variants) => Some(variants),
+        _ => None,
+    }
+}

@@ -1,0 +1,34 @@
+//! Where a name or a pointer leads.
+
+use bcs_decode_parts::PathStep;
+use std::alloc::{AllocError, Global};
+
+/// Where a name or a pointer leads in a value.
+#[derive(Debug, Drop)]
+pub struct Led {
+    /// The steps to the same part, as in PATH. If the name or pointer leads nowhere, neither do these steps.
+    pub path: Vec<PathStep>,
+    /// If it leads nowhere, a line about its first step that does.
+    pub nowhere: Option<Vec<u8>>,
+}
+
+impl Led {
+    /// To a part.
+    pub(crate) fn to(path: Vec<PathStep>) -> Led {
+        Led {
+            path,
+            nowhere: None,
+        }
+    }
+
+    /// Nowhere, as this line says.
+    pub(crate) fn nowhere(alloc: Global, line: Vec<u8>) -> Result<Led, AllocError> {
+        let mut path = Vec::new(alloc);
+        // No value has an element with this index: lengths and sizes are below 2^64.
+        path.push(PathStep::Item(u64::MAX))?;
+        Ok(Led {
+            path,
+            nowhere: Some(line),
+        })
+    }
+}

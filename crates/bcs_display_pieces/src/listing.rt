@@ -1,0 +1,68 @@
+//! Names in a line: cut if they are long, and only the first ones of many.
+
+use bcs_display_text::columns::put_decimal;
+use bcs_display_text::escaping::put_escaped;
+use bcs_registry::{Format, Named, VariantFormat};
+use std::alloc::AllocError;
+use std::collections::BTreeMap;
+
+// The number of characters that are printed of a name, with its escapes.
+const LONGEST: usize = 200;
+
+// The number of names that are printed.
+const MOST: usize = 16;
+
+/// Appends the whole characters of the text, escaped, that fit into `LONGEST`, and whether it is cut.
+pub(crate) fn put_cut(text: &str, line: &mut Vec<u8>) -> Result<(), AllocError> {
+    let start = line.len();
+    for (place, sign) in text.char_indices() {
+        let before = line.len();
+        let end = place.saturating_add(sign.len_utf8());
+        put_escaped(text.get(place..end).unwrap_or(""), line)?;
+        if line.len().saturating_sub(start) > LONGEST {
+            line.truncate(before);
+            return line.extend_from_slice(b"...(cut)");
+        }
+    }
+    Ok(())
+}
+
+/// Appends the names of fields.
+pub(crate) fn put_fields(fields: &[Named<Format>], line: &mut Vec<u8>) -> Result<(), AllocError> {
+    line.extend_from_slice(b"a struct; fields: ")?;
+    for (count, field) in fields.iter().enumerate() {
+        if count == MOST {
+            return put_more(fields.len() - count, line);
+        }
+        put_listed(count, field.name.as_str(), line)?;
+    }
+    Ok(())
+}
+
+/// Appends the names of variants.
+pub(crate) fn put_variants(
+    variants: &BTreeMap<u32, Named<VariantFormat>>,
+    line: &mut Vec<u8>,
+) -> Result<(), AllocError> {
+    line.extend_from_slice(b"an enum; variants: ")?;
+    for (count, variant) in variants.values().enumerate() {
+        if count == MOST {
+            return put_more(variants.len().saturating_sub(count), line);
+        }
+        put_listed(count, variant.name.as_str(), line)?;
+    }
+    Ok(())
+}
+
+fn put_listed(before: usize, name: &str, line: &mut Vec<u8>) -> Result<(), AllocError> {
+    if before > 0 {
+        line.extend_from_slice(b", ")?;
+    }
+    put_cut(name, line)
+}
+
+fn put_more(count: usize, line: &mut Vec<u8>) -> Result<(), AllocError> {
+    line.extend_from_slice(b" and ")?;
+    put_decimal(count as u128, line)?;
+    line.extend_from_slice(b" more")
+}

@@ -1,0 +1,208 @@
+//! The line about a step that leads nowhere: which one, and what is there.
+
+use crate::following::{borrowed, value_at_start};
+use crate::listing::{put_cut, put_fields, put_variants};
+use crate::notation::Notation;
+use bcs_decode_parts::PathStep;
+use bcs_decode_parts::here::{Here, Reached};
+use bcs_decode_parts::inside::{Inside, inside_of};
+use bcs_decode_parts::stepping::take_step;
+use bcs_decode_parts::variants::after_number;
+use bcs_display_text::columns::put_decimal;
+use bcs_registry::{Format, Named, Registry, VariantFormat};
+use bcs_registry_model::Kind;
+use bcs_value::Limits;
+use std::alloc::{AllocError, Global};
+use std::collections::BTreeMap;
+
+/// The line about the first step of PATH that leads nowhere, if the bytes begin with a value of the format: `at PATH, step
+/// 2 7: a list of 3`. `None`: each step leads to a part.
+pub fn nowhere_on_path(
+    alloc: Global,
+    registry: &Registry,
+    format: &Format,
+    limits: &Limits,
+    bytes: &[u8],
+    path: &[PathStep],
+) -> Result<Option<Vec<u8>>, AllocError> {
+    let mut at = value_at_start(format, limits, bytes);
+    let mut number: u64 = 0;
+    for step in path {
+        number = number.saturating_add(1);
+        match take_step(registry, &at, &borrowed(step)) {
+            Some(next) => at = next,
+            None => return Ok(Some(line_of_step(alloc, number, step, &at)?)),
+        }
+    }
+    Ok(None)
+}
+
+fn line_of_step(
+    alloc: Global,
+    number: u64,
+    step: &PathStep,
+    at: &Reached<'_, '_>,
+) -> Result<Vec<u8>, AllocError> {
+    let text = match step {
+        PathStep::Item(index) => format!(in alloc; "{index}")?,
+        PathStep::Inner => String::from_str(alloc, "inner")?,
+        PathStep::Key(key) => format!(in alloc;
+            "key:{}",
+            hex::encode(alloc, key.as_slice())?.as_str()
+        )?,
+    };
+    nowhere_line(alloc, Notation::Path, number, text.as_str(), at)
+}
+
+/// The line about a step that leads nowhere from here.
+pub(crate) fn nowhere_line(
+    alloc: Global,
+    notation: Notation,
+    number: u64,
+    step: &str,
+    at: &Reached<'_, '_>,
+) -> Result<Vec<u8>, AllocError> {
+    let mut line = line_to(alloc, notation, number, step)?;
+    match inside_of(&at.here) {
+        Inside::Fields(fields) => put_fields(fields, &mut line)?,
+        Inside::Variants(variants) => {
+            put_variants(variants, &mut line)?;
+            put_chosen(variants, at.ahead.bytes, &mut line)?;
+        }
+        Inside::Option(_) => put_option(notation, at.ahead.bytes, &mut line)?,
+        Inside::List(element) => put_list(notation, element, at.ahead.bytes, &mut line)?,
+        Inside::Array(element, size) => put_row(
+            notation,
+            "an array of ",
+            element,
+            size,
+            &mut line,
+        )?,
+        Inside::Tuple(formats) => put_count("a tuple of ", formats.len() as u64, &mut line)?,
+        Inside::Map(_, _) => put_map(notation, at.ahead.bytes, &mut line)?,
+        Inside::Container(name) => put_container(name, &mut line)?,
+        Inside::Nothing => put_leaf(&at.here, &mut line)?,
+    }
+    Ok(line)
+}
+
+/// The line about a step from an entry of a map, or about a pointer that ends there.
+pub(crate) fn entry_line(alloc: Global, number: u64, step: &str) -> Result<Vec<u8>, AllocError> {
+    let mut line = line_to(alloc, Notation::Pointer, number, step)?;
+    line.extend_from_slice(b"an entry of a map; 1 leads to its value, and nothing to its key")?;
+    Ok(line)
+}
+
+/// The line as far as its colon and a blank.
+pub(crate) fn line_to(
+    alloc: Global,
+    notation: Notation,
+    number: u64,
+    step: &str,
+) -> Result<Vec<u8>, AllocError> {
+    let mut line = Vec::from_slice(alloc, b"at ")?;
+    line.extend_from_slice(notation.argument().as_bytes())?;
+    line.extend_from_slice(b", step ")?;
+    put_decimal(u128::from(number), &mut line)?;
+    if !step.is_empty() {
+        line.push(b' ')?;
+        put_cut(step, &mut line)?;
+    }
+    line.extend_from_slice(b": ")?;
+    Ok(line)
+}
+
+fn put_count(words: &str, count: u64, line: &mut Vec<u8>) -> Result<(), AllocError> {
+    line.extend_from_slice(words.as_bytes())?;
+    put_decimal(u128::from(count), line)
+}
+
+// Which variant of an enum is there.
+fn put_chosen(
+    variants: &BTreeMap<u32, Named<VariantFormat>>,
+    bytes: &[u8],
+    line: &mut Vec<u8>,
+) -> Result<(), AllocError> {
+    let Some((number, _)) = after_number(bytes) else {
+        return Ok(());
+    };
+    match variants.get(&number) {
+        Some(variant) => {
+            line.extend_from_slice(b"; here ")?;
+            put_cut(variant.name.as_str(), line)
+        }
+        None => Ok(()),
+    }
+}
+
+fn put_option(notation: Notation, bytes: &[u8], line: &mut Vec<u8>) -> Result<(), AllocError> {
+    match bytes.first() {
+        Some(0) => line.extend_from_slice(b"an absent option"),
+        _ => {
+            line.extend_from_slice(b"an option; ")?;
+            line.extend_from_slice(notation.option_step().as_bytes())?;
+            line.extend_from_slice(b" leads to its value")
+        }
+    }
+}
+
+fn put_list(
+    notation: Notation,
+    element: &Format,
+    bytes: &[u8],
+    line: &mut Vec<u8>,
+) -> Result<(), AllocError> {
+    match after_number(bytes) {
+        Some((count, _)) => put_row(notation, "a list of ", element, u64::from(count), line),
+        None => line.extend_from_slice(b"a list"),
+    }
+}
+
+// Bytes are a string in JSON, so no pointer leads to one of them.
+fn put_row(
+    notation: Notation,
+    words: &str,
+    element: &Format,
+    count: u64,
+    line: &mut Vec<u8>,
+) -> Result<(), AllocError> {
+    put_count(words, count, line)?;
+    match (notation, element) {
+        (Notation::Pointer, Format::U8) => line.extend_from_slice(b" U8, a string in JSON"),
+        _ => Ok(()),
+    }
+}
+
+fn put_map(notation: Notation, bytes: &[u8], line: &mut Vec<u8>) -> Result<(), AllocError> {
+    match after_number(bytes) {
+        Some((count, _)) => put_count("a map of ", u64::from(count), line)?,
+        None => line.extend_from_slice(b"a map")?,
+    }
+    line.extend_from_slice(match notation {
+        Notation::Path => b"; key:DIGITS leads to a value",
+        Notation::Name => b"; [key:DIGITS] leads to a value, and nothing to a key",
+        Notation::Pointer => b"; NUMBER/1 leads to a value",
+    })
+}
+
+fn put_container(name: &str, line: &mut Vec<u8>) -> Result<(), AllocError> {
+    line.extend_from_slice(b"the container ")?;
+    put_cut(name, line)?;
+    line.extend_from_slice(b"; inner leads into it")
+}
+
+// A value without parts.
+fn put_leaf(here: &Here<'_>, line: &mut Vec<u8>) -> Result<(), AllocError> {
+    line.extend_from_slice(word_of(here).as_bytes())?;
+    line.extend_from_slice(b" has no parts")
+}
+
+fn word_of(here: &Here<'_>) -> &'static str {
+    match here {
+        Here::Value(format) => match format.kind() {
+            Kind::Scalar(scalar) => scalar.word(),
+            _ => "a value",
+        },
+        _ => "UNIT",
+    }
+}

@@ -1,0 +1,26 @@
+//! Which texts are steps to a part, before a value is there to follow them.
+ghost use Rattle.std.specs.Prelude.{◌≡◌, Err, IfOk};
+ghost use Rattle.bcs_decode_parts.specs.PathSteps.{all_spelled};
+ghost use Rattle.bcs_tool_answers.specs.Notations.{SpellsNoSteps, SpellsSteps};
+
+use bcs_decode_parts::{PathFault, PathStep, read_path};
+use bcs_display_pieces::{is_name, is_pointer};
+use bcs_tool_command_line::Notation;
+use std::alloc::Global;
+
+/// The steps of PATH. Names and pointers have none before there is a value in which to follow them.
+pub(crate) fn read_steps(
+    alloc: Global,
+    notation: Notation,
+    word: &str,
+) -> Result<Vec<PathStep>, PathFault>
+    ensures ok { IfOk result (λ path. SpellsSteps notation word.now (all_spelled path.items)) }
+    ensures bad { result ≡ Err PathFault.BadPath → SpellsNoSteps notation word.now }
+{
+    match notation {
+        Notation::Path => read_path(alloc, word),
+        Notation::Names if is_name(word) => Ok(Vec::new(alloc)),
+        Notation::Pointer if is_pointer(word) => Ok(Vec::new(alloc)),
+        Notation::Names | Notation::Pointer => Err(PathFault::BadPath),
+    }
+}

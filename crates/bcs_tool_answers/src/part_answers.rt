@@ -1,0 +1,113 @@
+//! The answers to the steps to a part of a value.
+ghost use Rattle.std.specs.Prelude.{◌≡◌, ◌≢◌, IfOk, string_bytes};
+ghost use Rattle.bcs_decode_parts.specs.PathSteps.{all_spelled};
+ghost use Rattle.bcs_tool_command_line.specs.Jobs.{coding_of};
+ghost use Rattle.bcs_tool_answers.specs.Answers.{printed_none};
+ghost use Rattle.bcs_tool_answers.specs.Places.{AnswersBytes, MayReport};
+ghost use Rattle.bcs_tool_answers.specs.Preparing.{IsAskedBy};
+ghost use Rattle.bcs_tool_answers.specs.Notations.{SpellsSteps};
+
+use crate::answer::{Answer, found, nowhere, placed};
+use crate::nowhere_places::place_of_nowhere;
+use crate::stop_answers::answer_stop;
+use crate::validating::Asked;
+use bcs_decode::{part, scan};
+use bcs_decode_parts::{PathStep, steps_of};
+use bcs_display_pieces::{Led, path_of_name, path_of_pointer};
+use bcs_tool_command_line::{Command, Notation, Work};
+use std::alloc::{AllocError, Global};
+
+/// The bytes of the part to which the steps lead in the value at the front of these bytes.
+pub fn answer_part(
+    alloc: Global,
+    work: &Work,
+    asked: &Asked,
+    bytes: &[u8],
+) -> Result<Answer, AllocError>
+    requires command { work.now.command ≡ Command.Part }
+    requires asked { IsAskedBy work.now asked.now }
+    ensures { IfOk result (λ a. AnswersBytes work.now bytes.now a) }
+{
+    match work.options.notation {
+        Notation::Path => answer_steps(alloc, work, asked, bytes, asked.path.as_slice(), None),
+        Notation::Names => answer_named(alloc, work, asked, bytes),
+        Notation::Pointer => answer_named(alloc, work, asked, bytes),
+    }
+}
+
+// The same for steps by names. The bytes are scanned first: where steps lead in bytes that are no value is of no use, and
+// a map of such bytes may claim billions of entries.
+fn answer_named(
+    alloc: Global,
+    work: &Work,
+    asked: &Asked,
+    bytes: &[u8],
+) -> Result<Answer, AllocError>
+    requires command { work.now.command ≡ Command.Part }
+    requires asked { IsAskedBy work.now asked.now }
+    requires named { work.now.options.notation ≢ Notation.Path }
+    ensures { IfOk result (λ a. AnswersBytes work.now bytes.now a) }
+{
+    match scan(&asked.registry, &asked.format, &work.limits, bytes) {
+        Ok(_) => {
+            let Led { path, nowhere } = led_by_names(alloc, work, asked, bytes)?;
+            answer_steps(alloc, work, asked, bytes, path.as_slice(), nowhere)
+        }
+        Err(stop) => answer_stop(alloc, work, asked, bytes, stop),
+    }
+}
+
+// Where the names lead. Any steps will do for the answer, since only reading tells whether they are those that are meant.
+fn led_by_names(alloc: Global, work: &Work, asked: &Asked, bytes: &[u8]) -> Result<Led, AllocError>
+    requires named { work.now.options.notation ≢ Notation.Path }
+{
+    let Asked {
+        registry,
+        format,
+        ..
+    } = asked;
+    let word = work.path.as_str();
+    match work.options.notation {
+        Notation::Path => unreachable!(),
+        Notation::Names => path_of_name(alloc, registry, format, &work.limits, bytes, word),
+        Notation::Pointer => path_of_pointer(alloc, registry, format, &work.limits, bytes, word),
+    }
+}
+
+// The bytes of the part to which these steps lead. `line` says where the names lead nowhere that gave them.
+fn answer_steps(
+    alloc: Global,
+    work: &Work,
+    asked: &Asked,
+    bytes: &[u8],
+    path: &[PathStep],
+    line: Option<Vec<u8>>,
+) -> Result<Answer, AllocError>
+    requires command { work.now.command ≡ Command.Part }
+    requires asked { IsAskedBy work.now asked.now }
+    requires spelled { SpellsSteps work.now.options.notation (string_bytes work.now.path) (all_spelled path.now) }
+    ensures { IfOk result (λ a. AnswersBytes work.now bytes.now a) }
+{
+    let Asked {
+        registry,
+        format,
+        ..
+    } = asked;
+    let steps = steps_of(alloc, path)?;
+    match part(registry, format, &work.limits, bytes, steps.as_slice()) {
+        Ok(Some(part)) => found(alloc, part.bytes, work.coding()),
+        Ok(None) => {
+            let place = place_of_nowhere(alloc, work, asked, bytes, path, line);
+            answer_nowhere(alloc, work, place)
+        }
+        Err(stop) => answer_stop(alloc, work, asked, bytes, stop),
+    }
+}
+
+// What is printed where there is no part, with the place of the step that leads nowhere.
+fn answer_nowhere(alloc: Global, work: &Work, place: Vec<u8>) -> Result<Answer, AllocError>
+    requires { MayReport work.now place.items }
+    ensures { IfOk result (λ a. (a.status ≡ 1) × (a.output.items ≡ printed_none (coding_of work.now)) × MayReport work.now a.place.items) }
+{
+    Ok(placed(nowhere(alloc, work.coding())?, place))
+}
