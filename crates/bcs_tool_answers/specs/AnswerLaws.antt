@@ -1,4 +1,4 @@
--- What holds of the program's answers, whatever the job and the input are.
+-- Laws about the program's answers, for every job and every input.
 use Rattle.std.specs.Prelude.{◌≡◌, ◌≤◌, ℕ, List, Bool, false, length}
 use Rattle.std.specs.List.{All}
 use Rattle.bcs_decode_spec.specs.Exact.{AreBytes}
@@ -14,8 +14,8 @@ use Rattle.bcs_tool_command_line.specs.declared.command.Command.TheVariants as c
 use Rattle.bcs_tool_command_line.specs.declared.notation.Notation.{Notation}
 use Rattle.bcs_tool_command_line.specs.declared.notation.Notation.TheVariants.{Path}
 
--- the command's output is promised byte by byte: it isn't for reading, nor is a list asked for that stands before it, nor is
--- the part named in another way than by PATH
+-- the command's output is specified byte by byte: it isn't for display, no list is requested before it, and a part is given
+-- by PATH rather than by names or a pointer
 abbrev pub IsExact : Command → Notation → Bool → Type 0
 IsExact command.Grows notation listed = listed ≡ false
 IsExact command.Show notation listed = ⊥
@@ -25,25 +25,25 @@ IsExact command.Explain notation listed = ⊥
 IsExact command.Part notation listed = notation ≡ Path
 IsExact other notation listed = Unit {0}
 
--- there is at most one answer, where the output is exact
+-- there is at most one answer if the output is exact
 abbrev pub OneAnswer : Type 0
 OneAnswer = (work : Work) (input : List ℕ) (status other : ℕ) (output again : List ℕ) → IsExact work.command work.options.notation work.options.list
     → Answers work input status output → Answers work input other again → (status ≡ other) × (output ≡ again)
 
--- and there is one, to each input of bytes within the size
+-- and there is one for each input of bytes within the size limit
 abbrev pub SomeAnswer : Type 0
 SomeAnswer = (work : Work) (input : List ℕ) → AreBytes input → IsWithin work input
     → (status : ℕ) × (output : List ℕ) × Answers work input status output
 
 -- ---- each line as an input of its own
 
--- there is at most one answer to the lines of an input, where the output is exact, and refusals aren't JSON
+-- there is at most one answer to the lines of an input if the output is exact and refusals aren't JSON
 abbrev pub OneAnswerALine : Type 0
 OneAnswerALine = (work : Work) (content : List ℕ) (status other : ℕ) (output again : List ℕ) → IsExact work.command work.options.notation work.options.list
     → work.options.json_refusals ≡ false
     → AnswersLines work content status output → AnswersLines work content other again → (status ≡ other) × (output ≡ again)
 
--- and there is one, to bytes of which each line is within the size
+-- and there is one for bytes if each line is within the size limit
 abbrev pub SomeAnswerALine : Type 0
 SomeAnswerALine = (work : Work) (content : List ℕ) → AreBytes content → All (λ line. length line ≤ size_limit) (lines_of content)
     → (status : ℕ) × (output : List ℕ) × AnswersLines work content status output
@@ -55,7 +55,7 @@ abbrev pub OneComparison : Type 0
 OneComparison = (work : Work) (first second : List ℕ) (status other : ℕ) (output again : List ℕ) → work.options.json_refusals ≡ false
     → AnswersFiles work first second status output → AnswersFiles work first second other again → (status ≡ other) × (output ≡ again)
 
--- and there is one, unless the job's own words are refused
+-- and there is one, unless the job's own arguments are refused
 abbrev pub SomeComparison : Type 0
 SomeComparison = (work : Work) (first second : List ℕ) → ReadsInput work
     → (status : ℕ) × (output : List ℕ) × AnswersFiles work first second status output

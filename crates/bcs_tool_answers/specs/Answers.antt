@@ -1,4 +1,4 @@
--- What the program answers to a job and its input: a status, and the bytes of the standard output.
+-- The program's answer to a job and its input: a status, and the bytes of the standard output.
 use Rattle.std.specs.Prelude.{◌≡◌, ◌⊎◌, ◌≤◌, ◌<◌, ◌++◌, ◌∷◌, [], ℕ, List, Bool, true, false, Some, None, codes, length, string_bytes}
 use Rattle.std.specs.Fmt.{decimal}
 use Rattle.hex.specs.Hex.{encode_lower}
@@ -34,7 +34,7 @@ use Rattle.bcs_tool_answers.specs.declared.job_fault.JobFault.{JobFault}
 use Rattle.bcs_tool_answers.specs.declared.job_fault.JobFault.TheVariants as job
 use Rattle.bcs_tool_command_line.specs.declared.work.Work.{Work}
 
--- the text, and a line end
+-- the text, followed by a line end
 abbrev pub line_of : List ℕ → List ℕ
 line_of text = text ++ 10 ∷ []
 
@@ -46,47 +46,48 @@ refusal_line name = line_of (codes "refused: " ++ name)
 abbrev pub stop_line : Reason → ℕ → List ℕ
 stop_line reason place = refusal_line (reason_name reason ++ codes " at " ++ decimal place)
 
--- bytes as a line of hexadecimal digits or of base64, or as they are
+-- bytes as a line of hexadecimal digits or base64, or raw
 abbrev pub printed : Coding → List ℕ → List ℕ
 printed coding.Hexadecimal bytes = line_of (encode_lower bytes)
 printed coding.Base64 bytes = line_of (given.base64_text bytes)
 printed coding.Raw bytes = bytes
 
--- what is printed where steps lead nowhere
+-- what is printed if steps lead nowhere
 abbrev pub printed_none : Coding → List ℕ
 printed_none coding.Hexadecimal = line_of (codes "none")
 printed_none coding.Base64 = line_of (codes "none")
 printed_none coding.Raw = []
 
--- the line for a registry of so many containers, and for a value of so many bytes
+-- the line for a registry of N containers, and for a value of N bytes
 abbrev pub count_line : ℕ → List ℕ
 count_line n = line_of (codes "ok " ++ decimal n)
 
--- before a verdict on growth stands nothing, unless a list of all differences is asked for: that is for reading, and any
+-- nothing comes before a verdict on growth, unless a list of all differences is requested: that is for display, and may be
+-- any text
 abbrev pub Lists : Bool → List ℕ → Type 0
 Lists asked list = asked ≡ false → list ≡ []
 
--- of refusals that of growth alone has the list before it
+-- among refusals, only that of growth has the list before it
 abbrev pub lists : Work → JobFault → Bool
 lists work (job.Registry fault) = false
 lists work (job.Growth fault) = work.options.list
 lists work job.BadPath = false
 
--- the input is no larger than is allowed
+-- the input is within the size limit, if there is one
 abbrev pub IsWithin : Work → List ℕ → Type 0
 IsWithin work input = is_unlimited work ≡ false → length input ≤ size_limit
 
--- the job is for this command on values of this format, and its input is no larger than is allowed
+-- the job is for this command on values of this format, and its input is within the size limit
 pub record IsAsked (work : Work) (input : List ℕ) (asked : Command) (registry : Entries) (s : Shape) : Type 0 where
   pub is_command : work.command ≡ asked
   pub asks : Asks work registry s
   pub within : IsWithin work input
 
--- the one input is the text of a value, as that of these commands
+-- the only input of these commands is the text of a value
 abbrev pub IsOneText : Command → Type 0
 IsOneText asked = (asked ≡ command.Encode) ⊎ (asked ≡ command.Normalise)
 
--- the input gives the bytes of a value, as that of these commands
+-- the input of these commands gives the bytes of a value
 abbrev pub TakesBytes : Command → Type 0
 TakesBytes asked = (asked ≡ command.Decode) ⊎ (asked ≡ command.Part) ⊎ (asked ≡ command.Explain) ⊎ (asked ≡ command.Scan)
 
@@ -96,34 +97,34 @@ pub record AsksOfFormat (work : Work) (asked : Command) (registry : Entries) (s 
   pub is_registry : IsRegistry work.registry.items registry
   pub is_format : IsFormatWord registry (string_bytes work.format) s
 
--- where bytes stop that are scanned: where no value stands at their front, if that alone is asked for; else where they are
--- no value
+-- where scanned bytes stop: they have no value at their front, if only that is requested; otherwise they aren't exactly one
+-- value
 abbrev pub ScanStops : Bool → Entries → Bounds → Shape → List ℕ → Reason → ℕ → Type 0
 ScanStops true = Stops
 ScanStops false = StopsAll
 
--- what `same` answers to two texts
+-- the answer of `same` to two texts
 pub data AnswersTexts (registry : Entries) (limits : Bounds) (s : Shape) (first second : List ℕ) : ℕ → List ℕ → Type 0 where
   -- they denote equal values, or different ones
   equal : Compares registry limits s first second true → AnswersTexts registry limits s first second 0 (line_of (codes "equal"))
   different : Compares registry limits s first second false → AnswersTexts registry limits s first second 1 (line_of (codes "different"))
-  -- the first text is refused; or it denotes a value, and the second is refused
+  -- the first text is refused; or it denotes a value and the second is refused
   first_refused : (fault : JsonFault) → RefusesText registry limits s first fault → AnswersTexts registry limits s first second 2 (refusal_line (json_fault_name fault))
   second_refused : (t : Tree) (fault : JsonFault) → Denotes registry limits s first t → RefusesText registry limits s second fault → AnswersTexts registry limits s first second 2 (refusal_line (json_fault_name fault))
 
--- a case for each kind of answer
+-- one case for each kind of answer
 pub data Answers (work : Work) (input : List ℕ) : ℕ → List ℕ → Type 0 where
-  -- the words are refused, whatever the input; before a refusal of growth stands the list, where it is asked for
+  -- the arguments are refused, whatever the input; the list comes before a refusal of growth, if it is requested
   refused_early : (fault : JobFault) (list : List ℕ) → RefusesEarly work fault → Lists (lists work fault) list → Answers work input 2 (list ++ refusal_line (job_fault_name fault))
-  -- `check`: how many containers the registry has
+  -- `check`: the number of containers in the registry
   checked : (registry : Entries) → work.command ≡ command.Check → IsRegistry work.registry.items registry → Answers work input 0 (count_line (length registry))
-  -- `grows`: the newer registry keeps all that the older one has; before that stands the list, where it is asked for
+  -- `grows`: the newer registry keeps everything in the older one; the list comes first, if it is requested
   grown : (older newer : Entries) (list : List ℕ) → work.command ≡ command.Grows → IsRegistry work.registry.items older → IsRegistry work.second.items newer → Grows older newer → Lists work.options.list list → Answers work input 0 (list ++ line_of (codes "grows"))
-  -- `show`: a text for reading, where NAME, if it is given, is that of a container
+  -- `show`: a text for display; NAME, if it is given, is that of a container
   shown : (registry : Entries) (text : List ℕ) → work.command ≡ command.Show → IsRegistry work.registry.items registry → (NamesNone (name_of work) registry → ⊥) → Answers work input 0 text
-  -- `example`: done with an example for reading, or refused since there is none. Only that the words are good is promised
+  -- `example`: an example for display, or a refusal since there is none. Only that the arguments are valid is specified
   exampled : (registry : Entries) (s : Shape) (status : ℕ) (output : List ℕ) → AsksOfFormat work command.Example registry s → (status ≡ 0) ⊎ (status ≡ 2) → Answers work input status output
-  -- `schema`: a text for reading, where the words are good
+  -- `schema`: a text for display, if the arguments are valid
   described : (registry : Entries) (s : Shape) (text : List ℕ) → AsksOfFormat work command.Schema registry s → Answers work input 0 text
   -- `encode`: the bytes of the value that the text denotes
   encoded : (registry : Entries) (s : Shape) (bytes : List ℕ) → IsAsked work input command.Encode registry s → HasBytes registry work.limits s input bytes → Answers work input 0 (printed (coding_of work) bytes)
@@ -131,27 +132,27 @@ pub data Answers (work : Work) (input : List ℕ) : ℕ → List ℕ → Type 0 
   normalised : (registry : Entries) (s : Shape) (text : List ℕ) → IsAsked work input command.Normalise registry s → Normalises registry work.limits s input text → Answers work input 0 (line_of text)
   -- `encode` and `normalise`: the text is refused
   refused : (asked : Command) (registry : Entries) (s : Shape) (fault : JsonFault) → IsOneText asked → IsAsked work input asked registry s → RefusesText registry work.limits s input fault → Answers work input 2 (refusal_line (json_fault_name fault))
-  -- `same`: what is answered to the job's text and that of the input
+  -- `same`: the answer to the job's text and that of the input
   compared : (registry : Entries) (s : Shape) (status : ℕ) (output : List ℕ) → IsAsked work input command.Same registry s → AnswersTexts registry work.limits s work.second.items input status output → Answers work input status output
-  -- `decode`: the text of the one value whose bytes the input gives
+  -- `decode`: the text of the value whose bytes the input gives
   decoded : (registry : Entries) (s : Shape) (bytes text : List ℕ) → IsAsked work input command.Decode registry s → given.GivesBytes (coding_of work) input bytes → ShowsBytes registry work.limits s bytes text → Answers work input 0 (line_of text)
   -- `decode`: the bytes stop being a value at a place
   stopped : (registry : Entries) (s : Shape) (bytes : List ℕ) (reason : Reason) (place : ℕ) → IsAsked work input command.Decode registry s → given.GivesBytes (coding_of work) input bytes → StopsAll registry work.limits s bytes reason place → Answers work input 2 (stop_line reason place)
-  -- `decode`: they are a value's, and its text would nest deeper than a text may
+  -- `decode`: they are a value's bytes, but its text would exceed the nesting limit
   too_nested : (registry : Entries) (s : Shape) (bytes : List ℕ) (c : Tree) → IsAsked work input command.Decode registry s → given.GivesBytes (coding_of work) input bytes → Accepts registry work.limits s bytes (length bytes) c → nesting_limit < depth (value.shown registry c (of s)) → Answers work input 2 (refusal_line (codes "TooNested"))
-  -- `explain`: a text for reading, where the input gives the bytes of one value
+  -- `explain`: a text for display, if the input gives the bytes of exactly one value
   explained : (registry : Entries) (s : Shape) (bytes text : List ℕ) (c : Tree) → IsAsked work input command.Explain registry s → given.GivesBytes (coding_of work) input bytes → Accepts registry work.limits s bytes (length bytes) c → Answers work input 0 text
-  -- `explain`: a text for reading, where the bytes stop being a value
+  -- `explain`: a text for display, if the bytes stop being a value
   damaged : (registry : Entries) (s : Shape) (bytes text : List ℕ) (reason : Reason) (place : ℕ) → IsAsked work input command.Explain registry s → given.GivesBytes (coding_of work) input bytes → StopsAll registry work.limits s bytes reason place → Answers work input 2 text
   -- `decode`, `explain`, `part` and `scan`: the input gives no bytes
   no_bytes : (asked : Command) (registry : Entries) (s : Shape) → TakesBytes asked → IsAsked work input asked registry s → ((bytes : List ℕ) → given.GivesBytes (coding_of work) input bytes → ⊥) → Answers work input 2 (refusal_line (given.input_fault_name (coding_of work)))
-  -- `part`: a value stands at the front of the bytes, and the steps of PATH lead to a part of it, whose bytes these are
+  -- `part`: a value is at the front of the bytes, and the steps of PATH lead to a part of it: the bytes of that part
   found : (registry : Entries) (s : Shape) (path : List Step) (bytes : List ℕ) (n : ℕ) (c : Tree) (x : Part) → IsAsked work input command.Part registry s → SpellsSteps work.options.notation (string_bytes work.path) path → given.GivesBytes (coding_of work) input bytes → Accepts registry work.limits s bytes n c → part_at registry path (container.of s) c ≡ Some x → Answers work input 0 (printed (coding_of work) (plain registry x.value x.content))
-  -- `part`: they lead nowhere in it
+  -- `part`: the steps lead nowhere in it
   nowhere : (registry : Entries) (s : Shape) (path : List Step) (bytes : List ℕ) (n : ℕ) (c : Tree) → IsAsked work input command.Part registry s → SpellsSteps work.options.notation (string_bytes work.path) path → given.GivesBytes (coding_of work) input bytes → Accepts registry work.limits s bytes n c → part_at registry path (container.of s) c ≡ None → Answers work input 1 (printed_none (coding_of work))
-  -- `part`: no value stands at their front, since they stop being one at a place
+  -- `part`: there is no value at the front of the bytes, since they stop being one at a place
   front_stopped : (registry : Entries) (s : Shape) (bytes : List ℕ) (reason : Reason) (place : ℕ) → IsAsked work input command.Part registry s → given.GivesBytes (coding_of work) input bytes → Stops registry work.limits s bytes reason place → Answers work input 2 (stop_line reason place)
-  -- `scan`: a value stands at the front of the bytes, and it is all of them unless the front alone is asked for
+  -- `scan`: a value is at the front of the bytes, and it is all of them unless only the front is requested
   scanned : (registry : Entries) (s : Shape) (bytes : List ℕ) (n : ℕ) (c : Tree) → IsAsked work input command.Scan registry s → given.GivesBytes (coding_of work) input bytes → Accepts registry work.limits s bytes n c → (work.options.front ≡ false → n ≡ length bytes) → Answers work input 0 (count_line n)
-  -- `scan`: they stop being one at a place
+  -- `scan`: the bytes stop being a value at a place
   scan_stopped : (registry : Entries) (s : Shape) (bytes : List ℕ) (reason : Reason) (place : ℕ) → IsAsked work input command.Scan registry s → given.GivesBytes (coding_of work) input bytes → ScanStops work.options.front registry work.limits s bytes reason place → Answers work input 2 (stop_line reason place)

@@ -1,4 +1,4 @@
--- What the program answers to two files that are compared line by line.
+-- The program's answer to two files that are compared line by line.
 use Rattle.std.specs.Prelude.{◌≡◌, ◌++◌, ◌∷◌, [], ℕ, List, codes, length}
 use Rattle.std.specs.Fmt.{decimal}
 use Rattle.bcs_registry_model.specs.Container.{Entries}
@@ -17,26 +17,26 @@ abbrev pub AnswersPair : Work → List ℕ → List ℕ → ℕ → List ℕ →
 AnswersPair work first second status output = (registry : Entries) × (s : Shape) × Asks work registry s
     × AnswersTexts registry work.limits s first second status output
 
--- the same with `--refusals json` in that form
+-- the same, except that refusals are JSON with `--refusals json`
 abbrev pub AnswersLinePair : Work → List ℕ → List ℕ → ℕ → List ℕ → Type 0
 AnswersLinePair work first second status output = InForm work.options.json_refusals (AnswersPair work first second) status output
 
--- the answers to these lines of the two files in turn: by which of them it ends, their statuses, and their outputs joined
+-- the answers to these lines of the two files in order: which file ends first, the statuses, and the outputs joined
 pub data AnswersPairs (work : Work) : List (List ℕ) → List (List ℕ) → Ending → List ℕ → List ℕ → Type 0 where
   -- both files end
   together : AnswersPairs work [] [] Together [] []
-  -- one has a line where the other ends, and there they are different; no line behind it counts
+  -- one file has a line after the other ends, so they are different there; lines after that one don't count
   first_ends : (line : List ℕ) (lines : List (List ℕ)) → AnswersPairs work [] (line ∷ lines) FirstEnds (1 ∷ []) (line_of (codes "different"))
   second_ends : (line : List ℕ) (lines : List (List ℕ)) → AnswersPairs work (line ∷ lines) [] SecondEnds (1 ∷ []) (line_of (codes "different"))
   next : (first second : List ℕ) (firsts seconds : List (List ℕ)) (ending : Ending) (status : ℕ) (statuses output outputs : List ℕ) → AnswersLinePair work first second status output → AnswersPairs work firsts seconds ending statuses outputs → AnswersPairs work (first ∷ firsts) (second ∷ seconds) ending (status ∷ statuses) (output ++ outputs)
 
--- which file has no line of this number, where one ends before the other
+-- which file has no line with this number, if one ends before the other
 abbrev pub lacking_text : Ending → ℕ → List ℕ
 lacking_text Together number = []
 lacking_text FirstEnds number = codes "; A has no line " ++ decimal number
 lacking_text SecondEnds number = codes "; B has no line " ++ decimal number
 
--- how many lines there are of each status, and which file ends before the other
+-- the number of lines with each status, and which file ends before the other
 abbrev pub pairs_summary : Ending → List ℕ → List ℕ
 pairs_summary ending statuses = summary statuses ++ lacking_text ending (length statuses)
 

@@ -1,4 +1,4 @@
--- What the words of a job come to, before its input is read.
+-- The result of validating a job's arguments before its input is read.
 use Rattle.std.specs.Prelude.{◌≡◌, ◌++◌, ℕ, List, Result, Ok, Err, string_bytes, true}
 use Rattle.bcs_registry_model.specs.View.{shape_of}
 use Rattle.bcs_registry_model.specs.WellFormed.{Admits}
@@ -10,19 +10,19 @@ use Rattle.bcs_tool_answers.specs.Places.{IsAnswer, Places}
 use Rattle.bcs_tool_answers.specs.declared.answer.Answer.{Answer}
 use Rattle.bcs_tool_answers.specs.declared.validating.Asked.{Asked}
 
--- the job works on values of this format of this registry, and its PATH spells these steps
+-- the job works on values of this format from this registry, and its PATH gives these steps
 pub record IsAskedBy (work : Work) (asked : Asked) : Type 0 where
   pub on_values : works_on_values work.command ≡ true
   pub asks : Asks work asked.registry (shape_of asked.format)
   pub admitted : Admits asked.registry (shape_of asked.format)
   pub path : IsPathOf work.command work.options.notation (string_bytes work.path) (all_spelled asked.path.items)
 
--- behind any list that may stand before a verdict on growth it answers the job, whatever the input
+-- after any list that may come before a verdict on growth, it answers the job, whatever the input
 abbrev pub IsVerdict : Work → Answer → Type 0
 IsVerdict work a = (list input : List ℕ) → Lists work.options.list list
     → Answers work input a.status (list ++ a.output.items) × Places work input a.place.items
 
--- the job reads no input and has this answer, whatever the input; or it asks for this of its input
+-- the job reads no input and has this answer, whatever the input; or this is its parsed request
 abbrev pub IsPrepared : Work → Result Asked Answer → Type 0
 IsPrepared work (Err a) = (¬ ReadsInput work) × ((bytes : List ℕ) → IsAnswer work bytes a)
 IsPrepared work (Ok asked) = IsAskedBy work asked

@@ -1,4 +1,4 @@
--- What is validated of a job before its input is read: its registries, then the format, and then the path.
+-- What is validated before the input of a job is read: its registries, then the format, and then the path.
 use Rattle.std.specs.Prelude.{◌≡◌, ◌⊎◌, ◌==◌, ◌||◌, ◌&&◌, ℕ, List, [], ◌∷◌, Option, Some, None, option_map, Bool, true, false, codes, is_some, string_bytes}
 use Rattle.bcs_registry_model.specs.Container.{Entries, container_at}
 use Rattle.bcs_registry.specs.Faults.{IsLeastFault, IsLeastFormatFault}
@@ -21,32 +21,32 @@ use Rattle.bcs_tool_command_line.specs.declared.notation.Notation.{Notation}
 use Rattle.bcs_tool_answers.specs.Notations.{SpellsNoSteps, SpellsSteps}
 use Rattle.bcs_tool_command_line.specs.declared.work.Work.{Work}
 
--- ---- the names that are printed
+-- ---- the printed names
 
 abbrev pub job_fault_name : JobFault → List ℕ
 job_fault_name (job.Registry fault) = registry_fault_name fault
 job_fault_name (job.Growth fault) = growth_fault_name fault
 job_fault_name job.BadPath = codes "BadPath"
 
--- the fault of a job whose PATH is refused
+-- the job's fault if PATH is refused
 abbrev pub path_job_fault : PathFault → JobFault
 path_job_fault path.BadPath = job.BadPath
 path_job_fault path.OutOfMemory = job.Registry OutOfMemory
 
 -- ---- the registry's text
 
--- the text writes down this registry, which is well-formed
+-- the text represents this registry, which is well-formed
 abbrev pub IsRegistry : List ℕ → Entries → Type 0
 IsRegistry text registry = WritesRegistry text registry × IsWellFormed registry
 
--- ---- the format's word
+-- ---- the format argument
 
--- it begins with a brace or a quotation mark; any other word is a container's name
+-- it begins with a brace or a quotation mark; any other argument is a container's name
 abbrev pub is_json_word : List ℕ → Bool
 is_json_word [] = false
 is_json_word (c ∷ cs) = c == 123 || c == 34
 
--- the word is the JSON of a format that the registry admits, or the name of one of its containers
+-- the argument is the JSON of a format that the registry admits, or the name of one of its containers
 abbrev pub IsFormatWord : Entries → List ℕ → Shape → Type 0
 IsFormatWord registry word s = ((is_json_word word ≡ true) × WritesFormat word s × Admits registry s)
     ⊎ ((is_json_word word ≡ false) × (is_some (container_at word registry) ≡ true) × (s ≡ name word))
@@ -56,20 +56,20 @@ abbrev pub RefusesFormatWord : Entries → List ℕ → RegistryFault → Type 0
 RefusesFormatWord registry word fault = ((is_json_word word ≡ true) × IsLeastFormatFault registry word fault)
     ⊎ ((is_json_word word ≡ false) × (container_at word registry ≡ None) × (fault ≡ UnknownName))
 
--- ---- the name that may be left out
+-- ---- the optional name
 
--- that of a container or of a variant
+-- the name of a container or of a variant
 abbrev pub name_of : Work → Option (List ℕ)
 name_of work = option_map string_bytes work.options.name
 
--- a name is given that no container has
+-- a name is given, and no container has it
 abbrev pub NamesNone : Option (List ℕ) → Entries → Type 0
 NamesNone None registry = ⊥
 NamesNone (Some word) registry = container_at word registry ≡ None
 
--- ---- the path's word
+-- ---- the path argument
 
--- the steps that a command's word PATH, or the one in its place, spells; none where the command has no such word
+-- the steps that a command's argument PATH, or the one in its place, gives; empty if the command has no such argument
 abbrev pub IsPathOf : Command → Notation → List ℕ → List Step → Type 0
 IsPathOf command.Part notation word path = SpellsSteps notation word path
 IsPathOf other notation word path = path ≡ []
@@ -85,23 +85,23 @@ works_on_values command.Example = false
 works_on_values command.Schema = false
 works_on_values other = true
 
--- the command validates bytes alone, and makes nothing of them
+-- the command only validates bytes
 abbrev pub is_scan : Command → Bool
 is_scan command.Scan = true
 is_scan other = false
 
--- the input may have any size: bytes as they are, which are validated as they come
+-- the input may have any size: raw bytes, which are validated as they arrive
 abbrev pub is_unlimited : Work → Bool
 is_unlimited work = is_scan work.command && is_raw (coding_of work)
 
--- the job works on values of this format of this registry, and its PATH is good where it has one
+-- the job works on values of this format from this registry, and its PATH is valid if it has one
 pub record Asks (work : Work) (registry : Entries) (s : Shape) : Type 0 where
   pub command : works_on_values work.command ≡ true
   pub is_registry : IsRegistry work.registry.items registry
   pub is_format : IsFormatWord registry (string_bytes work.format) s
   pub has_path : (path : List Step) × IsPathOf work.command work.options.notation (string_bytes work.path) path
 
--- the job has an input, which is read, since its words are not refused
+-- the job has an input, which is read since its arguments are not refused
 abbrev pub ReadsInput : Work → Type 0
 ReadsInput work = (registry : Entries) × (s : Shape) × Asks work registry s
 
@@ -117,14 +117,14 @@ RefusesCheck work (job.Registry fault) = IsLeastFault work.registry.items fault
 RefusesCheck work (job.Growth fault) = ⊥
 RefusesCheck work job.BadPath = ⊥
 
--- the registry's fault, or else no container has NAME
+-- the registry's fault, or else that no container has NAME
 abbrev pub RefusesShow : Work → JobFault → Type 0
 RefusesShow work (job.Registry fault) = IsLeastFault work.registry.items fault
     ⊎ ((registry : Entries) × IsRegistry work.registry.items registry × NamesNone (name_of work) registry × (fault ≡ UnknownName))
 RefusesShow work (job.Growth fault) = ⊥
 RefusesShow work job.BadPath = ⊥
 
--- the older registry's fault, or else the newer's, or else why the one has not grown into the other
+-- the older registry's fault, or else the newer's, or else why the older has not grown into the newer
 abbrev pub RefusesGrowth : Work → JobFault → Type 0
 RefusesGrowth work (job.Registry fault) = IsLeastFault work.registry.items fault
     ⊎ ((older : Entries) × IsRegistry work.registry.items older × IsLeastFault work.second.items fault)
@@ -132,7 +132,7 @@ RefusesGrowth work (job.Growth fault) = (older : Entries) × (newer : Entries) �
     × IsRegistry work.second.items newer × IsFirstGrowthFault older newer fault
 RefusesGrowth work job.BadPath = ⊥
 
--- the registry's fault, or else the format's, or else no steps are spelled by PATH
+-- the registry's fault, or else the format's, or else that PATH is invalid
 abbrev pub RefusesPart : Work → JobFault → Type 0
 RefusesPart work (job.Registry fault) = RefusesFormatted work (job.Registry fault)
 RefusesPart work (job.Growth fault) = ⊥
@@ -146,6 +146,6 @@ RefusesJobOf command.Show = RefusesShow
 RefusesJobOf command.Part = RefusesPart
 RefusesJobOf other = RefusesFormatted
 
--- the job is refused before an input is read
+-- the job is refused before any input is read
 abbrev pub RefusesEarly : Work → JobFault → Type 0
 RefusesEarly work = RefusesJobOf work.command work

@@ -17,7 +17,7 @@ use std::alloc::{AllocError, Global};
 pub struct Answer {
     pub status: u8,
     pub output: Vec<u8>,
-    /// Where a refusal stands, without a line's end; empty where that isn't told.
+    /// Where a refusal occurred, without a line end; empty if that isn't reported.
     pub place: Vec<u8>,
 }
 
@@ -30,7 +30,7 @@ pub fn refused(alloc: Global, name: &str) -> Result<Answer, AllocError>
     Ok(unplaced(alloc, 2, with_line_end(text)?))
 }
 
-/// The line of the refusal of a text. Want of memory is no refusal.
+/// The line for a refused text. A failed allocation is not a refusal.
 pub fn refused_text(alloc: Global, fault: JsonFault) -> Result<Answer, AllocError>
     ensures { IfOk result (λ a. (fault ≢ JsonFault.OutOfMemory)
         × PrintsWithoutPlace a 2 (refusal_line (json_fault_name fault))) }
@@ -41,7 +41,7 @@ pub fn refused_text(alloc: Global, fault: JsonFault) -> Result<Answer, AllocErro
     }
 }
 
-/// The line for a registry of so many containers.
+/// The line for a registry of N containers, or a value of N bytes.
 pub fn counted(alloc: Global, count: usize) -> Result<Answer, AllocError>
     ensures { IfOk result (λ a. PrintsWithoutPlace a 0 (count_line count)) }
 {
@@ -58,7 +58,7 @@ pub fn stopped(alloc: Global, stop: Stop) -> Result<Answer, AllocError>
     refused(alloc, text.as_str())
 }
 
-/// A word on a line of its own.
+/// A word on a line of its own, with this status.
 pub fn told(alloc: Global, status: u8, word: &str) -> Result<Answer, AllocError>
     ensures { IfOk result (λ a. PrintsWithoutPlace a status (line_of word.now)) }
 {
@@ -73,7 +73,7 @@ pub fn shown(alloc: Global, text: String) -> Result<Answer, AllocError>
     Ok(unplaced(alloc, 0, with_line_end(text)?))
 }
 
-/// The bytes of a value, as a line of hexadecimal digits or of base64, or as they are.
+/// The bytes of a value, as a line of hexadecimal digits or base64, or raw.
 pub fn encoded(alloc: Global, bytes: Vec<u8>, coding: Coding) -> Result<Answer, AllocError>
     ensures { IfOk result (λ a. PrintsWithoutPlace a 0 (printed coding bytes.items)) }
 {
@@ -97,7 +97,7 @@ pub fn found(alloc: Global, bytes: &[u8], coding: Coding) -> Result<Answer, Allo
     Ok(unplaced(alloc, 0, output))
 }
 
-/// What is printed where there is no part: nothing where bytes are written as they are.
+/// What is printed if there is no part: `none`, or nothing if bytes are written raw.
 pub fn nowhere(alloc: Global, coding: Coding) -> Result<Answer, AllocError>
     ensures { IfOk result (λ a. PrintsWithoutPlace a 1 (printed_none coding)) }
 {
@@ -141,7 +141,7 @@ fn base64_line(alloc: Global, bytes: &[u8]) -> Result<Vec<u8>, AllocError>
     with_line_end(STANDARD.encode(alloc, bytes)?)
 }
 
-// The text and a line end.
+// The text, followed by a line end.
 fn with_line_end(mut text: String) -> Result<Vec<u8>, AllocError>
     ensures { IfOk result (λ bytes. bytes.items ≡ line_of (string_bytes text)) }
 {

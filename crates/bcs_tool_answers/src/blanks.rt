@@ -1,4 +1,4 @@
-//! Blanks round the digits or the base64 of an input.
+//! Blanks around the digits or the base64 of an input.
 ghost use Rattle.std.specs.Prelude.{◌≡◌};
 ghost use Rattle.bcs_tool_answers.specs.Input.{is_blank, without_blanks, without_end, without_front};
 
@@ -9,7 +9,7 @@ pub fn without_blanks(text: &[u8]) -> &[u8]
     without_end(without_front(text))
 }
 
-/// How many blanks stand before the first other byte, or the end.
+/// The number of blanks before the first other byte, or before the end.
 pub fn blanks_before(text: &[u8]) -> usize {
     text.iter().take_while(|byte| is_blank(**byte)).count()
 }

@@ -1,4 +1,4 @@
-//! The answers to the bytes of a value.
+//! The answers to an input that gives the bytes of a value.
 ghost use Rattle.std.specs.Prelude.{◌≡◌, ◌≢◌, ◌≤◌, codes, length, IfOk};
 ghost use Rattle.bcs_tool_command_line.specs.Files.{size_limit};
 ghost use Rattle.bcs_tool_command_line.specs.Jobs.{coding_of};
@@ -21,7 +21,7 @@ use bcs_tool_command_line::{Coding, Command, Work};
 use hex::FromHexError;
 use std::alloc::{AllocError, Global};
 
-/// The answer to the input of a job that takes a value's bytes.
+/// The answer to the input of a job that accepts a value's bytes.
 pub fn answer_given(
     alloc: Global,
     work: &Work,
@@ -40,7 +40,7 @@ pub fn answer_given(
     }
 }
 
-// The answer to bytes that are given as hexadecimal digits.
+// The answer to bytes given as hexadecimal digits.
 fn answer_digits(
     alloc: Global,
     work: &Work,
@@ -59,7 +59,7 @@ fn answer_digits(
     }
 }
 
-// The answer to bytes that are given as base64.
+// The answer to bytes given as base64.
 fn answer_base64(
     alloc: Global,
     work: &Work,
@@ -78,7 +78,7 @@ fn answer_base64(
     }
 }
 
-// The answer to an input that is no hexadecimal digits. Want of memory is no refusal.
+// The answer to an input that isn't valid hexadecimal. A failed allocation is not a refusal.
 fn refused_digits(
     alloc: Global,
     work: &Work,
@@ -99,7 +99,7 @@ fn refused_digits(
     }
 }
 
-// The answer to an input that is no base64. Want of memory is no refusal.
+// The answer to an input that isn't valid base64. A failed allocation is not a refusal.
 fn refused_base64(
     alloc: Global,
     work: &Work,
@@ -118,7 +118,7 @@ fn refused_base64(
     }
 }
 
-// The answer to these bytes, whatever the input that gives them.
+// The answer to these bytes, in whatever coding the input gives them.
 fn answer_bytes(
     alloc: Global,
     work: &Work,
@@ -145,7 +145,7 @@ fn answer_bytes(
     }
 }
 
-// The text of the value whose bytes these are.
+// The text of the value that has these bytes.
 fn answer_decode(
     alloc: Global,
     work: &Work,

@@ -26,7 +26,7 @@ pub fn answer_example(alloc: Global, work: &Work) -> Result<Answer, AllocError>
     }
 }
 
-// The text of the example that is wished for, or why there is none.
+// The text of the requested example, or why there is none.
 fn answer_wish(
     alloc: Global,
     work: &Work,
@@ -46,7 +46,7 @@ fn answer_wish(
     }
 }
 
-// What stands in the options, lists and maps of the example.
+// How the options, lists and maps of the example are filled.
 fn form_of(work: &Work) -> ExampleForm {
     if work.options.display.full {
         ExampleForm::Full
@@ -55,7 +55,7 @@ fn form_of(work: &Work) -> ExampleForm {
     }
 }
 
-// The answer to a wish that can't be granted. Want of memory is no refusal.
+// The answer if the requested example doesn't exist. A failed allocation is not a refusal.
 fn refused_wish(
     alloc: Global,
     work: &Work,

@@ -12,7 +12,8 @@ use bcs_display_text::style::Form;
 use bcs_tool_command_line::{Command, Work};
 use std::alloc::{AllocError, Global};
 
-/// The pieces of the value whose bytes these are; or those before they stop being one, unless refusals are JSON.
+/// The pieces of the value that has these bytes. If decoding stops: the pieces before the stop, or only the refusal if
+/// refusals are JSON.
 pub fn answer_explain(
     alloc: Global,
     work: &Work,
@@ -49,7 +50,7 @@ pub fn answer_explain(
     }
 }
 
-// The pieces of an input, or of a line of it.
+// The pieces of an input, or of one of its lines.
 fn with_pieces(alloc: Global, work: &Work, status: u8, text: Vec<u8>) -> Result<Answer, AllocError>
     ensures { IfOk result (λ a. PrintsWithoutPlace a status a.output.items) }
 {
@@ -61,7 +62,7 @@ fn with_pieces(alloc: Global, work: &Work, status: u8, text: Vec<u8>) -> Result<
     Ok(unplaced(alloc, status, text))
 }
 
-// The pieces, and behind them the line of a stop. JSON has an object for it among the pieces.
+// The pieces, followed by the line of the stop. In JSON, an object among the pieces already reports it.
 fn damaged(
     alloc: Global,
     work: &Work,
@@ -74,7 +75,7 @@ fn damaged(
     Ok(text)
 }
 
-// The pieces of a line: with an empty line behind them, or as JSON on one line.
+// The pieces of a line: followed by an empty line, or as JSON on one line.
 fn line_of_pieces(alloc: Global, work: &Work, mut text: Vec<u8>) -> Result<Vec<u8>, AllocError> {
     if work.options.display.form == Form::Json {
         return array_line(alloc, &text);
@@ -83,7 +84,7 @@ fn line_of_pieces(alloc: Global, work: &Work, mut text: Vec<u8>) -> Result<Vec<u
     Ok(text)
 }
 
-// The objects on these lines as an array on one line. No object has a line feed in it.
+// The objects on these lines as an array on one line. No object contains a line feed.
 fn array_line(alloc: Global, lines: &[u8]) -> Result<Vec<u8>, AllocError> {
     let objects = lines.strip_suffix(b"\n").unwrap_or(lines);
     let mut array = Vec::from_slice(alloc, b"[")?;

@@ -1,4 +1,4 @@
-//! Whether a registry has grown into another, behind the list of all differences where that is asked for.
+//! Whether a registry has grown into another, after the list of all differences if that is requested.
 ghost use Rattle.std.specs.Prelude.{◌≡◌, ◌++◌, ℕ, List, IfOk};
 ghost use Rattle.bcs_tool_answers.specs.Answers.{Lists};
 ghost use Rattle.bcs_tool_answers.specs.Validating.{IsRegistry};
@@ -49,7 +49,7 @@ fn verdict(
     }
 }
 
-// The answer behind the list of all differences, where that is asked for.
+// The answer, after the list of all differences if that is requested.
 fn listed(
     alloc: Global,
     work: &Work,

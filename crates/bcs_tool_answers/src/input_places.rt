@@ -1,4 +1,4 @@
-//! Where an input is no hexadecimal digits, or no base64.
+//! Where an input isn't valid hexadecimal or base64.
 ghost use Rattle.bcs_tool_answers.specs.Places.{MayReport};
 
 use crate::blanks::{blanks_before, without_blanks};
@@ -8,7 +8,7 @@ use bcs_display_errors::{WrongText, input_line, wrong_digits};
 use bcs_tool_command_line::Work;
 use std::alloc::Global;
 
-/// Where this input is no hexadecimal digits. It is empty at a quiet job, and where no memory is left for it.
+/// Where this input isn't valid hexadecimal. Empty for a job that reports no places, or if an allocation fails.
 pub fn place_of_digits(alloc: Global, work: &Work, input: &[u8]) -> Vec<u8>
     ensures { MayReport work.now result.items }
 {
@@ -18,8 +18,8 @@ pub fn place_of_digits(alloc: Global, work: &Work, input: &[u8]) -> Vec<u8>
     }
 }
 
-/// Where this input is no base64, by the fault of the text between its blanks. It is empty at a quiet job, and where no
-/// memory is left for it.
+/// Where this input isn't valid base64, from the fault of the text between its blanks. Empty for a job that reports no
+/// places, or if an allocation fails.
 pub fn place_of_base64(alloc: Global, work: &Work, input: &[u8], fault: DecodeError) -> Vec<u8>
     ensures { MayReport work.now result.items }
 {

@@ -1,4 +1,4 @@
-//! Why a job is refused by its words alone.
+//! Why a job is refused because of its arguments alone.
 ghost use Rattle.std.specs.Prelude.{◌≡◌, ◌≢◌, IfOk};
 ghost use Rattle.bcs_registry_model.specs.declared.fault.RegistryFault.TheVariants.{OutOfMemory};
 ghost use Rattle.bcs_tool_answers.specs.Answers.{refusal_line};
@@ -11,21 +11,20 @@ use bcs_registry::{GrowthFault, RegistryFault};
 use std::alloc::{AllocError, Global};
 use thiserror::Error;
 
-/// Why a job is refused before its input is read. Want of memory is a `Registry` fault, whatever
-/// asked for the memory.
+/// Why a job is refused before its input is read. A failed allocation is a `Registry` fault, wherever it happened.
 #[derive(Clone, Copy, Debug, Drop, PartialEq, Eq, Error)]
 #[error("{}", self.name())]
 pub enum JobFault {
-    /// A registry's text or FORMAT is refused.
+    /// A registry's text, FORMAT or NAME is refused.
     Registry(RegistryFault),
-    /// The newer registry doesn't keep all that the older one has.
+    /// The newer registry doesn't keep everything in the older one.
     Growth(GrowthFault),
-    /// PATH spells no steps.
+    /// PATH is invalid.
     BadPath,
 }
 
 impl JobFault {
-    /// The answer to a job that is refused. Want of memory is no refusal.
+    /// The answer to a refused job. A failed allocation is not a refusal.
     pub fn answer(self, alloc: Global) -> Result<Answer, AllocError>
         ensures { IfOk result (λ a. (self ≢ JobFault.Registry OutOfMemory)
             × PrintsWithoutPlace a 2 (refusal_line (job_fault_name self))) }
@@ -36,7 +35,7 @@ impl JobFault {
         }
     }
 
-    /// The fault's name, which is printed.
+    /// The fault's name, as it is printed.
     pub fn name(self) -> &'static str
         ensures { result.now ≡ job_fault_name self }
     {

@@ -9,7 +9,7 @@ use serde::Serialize;
 use std::alloc::{AllocError, Global};
 use std::str::from_utf8;
 
-/// The members of a refusal that are known, in their order.
+/// The known members of a refusal, in order.
 #[derive(Drop, Serialize)]
 struct Members<'a> {
     /// The offset of the byte where decoding stopped.
@@ -22,8 +22,8 @@ struct Members<'a> {
     expected: Option<&'a str>,
 }
 
-/// The answer to a line. If JSON is requested for refusals, a refusal is an object. It isn't a failure then, and its status is
-/// 0, so that only other lines decide about the status of the program.
+/// The answer to a line. If refusals are requested as JSON, a refusal is an object. It doesn't count as a failure then: its
+/// status is 0, so only other lines determine the program's status.
 pub fn formed(alloc: Global, json_refusals: bool, answer: Answer) -> Result<Answer, AllocError>
     ensures { IfOk result (λ a. HasForm json_refusals answer.status answer.output.items a.status a.output.items) }
 {
@@ -34,7 +34,7 @@ pub fn formed(alloc: Global, json_refusals: bool, answer: Answer) -> Result<Answ
     Ok(unplaced(alloc, 0, line))
 }
 
-// The object begins with the name of the refusal. Other members follow if there is memory for them.
+// The object begins with the name of the refusal. Other members follow unless an allocation fails.
 fn object_line(alloc: Global, answer: &Answer) -> Result<Vec<u8>, AllocError>
     ensures { IfOk result (λ line. IsJsonRefusal answer.now.output.items line.items) }
 {
@@ -78,7 +78,7 @@ fn is_of_name(byte: u8) -> bool
     !matches!(byte, b' ' | b'\n')
 }
 
-// The other members of the object, behind a comma, if there are any.
+// The other members of the object, after a comma, if there are any.
 fn members_text(alloc: Global, answer: &Answer, name: &[u8]) -> Option<Vec<u8>> {
     let name = from_utf8(name).ok()?;
     let (at, expected) = halves(alloc, &answer.place, name);

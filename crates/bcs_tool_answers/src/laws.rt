@@ -1,35 +1,35 @@
-//! What holds of the program's answers: laws that a proof may cite. No call does anything.
+//! Laws about the program's answers, for use in proofs. Calling these functions does nothing.
 ghost use Rattle.bcs_tool_answers.specs.AnswerLaws.{OneAnswer, OneAnswerALine, OneComparison, SomeAnswer, SomeAnswerALine, SomeComparison};
 
-/// A job of which the output is exact has at most one answer to an input: one status, and one output.
+/// A job whose output is exact has at most one answer to an input: one status and one output.
 #[tactic(auto, using(crate::proofs::OneAnswer::one_answer))]
 pub fn one_answer()
     ensures { OneAnswer }
 {}
 
-/// A job has an answer to each input of bytes within the size.
+/// A job has an answer to each input of bytes within the size limit.
 #[tactic(auto, using(crate::proofs::SomeAnswer::some_answer))]
 pub fn some_answer()
     ensures { SomeAnswer }
 {}
 
-/// The lines of its input, each an input of its own, have at most one answer: one status, and one output.
+/// A job has at most one answer to the lines of an input, if its output is exact and refusals aren't JSON.
 pub fn one_answer_a_line()
     ensures { OneAnswerALine }
 {}
 
-/// The lines of an input have an answer, where the input is bytes and each line is within the size.
+/// The lines of an input have an answer if the input is bytes and each line is within the size limit.
 #[tactic(auto, using(crate::proofs::LineLaws::some_answer_a_line))]
 pub fn some_answer_a_line()
     ensures { SomeAnswerALine }
 {}
 
-/// Two files that are compared line by line have at most one answer: one status, and one output.
+/// Two files that are compared line by line, without JSON refusals, have at most one answer: one status and one output.
 pub fn one_comparison()
     ensures { OneComparison }
 {}
 
-/// They have an answer, where the job's own words are not refused.
+/// They have an answer if the job's own arguments are not refused.
 #[tactic(auto, using(crate::proofs::PairLaws::some_comparison))]
 pub fn some_comparison()
     ensures { SomeComparison }

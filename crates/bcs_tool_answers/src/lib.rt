@@ -1,4 +1,4 @@
-//! The answer to a job and its input: what is validated of the job's words, the answer, and where a refusal stands.
+//! The answer to a job and its input: validates the job's arguments, builds the answer, and locates a refusal.
 #![tactic(auto)]
 
 mod answer;

@@ -1,4 +1,4 @@
-//! The answers to lines, each of which is an input of its own.
+//! The answers to lines, if each line is an input of its own.
 ghost use Rattle.std.specs.Prelude.{◌≤◌, length, IfOk};
 ghost use Rattle.bcs_tool_command_line.specs.Files.{size_limit};
 ghost use Rattle.bcs_tool_answers.specs.LineAnswers.{AnswersLine};
@@ -28,7 +28,7 @@ pub fn answer_line(
     formed(alloc, work.options.json_refusals, answer)
 }
 
-/// The answer to a line of one file and the same line of another one.
+/// The answer to a line of one file and the same line of another.
 pub fn answer_line_pair(
     alloc: Global,
     work: &Work,

@@ -1,4 +1,4 @@
-//! Which texts are steps to a part, before a value is there to follow them.
+//! Checks PATH, names and pointers before there is a value to follow them in.
 ghost use Rattle.std.specs.Prelude.{◌≡◌, Err, IfOk};
 ghost use Rattle.bcs_decode_parts.specs.PathSteps.{all_spelled};
 ghost use Rattle.bcs_tool_answers.specs.Notations.{SpellsNoSteps, SpellsSteps};
@@ -8,7 +8,7 @@ use bcs_display_pieces::{is_name, is_pointer};
 use bcs_tool_command_line::Notation;
 use std::alloc::Global;
 
-/// The steps of PATH. Names and pointers have none before there is a value in which to follow them.
+/// The steps of PATH. Names and pointers are only checked, and give no steps until there is a value to follow them in.
 pub(crate) fn read_steps(
     alloc: Global,
     notation: Notation,

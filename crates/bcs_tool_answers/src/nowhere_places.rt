@@ -8,8 +8,8 @@ use bcs_display_pieces::nowhere_on_path;
 use bcs_tool_command_line::Work;
 use std::alloc::{AllocError, Global};
 
-/// Where these steps lead nowhere, or what `line` says of it. It is empty at a quiet job, and where no memory is left for
-/// it.
+/// Where these steps lead nowhere: `line`, if it is given. Empty for a quiet job, for a line of an input, or if an
+/// allocation fails.
 pub fn place_of_nowhere(
     alloc: Global,
     work: &Work,

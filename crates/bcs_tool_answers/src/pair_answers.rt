@@ -9,7 +9,7 @@ use bcs_json::compare;
 use bcs_tool_command_line::Work;
 use std::alloc::{AllocError, Global};
 
-/// Whether two texts have the same value. Where one of them is refused is not told.
+/// Whether two texts have the same value. It doesn't report where one of them is refused.
 pub fn answer_pair(
     alloc: Global,
     work: &Work,

@@ -1,4 +1,4 @@
-//! The answers to the steps to a part of a value.
+//! The answers of `part`: the part of a value that steps lead to.
 ghost use Rattle.std.specs.Prelude.{◌≡◌, ◌≢◌, IfOk, string_bytes};
 ghost use Rattle.bcs_decode_parts.specs.PathSteps.{all_spelled};
 ghost use Rattle.bcs_tool_command_line.specs.Jobs.{coding_of};
@@ -17,7 +17,7 @@ use bcs_display_pieces::{Led, path_of_name, path_of_pointer};
 use bcs_tool_command_line::{Command, Notation, Work};
 use std::alloc::{AllocError, Global};
 
-/// The bytes of the part to which the steps lead in the value at the front of these bytes.
+/// The bytes of the part that the steps lead to, in the value at the front of these bytes.
 pub fn answer_part(
     alloc: Global,
     work: &Work,
@@ -35,8 +35,8 @@ pub fn answer_part(
     }
 }
 
-// The same for steps by names. The bytes are scanned first: where steps lead in bytes that are no value is of no use, and
-// a map of such bytes may claim billions of entries.
+// Similarly for names and pointers. The bytes are scanned first: steps are useless in bytes that aren't a value, and a map
+// in such bytes may claim billions of entries.
 fn answer_named(
     alloc: Global,
     work: &Work,
@@ -57,7 +57,7 @@ fn answer_named(
     }
 }
 
-// Where the names lead. Any steps will do for the answer, since only reading tells whether they are those that are meant.
+// Where the names lead. The contract allows any steps, since which part the names mean is only for display.
 fn led_by_names(alloc: Global, work: &Work, asked: &Asked, bytes: &[u8]) -> Result<Led, AllocError>
     requires named { work.now.options.notation ≢ Notation.Path }
 {
@@ -74,7 +74,7 @@ fn led_by_names(alloc: Global, work: &Work, asked: &Asked, bytes: &[u8]) -> Resu
     }
 }
 
-// The bytes of the part to which these steps lead. `line` says where the names lead nowhere that gave them.
+// The bytes of the part that these steps lead to. If the steps came from names that lead nowhere, `line` says where.
 fn answer_steps(
     alloc: Global,
     work: &Work,
@@ -104,7 +104,7 @@ fn answer_steps(
     }
 }
 
-// What is printed where there is no part, with the place of the step that leads nowhere.
+// What is printed if there is no part, with the place of the step that leads nowhere.
 fn answer_nowhere(alloc: Global, work: &Work, place: Vec<u8>) -> Result<Answer, AllocError>
     requires { MayReport work.now place.items }
     ensures { IfOk result (λ a. (a.status ≡ 1) × (a.output.items ≡ printed_none (coding_of work.now)) × MayReport work.now a.place.items) }

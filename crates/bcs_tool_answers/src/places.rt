@@ -6,15 +6,15 @@ ghost use Rattle.bcs_tool_answers.specs.Places.{IsPrintable};
 use bcs_tool_command_line::Work;
 use std::alloc::Global;
 
-/// Whether the place of a refused input is reported: not for a quiet job, and for a line only in JSON.
+/// Whether the place of a refused input is reported: never for a quiet job, and for a line only if refusals are JSON.
 pub fn reports_place(work: &Work) -> bool
     ensures { result ≡ true → work.now.options.quiet ≡ false }
 {
     !work.options.quiet && (!work.options.lines || work.options.json_refusals)
 }
 
-/// Returns this line as a place, if each of its bytes is printable ASCII, and otherwise nothing. Every place is made here, so
-/// the text of a line needs no contract.
+/// Returns this line as a place if all its bytes are printable ASCII, and an empty place otherwise. Every place is made
+/// here, so the text of a line needs no contract.
 pub fn place_of_line(alloc: Global, line: Option<Vec<u8>>) -> Vec<u8>
     ensures { All IsPrintable result.items }
 {

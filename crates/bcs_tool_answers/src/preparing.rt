@@ -1,4 +1,4 @@
-//! What the words of a job come to, before its input is read.
+//! Validates the arguments of a job before its input is read.
 ghost use Rattle.std.specs.Prelude.{◌≡◌, ℕ, List, IfOk, true};
 ghost use Rattle.bcs_tool_answers.specs.Validating.{works_on_values};
 ghost use Rattle.bcs_tool_answers.specs.Places.{IsAnswer};
@@ -14,8 +14,8 @@ use crate::validating::{Asked, validate_asked, validate_check};
 use bcs_tool_command_line::{Command, Work};
 use std::alloc::{AllocError, Global};
 
-/// Validates the words of the job. No input is read before. `Ok`: what the job asks of its input. `Err`: the answer, whatever the
-/// input is, since the job has none or its words are refused.
+/// Validates the arguments of the job, before any input is read. `Ok`: the parsed request. `Err`: the answer, which doesn't
+/// depend on the input, since the job has none or its arguments are refused.
 pub fn prepare(alloc: Global, work: &Work) -> Result<Result<Asked, Answer>, AllocError>
     ensures { IfOk result (λ prepared. IsPrepared work.now prepared) }
 {
@@ -35,7 +35,7 @@ pub fn prepare(alloc: Global, work: &Work) -> Result<Result<Asked, Answer>, Allo
     }
 }
 
-// How many containers the registry has, whatever the input.
+// The number of containers in the registry, whatever the input.
 fn answer_check(alloc: Global, work: &Work) -> Result<Answer, AllocError>
     requires { work.now.command ≡ Command.Check }
     ensures { IfOk result (λ a. (bytes : List ℕ) → IsAnswer work.now bytes a) }
@@ -46,7 +46,7 @@ fn answer_check(alloc: Global, work: &Work) -> Result<Answer, AllocError>
     }
 }
 
-// What a job that works on values asks for; or the answer to it, whatever the input, where its words are refused.
+// The parsed request of a job that works on values; or the answer, whatever the input, if its arguments are refused.
 fn prepare_asked(alloc: Global, work: &Work) -> Result<Result<Asked, Answer>, AllocError>
     requires { works_on_values work.now.command ≡ true }
     ensures { IfOk result (λ prepared. IsPrepared work.now prepared) }

@@ -1,4 +1,4 @@
-//! The answers to bytes of which no text is wanted.
+//! The answers of `scan`: bytes that are only validated.
 ghost use Rattle.std.specs.Prelude.{◌≡◌, false, length, IfErr, IfOk};
 ghost use Rattle.bcs_registry_model.specs.View.{shape_of};
 ghost use Rattle.bcs_value_model.specs.Tree.{Tree};
@@ -16,14 +16,14 @@ use bcs_decode::{Reason, Stop, scan};
 use bcs_tool_command_line::{Command, Work};
 use std::alloc::{AllocError, Global};
 
-/// Whether the job's input may have any size, since its bytes are validated as they come.
+/// Whether the job's input may have any size, since its bytes are validated as they arrive.
 pub fn is_unlimited(work: &Work) -> bool
     ensures { result ≡ is_unlimited work.now }
 {
     work.command == Command::Scan && work.coding().is_raw()
 }
 
-/// How many bytes the value has whose bytes these are, or which stands at their front where that alone is asked for.
+/// The length in bytes of the value that has these bytes, or of the value at their front if only that is requested.
 pub fn answer_scan(
     alloc: Global,
     work: &Work,
@@ -40,7 +40,7 @@ pub fn answer_scan(
     }
 }
 
-// How many bytes the value has: all of these, unless the front alone is asked for.
+// The length in bytes of the value: all of these bytes, unless only the front is requested.
 fn scanned(work: &Work, asked: &Asked, bytes: &[u8]) -> Result<usize, Stop>
     requires asked { IsAskedBy work.now asked.now }
     ensures found { IfOk result (λ n. ((c : Tree) × Accepts asked.now.registry work.now.limits (shape_of asked.now.format) bytes.now n c)

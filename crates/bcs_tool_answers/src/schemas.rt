@@ -1,4 +1,4 @@
-//! The JSON Schema of a format's texts.
+//! The JSON Schema for the texts of a format.
 ghost use Rattle.std.specs.Prelude.{◌≡◌, ℕ, List, IfOk};
 ghost use Rattle.bcs_registry_model.specs.View.{shape_of};
 ghost use Rattle.bcs_tool_answers.specs.Answers.{AsksOfFormat};

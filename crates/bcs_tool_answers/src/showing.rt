@@ -1,4 +1,4 @@
-//! A registry for reading.
+//! A registry in readable form.
 ghost use Rattle.std.specs.Prelude.{◌≡◌, ◌≢◌, ◌↔◌, ℕ, List, IfErr, IfOk, true};
 ghost use Rattle.bcs_registry_model.specs.declared.fault.RegistryFault.TheVariants.{OutOfMemory};
 ghost use Rattle.bcs_tool_answers.specs.Validating.{IsRegistry, NamesNone, RefusesShow, name_of};
@@ -13,7 +13,7 @@ use bcs_registry::{Registry, RegistryFault};
 use bcs_tool_command_line::{Command, Work};
 use std::alloc::{AllocError, Global};
 
-/// The registry for reading, or one of its containers with all that it stands on, whatever the input.
+/// The registry in readable form, or one of its containers with everything it depends on, whatever the input.
 pub fn answer_show(alloc: Global, work: &Work) -> Result<Answer, AllocError>
     requires { work.now.command ≡ Command.Show }
     ensures { IfOk result (λ a. (bytes : List ℕ) → IsAnswer work.now bytes a) }
@@ -24,7 +24,7 @@ pub fn answer_show(alloc: Global, work: &Work) -> Result<Answer, AllocError>
     }
 }
 
-// The registry. Its own fault comes before a name that no container has.
+// The registry. Its own fault comes before an unknown name.
 fn validate_show(alloc: Global, work: &Work) -> Result<Registry, JobFault>
     ensures ok { IfOk result (λ registry. IsRegistry work.now.registry.items registry
         × (NamesNone (name_of work.now) registry → ⊥)) }
@@ -37,7 +37,7 @@ fn validate_show(alloc: Global, work: &Work) -> Result<Registry, JobFault>
     Ok(registry)
 }
 
-// Whether a name is given that no container has.
+// Whether a name is given and no container has it.
 fn names_none(work: &Work, registry: &Registry) -> bool
     ensures { result ≡ true ↔ NamesNone (name_of work.now) registry.now }
 {
@@ -47,7 +47,7 @@ fn names_none(work: &Work, registry: &Registry) -> bool
     }
 }
 
-// What is printed of the registry. Its text is there, since the name is that of a container.
+// What is printed of the registry. There is a text, since the name is that of a container.
 fn registry_text(alloc: Global, work: &Work, registry: &Registry) -> Result<Vec<u8>, AllocError> {
     let form = match work.options.display.form {
         Form::Json => RegistryForm::Json,

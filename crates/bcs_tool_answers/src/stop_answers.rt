@@ -13,7 +13,7 @@ use bcs_display_pieces::stop_place;
 use bcs_tool_command_line::Work;
 use std::alloc::{AllocError, Global};
 
-/// The line for bytes that stop being a value, and the place of that.
+/// The line for bytes that stop being a value, and where in the value that happened.
 pub fn answer_stop(
     alloc: Global,
     work: &Work,
@@ -29,8 +29,8 @@ pub fn answer_stop(
     Ok(placed(answer, place_of_stop(alloc, work, asked, bytes, stop)))
 }
 
-// Where these bytes stop being a value. It is empty at a quiet job, and where no memory is left for it, since the refusal
-// stands without it.
+// Where these bytes stop being a value. Empty for a job that reports no places, or if an allocation fails: the refusal
+// doesn't depend on it.
 fn place_of_stop(alloc: Global, work: &Work, asked: &Asked, bytes: &[u8], stop: Stop) -> Vec<u8>
     requires { IsAskedBy work.now asked.now }
     ensures { MayReport work.now result.items }

@@ -1,4 +1,4 @@
-//! Where JSON texts of values are refused.
+//! Where the JSON text of a value is refused.
 ghost use Rattle.bcs_tool_answers.specs.Places.{MayReport};
 
 use crate::places::{place_of_line, reports_place};
@@ -8,7 +8,7 @@ use bcs_json::{TextRefusal, read_value_or_refusal};
 use bcs_tool_command_line::Work;
 use std::alloc::Global;
 
-/// Where this text is refused. It is empty at a quiet job, and where no memory is left for it.
+/// Where this text is refused. Empty for a job that reports no places, or if an allocation fails.
 pub fn place_of_refusal(
     alloc: Global,
     work: &Work,
@@ -24,7 +24,7 @@ pub fn place_of_refusal(
     place_of_line(alloc, limited_line(alloc, work, asked, text, refusal))
 }
 
-/// Where the job's text, or else this one, is refused. It is empty at a quiet job, and where no memory is left for it.
+/// Where the job's text, or else this one, is refused. Empty for a quiet job, or if an allocation fails.
 pub fn place_of_pair(alloc: Global, work: &Work, asked: &Asked, text: &[u8]) -> Vec<u8>
     ensures { MayReport work.now result.items }
 {
@@ -34,7 +34,7 @@ pub fn place_of_pair(alloc: Global, work: &Work, asked: &Asked, text: &[u8]) -> 
     place_of_line(alloc, pair_line(alloc, work, asked, text))
 }
 
-// The line of the first of two texts that is refused.
+// The line for the first of the two texts that is refused.
 fn pair_line(alloc: Global, work: &Work, asked: &Asked, text: &[u8]) -> Option<Vec<u8>> {
     let first = work.second.as_slice();
     let (name, text, refusal) = match refusal_of(alloc, work, asked, first) {
@@ -50,7 +50,7 @@ fn refusal_of(alloc: Global, work: &Work, asked: &Asked, text: &[u8]) -> Option<
     read_value_or_refusal(alloc, &asked.registry, &asked.format, &work.limits, text).err()
 }
 
-// The line of a text's refusal, with the limit that was exceeded.
+// The line for a text's refusal, with the limit that was exceeded.
 fn limited_line(
     alloc: Global,
     work: &Work,

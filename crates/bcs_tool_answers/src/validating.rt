@@ -1,4 +1,4 @@
-//! What is validated of a job before its input is read: its registries, then the format, and then the path.
+//! Validates a job before its input is read: its registries, then the format, and then the path.
 ghost use Rattle.std.specs.Prelude.{◌≡◌, ◌≢◌, ℕ, length, string_bytes, true, Err, IfOk, IfErr};
 ghost use Rattle.bcs_registry_model.specs.Container.{Entries};
 ghost use Rattle.bcs_registry_model.specs.Shape as shape;
@@ -16,7 +16,7 @@ use bcs_registry::{Format, Registry, RegistryFault};
 use bcs_tool_command_line::{Command, Work};
 use std::alloc::{AllocError, Global};
 
-/// How many containers the registry has.
+/// The number of containers in the registry.
 pub fn validate_check(alloc: Global, work: &Work) -> Result<usize, JobFault>
     ensures ok { IfOk result (λ count. (registry : Entries) × IsRegistry work.now.registry.items registry
         × (count ≡ length registry)) }
@@ -37,16 +37,16 @@ pub fn validate_pair(alloc: Global, work: &Work) -> Result<(Registry, Registry),
     Ok((older, newer))
 }
 
-/// Values of which format of a registry a job works on, and which steps into them it takes.
+/// The parsed request of a job: the registry, the format of its values, and the steps to a part of them.
 #[derive(Drop)]
 pub struct Asked {
     pub registry: Registry,
     pub format: Format,
-    /// The steps of PATH; none where the command has no PATH, or where names or a pointer stand in its place.
+    /// The steps of PATH; empty if the command has no PATH, or if it has names or a pointer instead.
     pub path: Vec<PathStep>,
 }
 
-/// What the job asks for. The registry's fault comes before the format's, and this before that of PATH.
+/// The job's parsed request. The registry's fault comes before the format's, and the format's before that of PATH.
 pub fn validate_asked(alloc: Global, work: &Work) -> Result<Asked, JobFault>
     requires { works_on_values work.now.command ≡ true }
     ensures ok { IfOk result (λ asked. Asks work.now asked.registry (shape_of asked.format)) }
@@ -74,7 +74,7 @@ pub fn validate_formatted(alloc: Global, work: &Work) -> Result<(Registry, Forma
     Ok((registry, format))
 }
 
-// The steps of the job's PATH; none where the command has no PATH.
+// The steps of the job's PATH; empty if the command has no PATH, or if it has names or a pointer instead.
 fn validate_path(alloc: Global, work: &Work) -> Result<Vec<PathStep>, PathFault>
     ensures ok { IfOk result (λ path. IsPathOf work.now.command work.now.options.notation (string_bytes work.now.path) (all_spelled path.items)) }
     ensures bad { result ≡ Err PathFault.BadPath → (work.now.command ≡ Command.Part) × SpellsNoSteps work.now.options.notation (string_bytes work.now.path) }
@@ -95,7 +95,7 @@ fn validate_path(alloc: Global, work: &Work) -> Result<Vec<PathStep>, PathFault>
     }
 }
 
-// The format of a word: its JSON, or a container's name.
+// The format that an argument gives: as JSON, or as a container's name.
 fn validate_format(alloc: Global, registry: &Registry, word: &str) -> Result<Format, RegistryFault>
     ensures ok { IfOk result (λ format. IsFormatWord registry.now word.now (shape_of format)) }
     ensures fault { IfErr result (λ e. e ≢ OutOfMemory → RefusesFormatWord registry.now word.now e) }
@@ -120,7 +120,7 @@ fn named(alloc: Global, name: &str) -> Result<Format, RegistryFault>
     }
 }
 
-// Whether a format's word is JSON, and no name of a container.
+// Whether a format argument is JSON rather than the name of a container.
 fn begins_json(word: &str) -> bool
     ensures { result ≡ is_json_word word.now }
 {

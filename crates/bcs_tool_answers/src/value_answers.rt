@@ -13,7 +13,7 @@ use bcs_json::{normalise_or_refusal, to_bcs_or_refusal};
 use bcs_tool_command_line::{Command, Work};
 use std::alloc::{AllocError, Global};
 
-/// The answer to the input, where the job asks for this format.
+/// The answer to the input of a job with this parsed request.
 pub fn answer_values(
     alloc: Global,
     work: &Work,

@@ -1,4 +1,4 @@
-//! Where the words of a job are refused.
+//! Where the arguments of a job are refused.
 ghost use Rattle.bcs_tool_answers.specs.Places.{MayReport};
 
 use crate::job_fault::JobFault;
@@ -13,8 +13,8 @@ use bcs_registry::{Format, Registry, RegistryFault};
 use bcs_tool_command_line::{Command, Notation, Work};
 use std::alloc::{AllocError, Global};
 
-/// Where the job's own words are refused, for this fault. It is empty at a quiet job, where the fault has no place, and
-/// where no memory is left for it.
+/// Where the job's own arguments are refused with this fault. Empty for a quiet job, if the fault has no place, or if an
+/// allocation fails.
 pub fn place_of_words(alloc: Global, work: &Work, fault: JobFault) -> Vec<u8>
     ensures { MayReport work.now result.items }
 {
@@ -27,7 +27,7 @@ pub fn place_of_words(alloc: Global, work: &Work, fault: JobFault) -> Vec<u8>
     }
 }
 
-/// Where the newer registry hasn't what the older one has. It is empty at a quiet job, and where no memory is left for it.
+/// Where the newer registry lacks something in the older one. Empty for a quiet job, or if an allocation fails.
 pub fn place_of_difference(
     alloc: Global,
     work: &Work,
@@ -45,8 +45,8 @@ pub fn place_of_difference(
     }
 }
 
-/// The name after `--variant` that isn't the name of a variant, if the example is refused for that. It is empty at a quiet
-/// job, and where no memory is left for it.
+/// The name after `--variant` that isn't the name of a variant, if the example is refused for that. Empty for a quiet job,
+/// for any other fault, or if an allocation fails.
 pub fn place_of_wish(
     alloc: Global,
     work: &Work,
@@ -79,7 +79,7 @@ fn words_line(
     }
 }
 
-// The first step that is none.
+// The first invalid step.
 fn steps_line(alloc: Global, work: &Work) -> Result<Option<Vec<u8>>, AllocError> {
     let word = work.path.as_str();
     match work.options.notation {
@@ -89,8 +89,8 @@ fn steps_line(alloc: Global, work: &Work) -> Result<Option<Vec<u8>>, AllocError>
     }
 }
 
-// The line of this fault, which is that of the registry, or else of the word that is validated behind it. No word behind the
-// one that has the fault is looked at.
+// The line for this fault, which is in the registry or in the argument that is validated next. No argument after the one
+// with the fault is examined.
 fn registries_line(
     alloc: Global,
     work: &Work,
@@ -126,7 +126,7 @@ fn registries_line(
     }
 }
 
-// The line, if there is one, of the registry that help calls by this name.
+// The line, if there is one, marked with the name that the help text gives this registry.
 fn named(
     alloc: Global,
     name: &str,
