@@ -1,4 +1,4 @@
--- An answer of an equal status and equal output, and what is asked of an input.
+-- Answers with an equal status and equal output, and the parsed request for an input.
 use Rattle.bcs_tool_answers.proofs.Prelude.{◌≡◌, ◌≢◌, ◌≤◌, ◌<◌, ◌⊎◌, ◌++◌, [], Err, IfSome, List, Ok, Option, Some, arith, inl, inr, length, subst, sym, true, ℕ, Entries, Shape, shape_of, Tree, Bounds, Accepts, StopsAll, Stop, Shows, FromFault, json_fault_name, of, shown, Denotes, RefusesText, nesting_limit, JsonFault, decode_of, FromHexError, OutOfMemory, depth, Answers, AnswersTexts, IsAsked, checked, compared, damaged, decoded, described, different, encoded, equal, exampled, explained, first_refused, found, front_stopped, grown, no_bytes, normalised, nowhere, refusal_line, refused, refused_early, scan_stopped, scanned, second_refused, stopped, too_nested, IsAnswer, Places, PrintsWithoutPlace, MayReport, nothing, told, RefusesJobOf, RefusesFormatted, RefusesPart, works_on_values, IsAskedBy, Answer, JobFault, BadPath, Growth, Registry, Asked, size_limit, Work, Command, Check, Show, Example, Schema, Encode, Decode, Explain, Normalise, Same, Scan}
 use Rattle.bcs_json.specs.declared.from_fault.FromFault.TheVariants as from
 use Rattle.bcs_tool_answers.specs.Answers as answers
@@ -8,7 +8,7 @@ places_of : {work : Work} {input place : List ℕ} → MayReport work place → 
 places_of (inl none) = nothing none
 places_of (inr line) = told line.0 line.1
 
--- an answer of this status and this output, with a place that may be told beside it, behind a list
+-- an answer with this status and this output after a list, and a place that may be printed with it
 pub behind_list : (work : Work) (list input : List ℕ) (s : ℕ) (p : List ℕ) (a : Answer) → a.status ≡ s → a.output.items ≡ p → MayReport work a.place.items
     → Answers work input s (list ++ p) → Answers work input a.status (list ++ a.output.items) × Places work input a.place.items
 behind_list work list input s p a same_status same_output reports is = (
@@ -17,12 +17,12 @@ behind_list work list input s p a same_status same_output reports is = (
   places_of reports,
 )
 
--- behind none
+-- without a list
 pub placed_answer : (work : Work) (input : List ℕ) (s : ℕ) (p : List ℕ) (a : Answer) → a.status ≡ s → a.output.items ≡ p → MayReport work a.place.items
     → Answers work input s p → IsAnswer work input a
 placed_answer work input s p a same_status same_output reports is = behind_list work [] input s p a same_status same_output reports is
 
--- with the list
+-- with the list in its output
 pub listed_answer : (work : Work) (list input : List ℕ) (verdict a : Answer) → a.status ≡ verdict.status → a.place.items ≡ verdict.place.items
     → a.output.items ≡ list ++ verdict.output.items
     → Answers work input verdict.status (list ++ verdict.output.items) × Places work input verdict.place.items → IsAnswer work input a
@@ -31,7 +31,7 @@ listed_answer work list input verdict a same_status same_place same_output is = 
   subst (λ (place : List ℕ). Places work input place) (sym same_place) is.1,
 )
 
--- what is printed answers, and there is no place
+-- what is printed is an answer, and there is no place
 pub same_answer : (work : Work) (input : List ℕ) (a : Answer) (s : ℕ) (p : List ℕ) → PrintsWithoutPlace a s p → Answers work input s p → IsAnswer work input a
 same_answer work input a s p h is = placed_answer work input s p a h.same_status h.same_output (inl h.no_place) is
 
@@ -42,19 +42,19 @@ with_place work place set same reports = subst (λ (text : List ℕ). MayReport 
 pub if_some_holds : {T : Type 0} (P : T → Type 0) (x : Option T) (t : T) → x ≡ Some t → IfSome x P → P t
 if_some_holds P x t is h = subst (λ y. IfSome y P) is h
 
--- the job is for this command, and its input is of a size that is allowed
+-- the job is for this command, and its input is within the size limit
 pub is_asked : {work : Work} {asked : Asked} (input : List ℕ) (k : Command) → work.command ≡ k → IsAskedBy work asked → length input ≤ size_limit
     → IsAsked work input k asked.registry (shape_of asked.format)
 is_asked input k is asked within = record { is_command = is; asks = asked.asks; within = λ _. within }
 
--- of two texts the first is refused, or the second after it
+-- the first of two texts is refused, or else the second
 pub refused_texts : (registry : Entries) (limits : Bounds) (s : Shape) (first second : List ℕ) (fault : JsonFault) → RefusesText registry limits s first fault
     ⊎ (((t : Tree) × Denotes registry limits s first t) × RefusesText registry limits s second fault)
     → AnswersTexts registry limits s first second 2 (refusal_line (json_fault_name fault))
 refused_texts registry limits s first second fault (inl one) = first_refused fault one
 refused_texts registry limits s first second fault (inr both) = second_refused both.0.0 fault both.0.1 both.1
 
--- what is printed answers two texts
+-- what is printed is an answer to two texts
 pub same_pair : (registry : Entries) (limits : Bounds) (s : Shape) (first second : List ℕ) (a : Answer) (n : ℕ) (p : List ℕ) → PrintsWithoutPlace a n p
     → AnswersTexts registry limits s first second n p → AnswersTexts registry limits s first second a.status a.output.items
 same_pair registry limits s first second a n p h is =
@@ -66,7 +66,7 @@ refuses_part work (Registry e) h = h
 refuses_part work (Growth e) h = absurd h
 refuses_part work BadPath h = absurd h
 
--- the words of a command on values are refused for its registry or its format
+-- the arguments of a command on values are refused because of its registry or its format
 pub refuses_formatted : (asked : Command) (work : Work) (fault : JobFault) → works_on_values asked ≡ true → RefusesFormatted work fault → RefusesJobOf asked work fault
 refuses_formatted Check work fault on h = cc
 refuses_formatted Grows work fault on h = cc
@@ -81,7 +81,7 @@ refuses_formatted Same work fault on h = h
 refuses_formatted Part work fault on h = refuses_part work fault h
 refuses_formatted Scan work fault on h = h
 
--- what is shown where bytes stop, and where their text would nest too deep
+-- what is shown if the bytes stop, and if their text would nest too deeply
 module _ (registry : Entries) (limits : Bounds) (s : Shape) (bytes : List ℕ) (fault : FromFault) where
   pub stops : (stop : Stop) → fault ≡ from.Stop stop → Shows registry limits s bytes (Err fault) → StopsAll registry limits s bytes stop.reason stop.place
   stops stop is h = subst (λ (f : FromFault). Shows registry limits s bytes (Err f)) is h
@@ -90,7 +90,7 @@ module _ (registry : Entries) (limits : Bounds) (s : Shape) (bytes : List ℕ) (
       → (c : Tree) × Accepts registry limits s bytes (length bytes) c × (nesting_limit < depth (shown registry c (of s)))
   nests is h = subst (λ (f : FromFault). Shows registry limits s bytes (Err f)) is h
 
--- an answer ends with 0, 1 or 2
+-- the status of an answer is 0, 1 or 2
 pub pair_below : (r : Entries) (limits : Bounds) (f : Shape) (first second : List ℕ) (s : ℕ) (p : List ℕ) → AnswersTexts r limits f first second s p → s < 3
 pair_below r limits f first second s p (equal h) = omega arith
 pair_below r limits f first second s p (different h) = omega arith
@@ -120,7 +120,7 @@ status_below work input s p (front_stopped r f b e o k g h) = omega arith
 status_below work input s p (scanned r f b n c k g a h) = omega arith
 status_below work input s p (scan_stopped r f b e o k g h) = omega arith
 
--- text that is refused for its digits has no bytes
+-- a text with invalid digits gives no bytes
 pub no_digits : (text : List ℕ) (e : FromHexError) → (e ≡ OutOfMemory) ⊎ (decode_of text ≡ Err e) → e ≢ OutOfMemory
     → (bytes : List ℕ) → decode_of text ≡ Ok bytes → ⊥
 no_digits text e (inl memory) differs bytes is = differs memory

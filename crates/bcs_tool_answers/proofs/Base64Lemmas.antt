@@ -1,16 +1,16 @@
--- A text is the base64 of bytes, and of no others, or of none.
+-- A text is the base64 of exactly one byte string, or it is invalid.
 use Rattle.bcs_tool_answers.proofs.Prelude.{◌≡◌, ◌≢◌, ◌∙◌, ◌⊎◌, ◌∷◌, ◌<◌, [], inl, inr, ℕ, zero, suc, List, Result, Ok, Err, IfOk, ap, arith, refl, subst, sym, bytes_eq, cases_Bool, cases_lt, All-nil, All-cons, All-head, All-tail, All-from_get_or, bytes_eq-Decides, decode_of-encode_of, standard, IsBytes, IsConsistent, IsDecodeFailure, IsStrict, encode_of, DecodeAllocError, Failed, DecodeError, GeneralPurpose, AreBytes, IsBase64Of, base64_text}
 use Rattle.base64.specs.GeneralPurpose.{decode_of}
 use Rattle.base64.specs.declared.decode.DecodeAllocError.TheVariants.{OutOfMemory}
 
--- the decoder takes what the encoder writes, and nothing else
+-- the decoder accepts what the encoder writes, and nothing else
 pub is_strict : IsStrict standard
 is_strict = (refl, refl)
 
 is_consistent : IsConsistent standard
 is_consistent = refl
 
--- what two facts say of a success
+-- combines two facts about a success
 pub both_ok : {T E : Type 0} (r : Result T E) (P Q R : T → Type 0) → ((x : T) → P x → Q x → R x) → IfOk r P → IfOk r Q → IfOk r R
 both_ok (Ok x) P Q R f h k = f x h k
 both_ok (Err e) P Q R f h k = tt
@@ -35,7 +35,7 @@ bytes_or_not (x ∷ xs) = elim (cases_lt x 256) [
   ]
 ]
 
--- ---- of any engine that takes what it writes
+-- ---- any engine that accepts what it writes
 
 module _ (e : GeneralPurpose) (consistent : IsConsistent e) where
   abbrev Writes : List ℕ → List ℕ → Type 0
@@ -70,7 +70,7 @@ module _ (e : GeneralPurpose) (consistent : IsConsistent e) where
   none_read text (Failed d) is differs b h = let both : Err d ≡ Ok b = sym is ∙ reads text b h in cc
   none_read text OutOfMemory is differs b h = differs refl
 
--- ---- of the standard one
+-- ---- the standard engine
 
 pub one_base64 : (text b c : List ℕ) → IsBase64Of text b → IsBase64Of text c → b ≡ c
 unfolding base64_text

@@ -1,4 +1,4 @@
--- Answers to lines, with refusals in JSON or as they are.
+-- Answers to lines, with refusals as JSON or unchanged.
 use Rattle.bcs_tool_answers.proofs.Prelude.{◌≡◌, ◌≢◌, ◌<◌, ◌∙◌, ◌⊎◌, [], ℕ, List, Bool, true, false, true≢false, arith, codes, ◌++◌, eqb_tells, inl, inr, refl, subst, sym, All-nil, HasForm, InForm, IsJsonRefusal, refusal_name, IsPrintable}
 
 module _ (json : Bool) (Answer : ℕ → List ℕ → Type 0) where
@@ -6,7 +6,7 @@ module _ (json : Bool) (Answer : ℕ → List ℕ → Type 0) where
   form_below status output below (inl h) = below status output h.1
   form_below status output below (inr h) = omega (arith, h.1)
 
-  -- refusals that aren't JSON are as they are
+  -- without JSON, refusals are unchanged
   pub as_answered : (status : ℕ) (output : List ℕ) → json ≡ false → InForm json Answer status output → Answer status output
   as_answered status output plain (inl h) = h.1
   as_answered status output plain (inr h) = absurd (true≢false (sym h.0 ∙ plain))

@@ -1,10 +1,10 @@
--- The answers to lines, one after another: one more behind them, and their statuses.
+-- The answers to lines in order: appending one more, and their statuses.
 use Rattle.bcs_tool_answers.proofs.Prelude.{◌≡◌, ◌<◌, ◌≤◌, ◌++◌, ◌∷◌, ◌∙◌, ◌==◌, [], ℕ, suc, List, Bool, true, false, max, append_assoc, append-nil, ap, arith, if◌then◌else◌, length, refl, subst, sym, Answers, AnswersAll, AnswersLine, count_of, greatest, Work}
 use Rattle.bcs_tool_answers.specs.LineAnswers as all
 use Rattle.bcs_tool_answers.proofs.AnswerLemmas.{status_below}
 use Rattle.bcs_tool_answers.proofs.FormLemmas.{form_below}
 
--- the line's answer stands behind those of the lines before it
+-- the answer to a line comes after those of the earlier lines
 pub answers_snoc : (work : Work) (lines : List (List ℕ)) (statuses outputs line : List ℕ) (status : ℕ) (output : List ℕ)
     → AnswersAll work lines statuses outputs → AnswersLine work line status output
     → AnswersAll work (lines ++ line ∷ []) (statuses ++ status ∷ []) (outputs ++ output)
@@ -33,7 +33,7 @@ greatest_below work lines statuses outputs all.none = omega arith
 greatest_below work lines statuses outputs (all.next l ls s ss o os h more) =
     omega (arith, line_below work l s o h, greatest_below work ls ss os more)
 
--- two that are counted, in either order
+-- two statuses can be counted in either order
 counted_twice : (a b : Bool) (n : ℕ) → (if a then suc (if b then suc n else n) else (if b then suc n else n)) ≡ (if b then suc (if a then suc n else n) else (if a then suc n else n))
 counted_twice true true n = refl
 counted_twice true false n = refl

@@ -8,7 +8,7 @@ use Rattle.bcs_tool_answers.proofs.SomeAnswer.{some_answer}
 module _ (work : Work) where
   -- ---- at most one
 
-  -- the lines' answers, as the lines have them
+  -- the answers to the lines, by recursion on the lines
   abbrev InTurn : List (List ℕ) → List ℕ → List ℕ → Type 0
   InTurn [] statuses outputs = (statuses ≡ []) × (outputs ≡ [])
   InTurn (l ∷ ls) statuses outputs = (s : ℕ) × (ss : List ℕ) × (o : List ℕ) × (os : List ℕ) × AnswersLine work l s o × AnswersAll work ls ss os
@@ -46,13 +46,13 @@ module _ (work : Work) where
       let behind = some_for_all ls (All-tail AreBytes l ls are) (All-tail (λ line. length line ≤ size_limit) l ls within) in
       (first.0 ∷ behind.0, first.1 ++ behind.1, all.next l ls first.0 behind.0 first.1 behind.1 first.2 behind.2)
 
--- a byte stands before lines of bytes
+-- a byte put before lines of bytes gives lines of bytes
 bytes-onto : (c : ℕ) (ls : List (List ℕ)) → c < 256 → All AreBytes ls → All AreBytes (onto c ls)
 bytes-onto c [] is are = All-cons AreBytes (c ∷ []) [] (All-cons (λ x. x < 256) c [] is (All-nil (λ x. x < 256))) (All-nil AreBytes)
 bytes-onto c (l ∷ ls) is are =
     All-cons AreBytes (c ∷ l) ls (All-cons (λ x. x < 256) c l is (All-head AreBytes l ls are)) (All-tail AreBytes l ls are)
 
--- lines of bytes are bytes
+-- the lines of a text of bytes are bytes
 bytes_of_lines : (text : List ℕ) → AreBytes text → All AreBytes (lines_of text)
 bytes_of_lines [] are = All-nil AreBytes
 bytes_of_lines (c ∷ cs) are =

@@ -1,9 +1,9 @@
--- Which steps a word spells, in each notation.
+-- The steps that an argument gives, in each notation.
 use Rattle.bcs_tool_answers.proofs.Prelude.{◌≡◌, ◌≢◌, ◌∙◌, ◌⊎◌, [], inl, inr, ℕ, List, Bool, true, false, refl, subst, sym, true≢false, Step, some_path, Notation, Command, IsPathOf, SpellsNoSteps, SpellsSteps, is_name, is_pointer}
 use Rattle.bcs_tool_command_line.specs.declared.command.Command.TheVariants as command
 use Rattle.bcs_tool_command_line.specs.declared.notation.Notation.TheVariants as notation
 
--- a word that spells steps is no word that spells none
+-- an argument that gives steps isn't invalid
 pub not_both_spelled : (n : Notation) (word : List ℕ) (path : List Step) → SpellsSteps n word path → SpellsNoSteps n word → ⊥
 not_both_spelled notation.Path word path h never = never path h
 not_both_spelled notation.Names word path h k = true≢false (sym h ∙ k)
@@ -13,19 +13,19 @@ true_or_false : (b : Bool) → (b ≡ true) ⊎ (b ≡ false)
 true_or_false true = inl refl
 true_or_false false = inr refl
 
--- a word spells some steps, or none
+-- an argument gives some steps, or is invalid
 pub some_steps : (n : Notation) (word : List ℕ) → ((path : List Step) × SpellsSteps n word path) ⊎ SpellsNoSteps n word
 some_steps notation.Path word = some_path word
 some_steps notation.Names word = elim (true_or_false (is_name word)) [ inl h ↦ inl ([], h) | inr h ↦ inr h ]
 some_steps notation.Pointer word = elim (true_or_false (is_pointer word)) [ inl h ↦ inl ([], h) | inr h ↦ inr h ]
 
--- where the word isn't PATH, it spells any steps if it spells some
+-- names and pointers that give some steps may give any steps
 any_steps : (n : Notation) (word : List ℕ) (path other : List Step) → n ≢ notation.Path → SpellsSteps n word path → SpellsSteps n word other
 any_steps notation.Path word path other named h = absurd (named refl)
 any_steps notation.Names word path other named h = h
 any_steps notation.Pointer word path other named h = h
 
--- the steps of the word of `part`, which are these too
+-- the argument of `part` also gives any equal steps
 pub spells : (k : Command) (n : Notation) (word : List ℕ) (path steps : List Step) → k ≡ command.Part → steps ≡ path → IsPathOf k n word path → SpellsSteps n word steps
 spells k n word path steps is same h =
     subst (λ (p : List Step). SpellsSteps n word p) (sym same) (subst (λ (c : Command). IsPathOf c n word path) is h)

@@ -8,7 +8,7 @@ use Rattle.bcs_tool_answers.proofs.OnePair.{Agrees, one_pair}
 use Rattle.bcs_tool_answers.proofs.OneRefusal.{not_checked, not_formatted, not_grown, not_parted, one_format_word, one_refusal, unlisted}
 
 module _ (work : Work) (input : List ℕ) where
-  -- ---- what is answered by each command
+  -- ---- the answers of each command
 
   abbrev Compared : Entries → Shape → ℕ → List ℕ → Type 0
   Compared r f s p = AnswersTexts r work.limits f work.second.items input s p
@@ -37,12 +37,12 @@ module _ (work : Work) (input : List ℕ) where
   valued : (P : Entries → Shape → ℕ → List ℕ → Type 0) (c : Command) (r : Entries) (f : Shape) (s : ℕ) (p : List ℕ) → IsAsked work input c r f → P r f s p → Valued P s p
   valued P c r f s p asked is = (r, f, asked.asks.is_registry, asked.asks.is_format, is)
 
-  -- `part`, whose PATH spells these steps
+  -- `part`, if its PATH gives these steps
   parted : (r : Entries) (f : Shape) (path : List Step) (s : ℕ) (p : List ℕ) → IsAsked work input command.Part r f
       → SpellsSteps work.options.notation (string_bytes work.path) path → Parted work input r f path s p → Late command.Part s p
   parted r f path s p asked spells is = (path, spells, valued (λ r f. Parted work input r f path) command.Part r f s p asked is)
 
-  -- its PATH spells steps, since it is not refused
+  -- its PATH gives steps, since it is not refused
   spelled : (c : Command) (r : Entries) (f : Shape) → c ≡ command.Part → IsAsked work input c r f → (path : List Step) × SpellsSteps work.options.notation (string_bytes work.path) path
   spelled c r f is asked =
       let has = asked.asks.has_path in
@@ -90,7 +90,7 @@ module _ (work : Work) (input : List ℕ) where
   told (answer.scan_stopped r f b e o a g h) =
       by command.Scan 2 (stop_line e o) a.is_command (valued (Scanned work input) command.Scan r f 2 (stop_line e o) a (inl (b, g, inr (e, o, h, refl, refl))))
 
-  -- ---- one of each command
+  -- ---- one answer for each command
 
   abbrev IsOne : (ℕ → List ℕ → Type 0) → Type 0
   IsOne P = (s z : ℕ) (p q : List ℕ) → P s p → P z q → Agrees s p z q
@@ -122,7 +122,7 @@ module _ (work : Work) (input : List ℕ) where
       (subst (λ (t : List Step). Valued (λ r f. Parted work input r f t) z q) same k)
   one_late command.Scan exact s z p q h k = one_valued (Scanned work input) (one_scanned work input) s z p q h k
 
-  -- a job that is refused for its words answers nothing else
+  -- a job refused for its arguments has no other answer
   of_valued : (P : Entries → Shape → ℕ → List ℕ → Type 0) (fault : JobFault) (s : ℕ) (p : List ℕ) → RefusesFormatted work fault → Valued P s p → ⊥
   of_valued P fault s p h (r, f, is, a, x) = not_formatted work fault r f h is a
 

@@ -1,4 +1,4 @@
--- At a registry and a format there is at most one answer of each kind.
+-- For a registry and a format there is at most one answer of each kind.
 use Rattle.bcs_tool_answers.proofs.Prelude.{◌≡◌, ◌<◌, ◌∙◌, ◌⊎◌, inl, inr, ℕ, List, Some, None, Ok, codes, length, ap, ap₂, arith, sym, subst, depth, compact_text, Entries, IsOrderly, Shape, same-refl, Tree, bytes_decide_same, forms_same, Encodes, IsForm, plain, Accepts, Stops, StopsAll, accepts_once_is, no_two_verdicts_are, no_two_verdicts_of_all_are, stops_all_once_is, stops_once_is, Step, Part, part_at, Reason, HasBytes, Normalises, ShowsBytes, of, shown, nesting_limit, shown_is_lowest, denotes_once, coding_of, Coding, Hexadecimal, Base64, Raw, Work, ScanStops, count_line, line_of, printed, printed_none, refusal_line, stop_line}
 use Rattle.bcs_registry_model.specs.Container as container
 use Rattle.bcs_tool_answers.proofs.Base64Lemmas.{one_base64}
@@ -6,14 +6,14 @@ use Rattle.bcs_tool_answers.proofs.OnePair.{Agrees, Refused, not_both, one_refus
 use Rattle.bcs_tool_answers.proofs.ScanAnswers.{Scans, not_scanned, one_count, one_scan_stop}
 use Rattle.bcs_tool_answers.specs.Input as given
 
--- the bytes that an input gives are its own
+-- an input gives at most one byte string
 one_given : (coding : Coding) (input b c : List ℕ) → given.GivesBytes coding input b → given.GivesBytes coding input c → b ≡ c
 one_given Hexadecimal input b c h k = let same : Ok b ≡ Ok c = sym h ∙ k in cc
 one_given Base64 input b c h k = one_base64 (given.without_blanks input) b c h k
 one_given Raw input b c h k = h ∙ sym k
 
 module _ (work : Work) (input : List ℕ) where
-  -- ---- what is answered at a registry and a format
+  -- ---- the answers for a registry and a format
 
   module _ (r : Entries) (f : Shape) where
     abbrev pub Encoded : ℕ → List ℕ → Type 0
@@ -27,7 +27,7 @@ module _ (work : Work) (input : List ℕ) where
         ⊎ (((e : Reason) × (o : ℕ) × StopsAll r work.limits f bytes e o × (s ≡ 2) × (p ≡ stop_line e o))
         ⊎ ((c : Tree) × Accepts r work.limits f bytes (length bytes) c × (nesting_limit < depth (shown r c (of f))) × (s ≡ 2) × (p ≡ refusal_line (codes "TooNested"))))
 
-    -- where the input gives bytes, what is answered to these; and where it gives none
+    -- the answer if the input gives bytes, and if it gives none
     abbrev pub Given : (List ℕ → ℕ → List ℕ → Type 0) → ℕ → List ℕ → Type 0
     Given P s p = ((bytes : List ℕ) × given.GivesBytes (coding_of work) input bytes × P bytes s p)
         ⊎ (((bytes : List ℕ) → given.GivesBytes (coding_of work) input bytes → ⊥) × (s ≡ 2) × (p ≡ refusal_line (given.input_fault_name (coding_of work))))
@@ -47,7 +47,7 @@ module _ (work : Work) (input : List ℕ) where
     abbrev pub Parted : List Step → ℕ → List ℕ → Type 0
     Parted path s p = Given (Fronted path) s p
 
-    -- how many bytes the value has that is scanned
+    -- the length in bytes of the scanned value
     abbrev pub Counted : List ℕ → ℕ → List ℕ → Type 0
     Counted bytes s p = ((n : ℕ) × (c : Tree) × Scans r work.limits f bytes work.options.front n c × (s ≡ 0) × (p ≡ count_line n))
         ⊎ ((e : Reason) × (o : ℕ) × ScanStops work.options.front r work.limits f bytes e o × (s ≡ 2) × (p ≡ stop_line e o))
@@ -89,7 +89,7 @@ module _ (work : Work) (input : List ℕ) where
     never_both : (bytes : List ℕ) (c : Tree) (e : Reason) (o : ℕ) → Accepts r work.limits f bytes (length bytes) c → StopsAll r work.limits f bytes e o → ⊥
     never_both bytes c e o h k = no_two_verdicts_of_all_are r work.limits f bytes c e o h k
 
-    -- what is shown of accepted bytes nests no deeper than a text that is read
+    -- the text shown for accepted bytes is within the nesting limit
     not_nested : (bytes t : List ℕ) (c : Tree) → ShowsBytes r work.limits f bytes t → Accepts r work.limits f bytes (length bytes) c → nesting_limit < depth (shown r c (of f)) → ⊥
     not_nested bytes t c h k deep =
         let same : h.value ≡ c = one_tree bytes h.value c h.accepted k in

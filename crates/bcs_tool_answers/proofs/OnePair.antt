@@ -1,4 +1,4 @@
--- A text is refused for one reason, and two texts have one answer.
+-- A text is refused for at most one reason, and two texts have at most one answer.
 use Rattle.bcs_tool_answers.proofs.Prelude.{◌≡◌, ◌∙◌, ◌⊎◌, inl, inr, ℕ, List, Bool, true, false, codes, ap, refl, sym, subst, true≢false, Entries, IsOrderly, Shape, Tree, Bounds, json_fault_name, Compares, Denotes, RefusesText, JsonFault, text_denotes_or_is_refused, denoted_is_not_refused, denotes_once, AnswersTexts, different, equal, first_refused, line_of, refusal_line, second_refused}
 use Rattle.bcs_value_model.specs.Same.{Same}
 
@@ -6,7 +6,7 @@ use Rattle.bcs_value_model.specs.Same.{Same}
 abbrev pub Agrees : ℕ → List ℕ → ℕ → List ℕ → Type 0
 Agrees s p z q = (s ≡ z) × (p ≡ q)
 
--- how two texts are answered that denote values
+-- the answer to two texts that denote values
 abbrev word_of : Bool → List ℕ
 word_of true = line_of (codes "equal")
 word_of false = line_of (codes "different")

@@ -1,11 +1,11 @@
--- The words of a job are refused for one reason, and then nothing else is answered.
+-- The arguments of a job are refused for at most one reason, and then there is no other answer.
 use Rattle.bcs_tool_answers.proofs.Prelude.{◌≡◌, ◌∙◌, inl, inr, ℕ, List, Option, Some, None, Result, Ok, Err, true, false, ap, refl, string_bytes, sym, subst, is_some, result_err, true≢false, Entries, container_at, growth_fault, Grows, IsFirstGrowthFault, Shape, RegistryFault, GrowthFault, fault_exactly, ok_exactly, IsLeastFault, one_fault, one_format_fault, same_format, same_registry, Step, SpellsSteps, Work, Command, IsExact, lists, IsFormatWord, IsPathOf, IsRegistry, ReadsInput, RefusesJobOf, RefusesCheck, RefusesEarly, RefusesFormatWord, RefusesFormatted, RefusesGrowth, RefusesPart, is_json_word, works_on_values, JobFault, BadPath, Registry, Growth}
 use Rattle.bcs_tool_answers.proofs.NotationLemmas.{not_both_spelled}
 use Rattle.bcs_tool_command_line.specs.declared.command.Command.TheVariants as command
 
 -- ---- FORMAT
 
--- a word that is JSON is no name
+-- an argument that is JSON isn't a name
 no_two_words : {A : Type 0} (word : List ℕ) → is_json_word word ≡ true → is_json_word word ≡ false → A
 no_two_words word h k = absurd (true≢false (sym h ∙ k))
 
@@ -154,7 +154,7 @@ one_refusal command.Same work e g exact h k = one_formatted work e g h k
 one_refusal command.Part work e g exact h k = one_part work e g h k
 one_refusal command.Scan work e g exact h k = one_formatted work e g h k
 
--- before a refusal stands no list, where the output is exact
+-- no list comes before a refusal if the output is exact
 pub unlisted : (c : Command) (work : Work) (e : JobFault) → IsExact c work.options.notation work.options.list → RefusesJobOf c work e → lists work e ≡ false
 unlisted c work (Registry e) exact h = refl
 unlisted c work BadPath exact h = refl
@@ -196,7 +196,7 @@ module _ (work : Work) where
   not_valued : (fault : JobFault) → RefusesFormatted work fault → ReadsInput work → ⊥
   not_valued fault h (r, s, asks) = not_formatted work fault r s h asks.is_registry asks.is_format
 
-  -- nor does a job that is refused for its words
+  -- nor does a job that is refused for its arguments
   refused_reads_nothing : (c : Command) (fault : JobFault) → work.command ≡ c → RefusesJobOf c work fault → ReadsInput work → ⊥
   refused_reads_nothing command.Check fault is h reads = check_reads_nothing is reads
   refused_reads_nothing command.Grows fault is h reads = growth_reads_nothing is reads

@@ -1,11 +1,11 @@
--- The answers to pairs of lines, one after another: one more behind them.
+-- The answers to pairs of lines in order: appending one more.
 use Rattle.bcs_tool_answers.proofs.Prelude.{◌≡◌, ◌<◌, ◌++◌, ◌∷◌, [], ℕ, suc, List, append_assoc, append-nil, ap, arith, length, refl, subst, sym, greatest, AnswersLinePair, AnswersPair, AnswersPairs, Ending, Together, Work}
 use Rattle.bcs_tool_answers.specs.PairAnswers as pairs
 use Rattle.bcs_tool_answers.proofs.AnswerLemmas.{pair_below}
 use Rattle.bcs_tool_answers.proofs.FormLemmas.{form_below}
 
 module _ (work : Work) where
-  -- what is answered behind pairs stands behind their answers
+  -- the answers to later pairs come after those to earlier pairs
   pub pairs_then : (firsts seconds moreFirsts moreSeconds : List (List ℕ)) (ending : Ending) (statuses outputs more output : List ℕ)
       → AnswersPairs work firsts seconds Together statuses outputs → AnswersPairs work moreFirsts moreSeconds ending more output
       → AnswersPairs work (firsts ++ moreFirsts) (seconds ++ moreSeconds) ending (statuses ++ more) (outputs ++ output)
@@ -14,7 +14,7 @@ module _ (work : Work) where
       subst (λ (bytes : List ℕ). AnswersPairs work (f ∷ fs ++ moreFirsts) (g ∷ gs ++ moreSeconds) ending (s ∷ ss ++ more) bytes) (sym (append_assoc o os output))
       (pairs.next f g (fs ++ moreFirsts) (gs ++ moreSeconds) ending s (ss ++ more) o (os ++ output) h (pairs_then fs gs moreFirsts moreSeconds ending ss os more output rest behind))
 
-  -- a pair alone
+  -- a single pair
   pub one_alone : (first second : List ℕ) (status : ℕ) (output : List ℕ) → AnswersLinePair work first second status output
       → AnswersPairs work (first ∷ []) (second ∷ []) Together (status ∷ []) output
   one_alone first second status output answer =

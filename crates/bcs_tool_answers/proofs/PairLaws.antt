@@ -9,7 +9,7 @@ use Rattle.bcs_tool_answers.proofs.SomePair.{some_pair}
 module _ (work : Work) where
   -- ---- at most one
 
-  -- a job asks for one format of one registry
+  -- a job has only one format and one registry
   one_pair_answer : (first second : List ℕ) (s z : ℕ) (p q : List ℕ) → AnswersPair work first second s p → AnswersPair work first second z q → Agrees s p z q
   one_pair_answer first second s z p q (r, f, asks, x) (n, g, also, y) =
       let same : n ≡ r = same_registry work.registry.items n r also.is_registry.0 asks.is_registry.0 in
@@ -17,7 +17,7 @@ module _ (work : Work) where
       one_pair r work.limits f first second asks.is_registry.0.2.orderly s z p q x
       (subst (λ (i : Shape). AnswersTexts r work.limits i first second z q) format (subst (λ (m : Entries). AnswersTexts m work.limits g first second z q) same y))
 
-  -- the pairs' answers, as the lines have them
+  -- the answers to the pairs, by recursion on the lines
   abbrev InTurn : List (List ℕ) → List (List ℕ) → List ℕ → List ℕ → Type 0
   InTurn [] [] statuses outputs = (statuses ≡ []) × (outputs ≡ [])
   InTurn [] (g ∷ gs) statuses outputs = (statuses ≡ 1 ∷ []) × (outputs ≡ line_of (codes "different"))

@@ -1,4 +1,4 @@
--- The answers to a part, by what `part` hands out.
+-- The answers to a part, from what `part` returns.
 use Rattle.bcs_tool_answers.proofs.Prelude.{◌≡◌, ℕ, List, Option, Some, None, refl, string_bytes, sym, subst, Entries, Shape, Tree, Accepts, Step, Part, part_at, GivesPart, SpellsSteps, Answers, IsAsked, found, nowhere, printed, printed_none, GivesBytes, coding_of, Work}
 use Rattle.bcs_registry_model.specs.Container.{of}
 use Rattle.bcs_decode_parts.specs.declared.part.Part as handed

@@ -1,8 +1,8 @@
--- Bytes are scanned with one count, or stop for one reason at one place.
+-- Scanning bytes gives exactly one count, or one reason and place of a stop.
 use Rattle.bcs_tool_answers.proofs.Prelude.{◌≡◌, ◌⊎◌, inl, inr, ℕ, List, Bool, false, length, refl, subst, true, true≢false, Entries, Shape, Bounds, Tree, Accepts, AreBytes, Reason, accepts_once_is, no_two_verdicts_are, no_two_verdicts_of_all_are, some_verdict_is, some_verdict_of_all_is, stops_all_once_is, stops_once_is, ScanStops}
 
 module _ (registry : Entries) (limits : Bounds) (s : Shape) (bytes : List ℕ) where
-  -- the value at the front is all that is asked for
+  -- a value is at the front, and is all of the bytes unless only the front is requested
   abbrev pub Scans : Bool → ℕ → Tree → Type 0
   Scans front n c = Accepts registry limits s bytes n c × (front ≡ false → n ≡ length bytes)
 

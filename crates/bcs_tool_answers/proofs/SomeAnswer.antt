@@ -1,4 +1,4 @@
--- Each job has an answer to each input within the size, a lemma for each command.
+-- Each job has an answer to each input within the size limit, with a lemma for each command.
 use Rattle.bcs_tool_answers.proofs.Prelude.{◌≡◌, inl, inr, ℕ, List, true, refl, string_bytes, subst, sym, [], Option, Some, None, cases_lt, depth, Entries, Shape, UnknownName, Tree, some_verdict_is, some_verdict_of_all_is, Accepts, AreBytes, Part, Step, part_at, of, nesting_limit, some_bytes, some_normal_text, some_shown_text, SomeAnswer, Answers, IsAsked, IsWithin, checked, compared, damaged, decoded, described, encoded, exampled, explained, found, front_stopped, grown, no_bytes, normalised, nowhere, refused, refused_early, scan_stopped, scanned, stopped, too_nested, GivesBytes, IsFormatWord, IsPathOf, IsRegistry, RefusesJobOf, name_of, works_on_values, JobFault, BadPath, Growth, Registry, coding_of, Work, SpellsSteps, Command}
 use Rattle.bcs_registry_model.specs.Container as container
 use Rattle.bcs_json_spec.specs.Shown as value
@@ -15,7 +15,7 @@ module _ (work : Work) (input : List ℕ) where
   abbrev Answered : Type 0
   Answered = (status : ℕ) × (output : List ℕ) × Answers work input status output
 
-  -- ---- the words
+  -- ---- the arguments
 
   refused_words : (c : Command) → work.command ≡ c → (fault : JobFault) → RefusesJobOf c work fault → Answered
   refused_words c is fault h = (_, _, refused_early fault [] (subst (λ (d : Command). RefusesJobOf d work fault) (sym is) h) (λ _. refl))
@@ -59,7 +59,7 @@ module _ (work : Work) (input : List ℕ) where
     | inl h ↦ (_, _, described h.0 h.1 [] (record { is_command = is; is_registry = h.2; is_format = h.3 }))
   ]
 
-  -- ---- an input, at a format of a registry
+  -- ---- an input, for a format of a registry
 
   module _ (r : Entries) (s : Shape) (registry : IsRegistry work.registry.items r) where
     some_encode : IsAsked work input command.Encode r s → Answered
@@ -81,7 +81,7 @@ module _ (work : Work) (input : List ℕ) where
         let pair = some_pair r work.limits s work.second.items input registry.0.2.orderly in
         (_, _, compared r s pair.0 pair.1 asked pair.2)
 
-    -- bytes are a value's, of which the text nests within the limit or not, or they stop
+    -- the bytes are a value's, whose text is within the nesting limit or not; or they stop
     bytes_answered : IsAsked work input command.Decode r s → (bytes : List ℕ) → AreBytes bytes → GivesBytes (coding_of work) input bytes → Answered
     bytes_answered asked bytes are given = elim (some_verdict_of_all_is r work.limits s bytes are) [
       | inr h ↦ (_, _, stopped r s bytes h.0 h.1 asked given h.2)
@@ -99,7 +99,7 @@ module _ (work : Work) (input : List ℕ) where
       | inr none ↦ (_, _, no_bytes command.Decode r s (inl refl) asked none)
     ]
 
-    -- bytes are a value's, or stop being one, and are explained
+    -- the bytes are a value's or stop being one, and either way they are explained
     explain_answered : IsAsked work input command.Explain r s → (bytes : List ℕ) → AreBytes bytes → GivesBytes (coding_of work) input bytes → Answered
     explain_answered asked bytes are given = elim (some_verdict_of_all_is r work.limits s bytes are) [
       | inl h ↦ (_, _, explained r s bytes [] h.0 asked given h.1)
@@ -112,7 +112,7 @@ module _ (work : Work) (input : List ℕ) where
       | inr none ↦ (_, _, no_bytes command.Explain r s (inr (inr (inl refl))) asked none)
     ]
 
-    -- a value stands at the front of bytes, and the steps lead to a part of it or nowhere; or the bytes stop
+    -- a value is at the front of the bytes, and the steps lead to a part of it or nowhere; or the bytes stop
     front_answered : IsAsked work input command.Part r s → (path : List Step) → SpellsSteps work.options.notation (string_bytes work.path) path → (bytes : List ℕ) → AreBytes bytes → GivesBytes (coding_of work) input bytes → Answered
     front_answered asked path spells bytes are given = elim (some_verdict_is r work.limits s bytes are) [
       | inr h ↦ (_, _, front_stopped r s bytes h.0 h.1 asked given h.2)
@@ -129,7 +129,7 @@ module _ (work : Work) (input : List ℕ) where
       | inr none ↦ (_, _, no_bytes command.Part r s (inr (inl refl)) asked none)
     ]
 
-    -- a value stands at the front of bytes, and is all of them where all are asked for; or the bytes stop
+    -- a value is at the front of the bytes, and is all of them unless only the front is requested; or the bytes stop
     scan_answered : IsAsked work input command.Scan r s → (bytes : List ℕ) → AreBytes bytes → GivesBytes (coding_of work) input bytes → Answered
     scan_answered asked bytes are given = elim (some_scan r work.limits s bytes work.options.front are) [
       | inl h ↦ (_, _, scanned r s bytes h.0 h.1 asked given h.2.0 h.2.1)
@@ -144,7 +144,7 @@ module _ (work : Work) (input : List ℕ) where
 
   -- ---- each command
 
-  -- a command on values asks for its input, where its words are good
+  -- a command on values reads its input if its arguments are valid
   asks_for : (c : Command) → works_on_values c ≡ true → IsWithin work input → work.command ≡ c → (r : Entries) (s : Shape) → IsRegistry work.registry.items r → IsFormatWord r (string_bytes work.format) s
       → (path : List Step) → IsPathOf c work.options.notation (string_bytes work.path) path → IsAsked work input c r s
   asks_for c values within is r s registry format path spells =
@@ -152,7 +152,7 @@ module _ (work : Work) (input : List ℕ) where
       let has : IsPathOf work.command work.options.notation (string_bytes work.path) path = subst (λ (d : Command). IsPathOf d work.options.notation (string_bytes work.path) path) (sym is) spells in
       record { is_command = is; asks = record { command = works; is_registry = registry; is_format = format; has_path = (path, has) }; within = within }
 
-  -- a command on values without a PATH, from its answer to an input that is asked for
+  -- a command on values without a PATH, given its answer for valid arguments
   valued : (c : Command) → works_on_values c ≡ true → IsPathOf c work.options.notation (string_bytes work.path) [] → IsWithin work input
       → ((r : Entries) (s : Shape) → IsRegistry work.registry.items r → IsAsked work input c r s → Answered) → work.command ≡ c → Answered
   valued c values none within answer is = elim (some_formatted work) [
@@ -160,7 +160,7 @@ module _ (work : Work) (input : List ℕ) where
     | inl h ↦ answer h.0 h.1 h.2 (asks_for c values within is h.0 h.1 h.2 h.3 [] none)
   ]
 
-  -- the one with a PATH
+  -- the command with a PATH
   of_part : AreBytes input → IsWithin work input → work.command ≡ command.Part → Answered
   of_part are within is = elim (some_formatted work) [
     | inr h ↦ refused_words command.Part is h.0 (refuses_formatted command.Part work h.0 refl h.1)

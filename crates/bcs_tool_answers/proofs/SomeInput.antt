@@ -1,8 +1,8 @@
--- An input gives bytes, or gives none.
+-- An input either gives bytes or is invalid.
 use Rattle.bcs_tool_answers.proofs.Prelude.{◌≡◌, ◌∙◌, ◌<◌, ◌⊎◌, inl, inr, ℕ, List, Result, Ok, Err, refl, sym, All-from_get_or, decode_of-ok, decode_of, FromHexError, AreBytes, IsHexOf, GivesBytes, without_blanks, Coding, Hexadecimal, Base64, Raw}
 use Rattle.bcs_tool_answers.proofs.Base64Lemmas.{some_base64}
 
--- digits are those of some bytes, or of none
+-- digits either represent some bytes or are invalid
 digits : (text : List ℕ) → ((b : List ℕ) × AreBytes b × IsHexOf text b) ⊎ ((b : List ℕ) → IsHexOf text b → ⊥)
 digits text = at (decode_of text) refl
   where
@@ -10,7 +10,7 @@ digits text = at (decode_of text) refl
     at (Ok b) is = inl (b, All-from_get_or (λ x. x < 256) b 0 (λ i within. (decode_of-ok text b is).3 i), is)
     at (Err e) is = inr (λ b h. cc (sym is ∙ h))
 
--- an input of bytes gives bytes, or none
+-- an input that consists of bytes either gives bytes or is invalid
 pub some_given : (input : List ℕ) (coding : Coding) → AreBytes input → ((b : List ℕ) × AreBytes b × GivesBytes coding input b) ⊎ ((b : List ℕ) → GivesBytes coding input b → ⊥)
 some_given input Hexadecimal are = digits (without_blanks input)
 some_given input Base64 are = elim (some_base64 (without_blanks input)) [

@@ -2,7 +2,7 @@
 use Rattle.bcs_tool_answers.proofs.Prelude.{◌⊎◌, inl, inr, ℕ, List, Bool, true, false, bytes_eq, bytes_eq-Decides, Entries, IsOrderly, Shape, Tree, Bounds, compares, Compares, Denotes, RefusesText, JsonFault, text_denotes_or_is_refused, some_bytes, AnswersTexts, different, equal, first_refused, second_refused}
 
 module _ (r : Entries) (limits : Bounds) (f : Shape) where
-  -- a text denotes a value, or is refused
+  -- a text either denotes a value or is refused
   pub validated : IsOrderly r → (text : List ℕ) → ((t : Tree) × Denotes r limits f text t) ⊎ ((e : JsonFault) × RefusesText r limits f text e)
   validated orderly text = (text_denotes_or_is_refused r limits f text orderly).some
 
@@ -10,7 +10,7 @@ module _ (r : Entries) (limits : Bounds) (f : Shape) where
     abbrev pub Answered : Type 0
     Answered = (status : ℕ) × (output : List ℕ) × AnswersTexts r limits f first second status output
 
-    -- two texts that denote values are equal or not
+    -- two texts that denote values are equal or different
     two_values : (answer : Bool) → Compares r limits f first second answer → Answered
     two_values true h = (_, _, equal h)
     two_values false h = (_, _, different h)

@@ -1,4 +1,4 @@
--- Faults that a `?` hands on.
+-- Faults that a `?` returns.
 use Rattle.bcs_tool_answers.proofs.Prelude.{◌≡◌, ◌≢◌, ◌∙◌, Result, IfErr, ap, sym, subst, IsErrAnd, err_from_is_err_and, RegistryFault, JobFault, Registry}
 use Rattle.bcs_registry_model.specs.declared.fault.RegistryFault.TheVariants.{OutOfMemory}
 

@@ -8,7 +8,7 @@ use Rattle.bcs_tool_answers.specs.Answers.{Answers}
 use Rattle.bcs_tool_answers.specs.Input.{GivesBytes}
 use Rattle.bcs_tool_answers.specs.declared.answer.Answer.{Answer}
 
--- the byte is a printable character of ASCII or a space, so it isn't a line feed
+-- the byte is printable ASCII, spaces included, so it isn't a line feed
 abbrev pub IsPrintable : ℕ → Type 0
 IsPrintable byte = (32 ≤ byte) × (byte ≤ 126)
 
