@@ -47,7 +47,7 @@ module _ (work : Work) (input : List ℕ) where
     abbrev pub Parted : List Step → ℕ → List ℕ → Type 0
     Parted path s p = Given (Fronted path) s p
 
-    -- the length in bytes of the scanned value
+    -- the length in bytes of the scanned value, or where the bytes stop
     abbrev pub Counted : List ℕ → ℕ → List ℕ → Type 0
     Counted bytes s p = ((n : ℕ) × (c : Tree) × Scans r work.limits f bytes work.options.front n c × (s ≡ 0) × (p ≡ count_line n))
         ⊎ ((e : Reason) × (o : ℕ) × ScanStops work.options.front r work.limits f bytes e o × (s ≡ 2) × (p ≡ stop_line e o))

@@ -196,7 +196,7 @@ module _ (work : Work) where
   not_valued : (fault : JobFault) → RefusesFormatted work fault → ReadsInput work → ⊥
   not_valued fault h (r, s, asks) = not_formatted work fault r s h asks.is_registry asks.is_format
 
-  -- nor does a job that is refused for its arguments
+  -- a job that is refused for its arguments reads no input
   refused_reads_nothing : (c : Command) (fault : JobFault) → work.command ≡ c → RefusesJobOf c work fault → ReadsInput work → ⊥
   refused_reads_nothing command.Check fault is h reads = check_reads_nothing is reads
   refused_reads_nothing command.Grows fault is h reads = growth_reads_nothing is reads

@@ -2,7 +2,7 @@
 use Rattle.bcs_tool_answers.proofs.Prelude.{◌≡◌, ◌∙◌, ◌<◌, ◌⊎◌, inl, inr, ℕ, List, Result, Ok, Err, refl, sym, All-from_get_or, decode_of-ok, decode_of, FromHexError, AreBytes, IsHexOf, GivesBytes, without_blanks, Coding, Hexadecimal, Base64, Raw}
 use Rattle.bcs_tool_answers.proofs.Base64Lemmas.{some_base64}
 
--- digits either represent some bytes or are invalid
+-- a text either is the hexadecimal of some bytes or is invalid
 digits : (text : List ℕ) → ((b : List ℕ) × AreBytes b × IsHexOf text b) ⊎ ((b : List ℕ) → IsHexOf text b → ⊥)
 digits text = at (decode_of text) refl
   where

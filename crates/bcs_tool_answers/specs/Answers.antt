@@ -128,7 +128,7 @@ pub data Answers (work : Work) (input : List ℕ) : ℕ → List ℕ → Type 0 
   described : (registry : Entries) (s : Shape) (text : List ℕ) → AsksOfFormat work command.Schema registry s → Answers work input 0 text
   -- `encode`: the bytes of the value that the text denotes
   encoded : (registry : Entries) (s : Shape) (bytes : List ℕ) → IsAsked work input command.Encode registry s → HasBytes registry work.limits s input bytes → Answers work input 0 (printed (coding_of work) bytes)
-  -- `normalise`: its normal text
+  -- `normalise`: the normal text of that value
   normalised : (registry : Entries) (s : Shape) (text : List ℕ) → IsAsked work input command.Normalise registry s → Normalises registry work.limits s input text → Answers work input 0 (line_of text)
   -- `encode` and `normalise`: the text is refused
   refused : (asked : Command) (registry : Entries) (s : Shape) (fault : JsonFault) → IsOneText asked → IsAsked work input asked registry s → RefusesText registry work.limits s input fault → Answers work input 2 (refusal_line (json_fault_name fault))
@@ -138,7 +138,7 @@ pub data Answers (work : Work) (input : List ℕ) : ℕ → List ℕ → Type 0 
   decoded : (registry : Entries) (s : Shape) (bytes text : List ℕ) → IsAsked work input command.Decode registry s → given.GivesBytes (coding_of work) input bytes → ShowsBytes registry work.limits s bytes text → Answers work input 0 (line_of text)
   -- `decode`: the bytes stop being a value at a place
   stopped : (registry : Entries) (s : Shape) (bytes : List ℕ) (reason : Reason) (place : ℕ) → IsAsked work input command.Decode registry s → given.GivesBytes (coding_of work) input bytes → StopsAll registry work.limits s bytes reason place → Answers work input 2 (stop_line reason place)
-  -- `decode`: they are a value's bytes, but its text would exceed the nesting limit
+  -- `decode`: the bytes are a value's, but its text would exceed the nesting limit
   too_nested : (registry : Entries) (s : Shape) (bytes : List ℕ) (c : Tree) → IsAsked work input command.Decode registry s → given.GivesBytes (coding_of work) input bytes → Accepts registry work.limits s bytes (length bytes) c → nesting_limit < depth (value.shown registry c (of s)) → Answers work input 2 (refusal_line (codes "TooNested"))
   -- `explain`: a text for display, if the input gives the bytes of exactly one value
   explained : (registry : Entries) (s : Shape) (bytes text : List ℕ) (c : Tree) → IsAsked work input command.Explain registry s → given.GivesBytes (coding_of work) input bytes → Accepts registry work.limits s bytes (length bytes) c → Answers work input 0 text

@@ -24,12 +24,12 @@ pub fn some_answer_a_line()
     ensures { SomeAnswerALine }
 {}
 
-/// Two files that are compared line by line, without JSON refusals, have at most one answer: one status and one output.
+/// Two files that are compared line by line have at most one answer, unless refusals are JSON.
 pub fn one_comparison()
     ensures { OneComparison }
 {}
 
-/// They have an answer if the job's own arguments are not refused.
+/// Two files that are compared line by line have an answer if the job's own arguments are not refused.
 #[tactic(auto, using(crate::proofs::PairLaws::some_comparison))]
 pub fn some_comparison()
     ensures { SomeComparison }
