@@ -1,4 +1,4 @@
--- The status of a job, wherever its answer goes.
+-- The status of a job, whether its answer goes to standard output or to a file.
 use Rattle.bcs_tool.proofs.Prelude.{◌≡◌, ◌<◌, arith, inl, inr, ℕ, Bool, List, Option, Some, Job, Outcome, Performs}
 use Rattle.bcs_tool.specs.Delivering.{Delivers, FailsToWrite, Finishes, PrintsAnswer, held_in_part, refused, to_file, to_output, unwritten, without_output, written}
 use Rattle.bcs_tool.specs.HeldOutput.{held_bytes, ran_out}

@@ -1,27 +1,27 @@
--- What a stream was told: a text in one piece or in two, or a front of it.
+-- What was written to a stream: a text in one piece or in two, or a prefix of it.
 use Rattle.bcs_tool.proofs.Prelude.{◌≡◌, ◌<◌, ◌+◌, ◌++◌, ◌⊎◌, Ok, Err, Result, arith, inl, inr, ℕ, List, Bool, Option, length, length-append, sym, subst, take, IfErr, OnOk, String, Global, take-append-add, take-append-le, Took, TookThenFailed, TookThenFailed-then, Took-then, Job, LineFault, Usage, Help, Outcome, Work, EndsPairs, PairRuns, Ends, IsOutcomeOf, PutFront, Runs, Interruption, Performs, PerformsOne, PerformsPairs, ReportsFault, Put, first_unopened, lacks_file, no_room, over_file, over_input, over_one, over_pairs, pairs_over_file, pairs_over_input, second_unopened, unopened}
 use Rattle.std.specs.Prelude.{string_bytes}
 use Rattle.bcs_tool_command_line.specs.declared.line_fault.LineFault.TheVariants.{OutOfMemory}
 
 module _ {K : Type 0} (taken : K → Option (List ℕ)) (is_failed : K → Bool) where
-  -- a text that is put, or else in part
+  -- a text is written, or a part of it
   pub is_told : {A : Type 0} (r : Result A ℕ) (old new : K) (text : List ℕ)
       → OnOk r (Took taken is_failed old new text) → IfErr r (λ n. (n < length text) × TookThenFailed taken is_failed old new (take n text)) → Put taken is_failed old new text
   is_told (Ok a) old new text whole part = inl whole
   is_told (Err n) old new text whole part = inr (n, part.0, part.1)
 
-  -- a front of a text is one of the text with more behind it
+  -- a prefix of a text is also a prefix of the text with more after it
   pub front_of_more : (old new : K) (xs ys : List ℕ) → PutFront taken is_failed old new xs → PutFront taken is_failed old new (xs ++ ys)
   front_of_more old new xs ys (n, short, lost) =
       (n, omega (arith, length-append xs ys), subst (λ (bs : List ℕ). TookThenFailed taken is_failed old new bs) (sym (take-append-le n xs ys (omega arith))) lost)
 
-  -- a text was put, and then another was told
+  -- a text was written completely, and then another one, or a prefix of it
   pub told_then : (a b c : K) (xs ys : List ℕ) → Took taken is_failed a b xs → Put taken is_failed b c ys → Put taken is_failed a c (xs ++ ys)
   told_then a b c xs ys first (inl whole) = inl (Took-then taken is_failed a b c xs ys first whole)
   told_then a b c xs ys first (inr (n, short, lost)) =
       inr (length xs + n, omega (arith, length-append xs ys), subst (λ (bs : List ℕ). TookThenFailed taken is_failed a c bs) (sym (take-append-add xs ys n)) (TookThenFailed-then taken is_failed a b c xs (take n ys) first lost))
 
--- ---- words that are no job
+-- ---- arguments that aren't a job
 
 module _ {O E : Type 0} (taken : O → Option (List ℕ)) (is_failed : O → Bool) (told : E → Option (List ℕ)) (has_failed : E → Bool) where
   pub fault_status : (keeps_lines : Bool) (fault : LineFault) (out out' : O) (errors errors' : E) (status : ℕ)
@@ -43,7 +43,7 @@ module _ {S K : Type 0} (content : S → Option (List ℕ)) (has_stopped : S →
       go (Ok done) answered is = subst (λ (r : Outcome). r.status < 5) (sym is) (omega (arith, answered.below))
       go (Err e) fails is = omega (arith, is.status)
 
--- and so does one of a run over two files
+-- and similarly for a run over two files
 module _ {F S K : Type 0} (former : F → Option (List ℕ)) (former_stopped : F → Bool) (former_allowance : F → ℕ)
     (content : S → Option (List ℕ)) (has_stopped : S → Bool) (allowance : S → ℕ) (taken : K → Option (List ℕ)) (is_failed : K → Bool)
     (work : Work) (name other : List ℕ) (first first' : F) (second second' : S) (out out' : K) (outcome : Outcome) where

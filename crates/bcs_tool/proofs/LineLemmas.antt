@@ -1,7 +1,7 @@
 -- Lines of a content, of which the first ones were read.
 use Rattle.bcs_tool.proofs.Prelude.{◌≡◌, ◌≢◌, ◌⊎◌, ◌≤◌, ◌<◌, ◌+◌, ◌++◌, ◌∙◌, ◌==◌, inl, inr, Bool, true, false, ℕ, zero, suc, cond, List, [], ◌∷◌, Option, Some, None, ap, append_assoc, append-nil, arith, length, length-append, refl, subst, sym, take, IfSome, All, Consumes, IsAtEnd, All-head, All-tail, take-append-le, ended, HasNoLineFeed, lines_of, onto, lines_of-last, lines_of-line, no_feed_first, no_feed_rest, IsContent, size_limit, StandBefore, AreAll, IsPast, AreFirst, IsLongBehind}
 
--- lines without line feeds, each with one behind it, are the lines of that text
+-- if lines contain no line feeds, they are the lines of the text that ends each of them with one
 ended_lines : (lines : List (List ℕ)) → All HasNoLineFeed lines → lines_of (ended lines) ≡ lines
 ended_lines [] plain = refl
 ended_lines (l ∷ ls) plain =
@@ -15,7 +15,7 @@ onto_long c n [] (inl none) = (c ∷ [], [], refl, omega (arith, none))
 onto_long c n (l ∷ ls) (inl none) = (c ∷ l, ls, refl, omega (arith, none))
 onto_long c n ls (inr (long, more, is, within)) = (c ∷ long, more, ap (onto c) is, omega (arith, within))
 
--- it is as long as the text is without a line feed
+-- it is at least as long as any prefix of the text that contains no line feed
 first_long : (n : ℕ) (text : List ℕ) → suc n ≤ length text → HasNoLineFeed (take (suc n) text)
     → (long : List ℕ) × (more : List (List ℕ)) × (lines_of text ≡ long ∷ more) × (suc n ≤ length long)
 first_long n [] within plain = absurd (omega (arith, within))
@@ -26,7 +26,7 @@ first_long (suc n) (c ∷ cs) within plain =
     let h = onto_long c (suc n) (lines_of cs) (inr (first_long n cs (omega (arith, within)) (no_feed_rest c (take (suc n) cs) plain))) in
     (h.0, h.1, ap (λ b. cond b ([] ∷ lines_of cs) (onto c (lines_of cs))) (no_feed_first c (take (suc n) cs) plain) ∙ h.2, h.3)
 
--- ---- what stands behind lines that were read
+-- ---- what follows the lines that were read
 
 pub stand_nothing : (c : Option (List ℕ)) → StandBefore c c [] []
 stand_nothing None = tt
@@ -56,7 +56,7 @@ stand_last (Some all) (Some left) (Some more) lines line rest given after taken 
     h ∙ ap (λ (t : List ℕ). lines ++ lines_of t) text ∙ ap (λ (ls : List (List ℕ)). lines ++ ls) (lines_of-last line plain some)
     ∙ sym (append-nil (lines ++ line ∷ [])) ∙ ap (λ (ls : List (List ℕ)). (lines ++ line ∷ []) ++ ls) behind
 
--- nothing is left, so the lines that were read are all lines of a content
+-- nothing is left, so the lines that were read are all the lines of a content
 pub stand_end : (c b d : Option (List ℕ)) (lines : List (List ℕ)) (rest : List ℕ) → Consumes b d [] → rest ≡ [] → IsAtEnd d → All HasNoLineFeed lines
     → StandBefore c b lines rest → (bytes : List ℕ) × IsContent c bytes × (lines_of bytes ≡ lines)
 stand_end None b d lines rest taken none ends plain h = (ended lines, tt, ended_lines lines plain)
@@ -108,9 +108,9 @@ stand_long (Some all) (Some left) (Some more) lines rest given taken longer plai
       longer = omega (arith, found.3);
     }
 
--- ---- the line behind those that were read
+-- ---- the line after those that were read
 
--- what stands behind so many is one
+-- the element after a given number of others is unique
 same_place : {A : Type 0} (xs ys : List A) (x y : A) (ls ms : List A) → xs ++ x ∷ ls ≡ ys ++ y ∷ ms → length xs ≡ length ys → x ≡ y
 same_place [] [] x y ls ms same many = cc
 same_place [] (o ∷ os) x y ls ms same many = absurd (omega (arith, many))
@@ -130,13 +130,13 @@ stand_within (Some all) (Some left) lines line rest within h = λ behind.
     let same = same_place lines behind.lines line behind.long (lines_of (rest ++ left)) behind.more parts (sym behind.many) in
     omega (arith, within, behind.longer, ap (λ (l : List ℕ). length l) same)
 
--- and none stands behind all of them
+-- and none comes after all of them
 pub all_within : (c : Option (List ℕ)) (lines : List (List ℕ)) → AreAll c lines → IfSome c (λ all. ¬ IsLongBehind (length lines) all)
 all_within None lines is = tt
 all_within (Some all) lines is = λ behind.
     omega (arith, behind.many, ap (λ (ls : List (List ℕ)). length ls) (sym is ∙ behind.parts), length-append behind.lines (behind.long ∷ behind.more))
 
--- with more before it a text has no fewer lines
+-- a text doesn't have fewer lines with more bytes before it
 onto_more : (b : Bool) (c : ℕ) (ls : List (List ℕ)) → length ls ≤ length (cond b ([] ∷ ls) (onto c ls))
 onto_more true c ls = omega arith
 onto_more false c [] = omega arith

@@ -11,7 +11,7 @@ module _ {F S : Type 0} (former : F → Option (List ℕ)) (former_stopped : F �
     (content : S → Option (List ℕ)) (has_stopped : S → Bool) (allowance : S → ℕ) (has_first has_second : Bool)
     (a b : F) (x y : S) (one one' other other' : HeldLine)
     (first : ReadsOn former former_stopped former_allowance has_first a b one one') (second : ReadsOn content has_stopped allowance has_second x y other other') where
-  -- by which of two files has a next line, both have one, or one has ended
+  -- whether both files have a next line, or one has ended
   pub both_read : ending_of has_first has_second ≡ None → ReadsBoth former former_stopped former_allowance content has_stopped allowance true true a b x y one one' other other'
   both_read none = go has_first has_second none (record { of_first = first; of_second = second })
     where
@@ -62,7 +62,7 @@ module _ {F S K : Type 0} (former : F → Option (List ℕ)) (former_stopped : F
     second_many : length far.seconds ≡ tally.answered
     second_many = sym (as_many_pairs work far.firsts far.seconds far.statuses far.output far.answers).1 ∙ many
 
-    -- what was put before the next pair
+    -- what was written before the next pair
     pub put_pairs : PutPairs former former_stopped former_allowance content has_stopped allowance taken is_failed work first second out out' tally.answered
     put_pairs = record {
       firsts = far.firsts;
@@ -78,7 +78,7 @@ module _ {F S K : Type 0} (former : F → Option (List ℕ)) (former_stopped : F
 
     -- ---- a pair
 
-    -- a pair was read, and its answer put
+    -- a pair was read, and its answer was written
     pub pairs_so_far : (out'' : K) (status : ℕ) (output : List ℕ) (more : Tally)
         → ReadsBoth former former_stopped former_allowance content has_stopped allowance true true a b x y one one' other other'
         → AnswersLinePair work one'.line other'.line status output → sink.Took taken is_failed out' out'' output
@@ -97,7 +97,7 @@ module _ {F S K : Type 0} (former : F → Option (List ℕ)) (former_stopped : F
       counted = counts far.statuses far.counted;
     }
 
-    -- so many pairs can be counted
+    -- one more pair can be counted
     pub room_of_first : former_allowance first < 2 ^ 64 → ReadsOn former former_stopped former_allowance true a b one one' → tally.answered + 1 < 2 ^ 64
     room_of_first bounded takes =
         omega (
@@ -122,7 +122,7 @@ module _ {F S K : Type 0} (former : F → Option (List ℕ)) (former_stopped : F
 
     -- ---- the end
 
-    -- the answer behind the pairs was put, which is the last
+    -- the answer after the pairs, which is the last one, was written
     paired_with : (ending : Ending) (firsts seconds : List (List ℕ)) (statuses output : List ℕ) (out'' : K) (more : Tally)
         → MayHave (former first) (far.firsts ++ firsts) → MayHave (content second) (far.seconds ++ seconds) → AnswersPairs work firsts seconds ending statuses output
         → sink.Took taken is_failed out' out'' output → IsTally more (far.statuses ++ statuses)
@@ -157,7 +157,7 @@ module _ {F S K : Type 0} (former : F → Option (List ℕ)) (former_stopped : F
         paired_with SecondEnds (one'.line ∷ ours.0) [] (1 ∷ []) (line_of (codes "different")) out'' more ours.1
         (none_behind content has_stopped allowance second x y far.seconds other other' far.second_read reads.of_second) (pairs.second_ends one'.line ours.0) put counted
 
-    -- a front of the answer behind the pairs was put
+    -- a prefix of the answer after the pairs was written
     part_behind : (status : ℕ) (output : List ℕ) (out'' : K) → AnswersBehind work (former first) (content second) far.firsts far.seconds status output
         → PutFront taken is_failed out' out'' output → PutPairPart former former_stopped former_allowance content has_stopped allowance taken is_failed work first second out out'' tally.answered
     part_behind status output out'' next (shown, short, lost) = record {
@@ -191,7 +191,7 @@ module _ {F S K : Type 0} (former : F → Option (List ℕ)) (former_stopped : F
 
     -- ---- how far the files were read
 
-    -- the first gave no block more than its next line, or its end, took; and so the second
+    -- the first file gave no more blocks than its next line or its end needed; and similarly for the second
     first_few : (has_first : Bool) → ReadsOn former former_stopped former_allowance has_first a b one one' → GaveFew former former_stopped former_allowance first b tally.answered
     first_few has_first on =
         subst (λ (n : ℕ). GaveFew former former_stopped former_allowance first b n) first_many
@@ -208,13 +208,13 @@ module _ {F S K : Type 0} (former : F → Option (List ℕ)) (former_stopped : F
     few_at_end FirstEnds reads = (first_few false reads.of_first, second_few true reads.of_second)
     few_at_end SecondEnds reads = (first_few true reads.of_first, second_few false reads.of_second)
 
-    -- the second wasn't read again
+    -- the second file wasn't read again
     second_few_before : y ≡ x → GaveFew content has_stopped allowance second y tally.answered
     second_few_before same =
         subst (λ (s : S). GaveFew content has_stopped allowance second s tally.answered) (sym same)
         (subst (λ (n : ℕ). GaveFew content has_stopped allowance second x n) second_many (few_read content has_stopped allowance second x far.seconds other.rest far.second_read))
 
-    -- the last answer was put, or not
+    -- the last answer was written, or not
     pub ends_paired : (ending : Ending) (out'' : K) (result : Result Compared Interruption)
         → HasEnded former former_stopped former_allowance content has_stopped allowance ending a b x y one one' other other'
         → EndsBy taken is_failed ending tally out' out'' result
@@ -229,13 +229,13 @@ module _ {F S K : Type 0} (former : F → Option (List ℕ)) (former_stopped : F
 
     -- ---- faults
 
-    -- the first gave its next line, or has ended
+    -- the first file gave its next line, or has ended
     first_gave : (has_first : Bool) → ReadsOn former former_stopped former_allowance has_first a b one one' → GaveLine former former_stopped former_allowance first b tally.answered
     first_gave has_first on =
         subst (λ (n : ℕ). GaveLine former former_stopped former_allowance first b n) first_many
         (gave_line former former_stopped former_allowance first a b far.firsts one one' far.first_read has_first on)
 
-    -- or it has no next line; and so the second
+    -- or its next line couldn't be read; and similarly for the second
     first_stops : (fault : NextFault) → FailsNext former former_stopped former_allowance fault a b one one'
         → StopsAt former former_stopped former_allowance (take_of fault) first b tally.answered
     first_stops fault fails =
@@ -260,7 +260,7 @@ module _ {F S K : Type 0} (former : F → Option (List ℕ)) (former_stopped : F
     fails_second next_fault.TooLong has_first reads on fails = (reads, (first_gave has_first on, second_stops next_fault.TooLong fails), put_pairs)
     fails_second next_fault.OutOfMemory has_first reads on fails = ((first_few has_first on, second_stops next_fault.OutOfMemory fails), put_pairs)
 
-    -- the answer to the pair was not put
+    -- the answer to the pair wasn't written
     pub fails_pair_put : (out'' : K) (fault : RunFault) → ReadsBoth former former_stopped former_allowance content has_stopped allowance true true a b x y one one' other other'
         → PutsPair taken is_failed work one'.line other'.line out' out'' (Err fault)
         → FailsPairsAt former former_stopped former_allowance content has_stopped allowance taken is_failed work first b second y out out'' Second fault tally.answered

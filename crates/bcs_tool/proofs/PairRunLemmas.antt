@@ -1,4 +1,4 @@
--- What comes of a comparison of two files, by what its steps answered.
+-- The outcome of a comparison of two files, from the results of its steps.
 use Rattle.bcs_tool.proofs.Prelude.{◌≡◌, ◌++◌, ◌∙◌, ℕ, Bool, List, [], Option, Err, Ok, Result, ap, arith, refl, subst, sym, lines_of, ReadsInput, summary, tally_text, lacking_text, pairs_summary, IsAnswer, Places, Answer, status_below, greatest_pair_below, ReportsPlace, OutOfMemory, Outcome, Work, AllPaired, AreCompared, BothGaveFew, EndsPairs, PutPairs, RespondsPairs, compared, refused, refused_alone, PutsAnswer, Interruption, Second, Compared, Take}
 use Rattle.bcs_io.proofs.TakingLemmas as taking
 use Rattle.bcs_tool_answers.specs.PairAnswers as pairs
@@ -31,7 +31,7 @@ module _ {F S K : Type 0} (former : F → Option (List ℕ)) (former_stopped : F
       (Err (record { fault = Take OutOfMemory; answered = 0; side = Second }))
   no_memory_for_pairs first second out = (none_given first second, nothing_put first second out)
 
-  -- the words are refused, and the one answer was put, or a front of it
+  -- the arguments are refused, and the one answer was written, or a prefix of it
   module _ (first : F) (second : S) (out out' : K) (answer : Answer) (none : ¬ ReadsInput work) (is : IsAnswer work [] answer) where
     pub refused_pairs : (result : Result Outcome Interruption) → PutsAnswer taken is_failed answer out out' result
         → EndsPairs former former_stopped former_allowance content has_stopped allowance taken is_failed work first first second second out out' result
@@ -71,7 +71,7 @@ module _ {F S K : Type 0} (former : F → Option (List ℕ)) (former_stopped : F
           },
         )
 
-  -- all pairs were answered, and how many with which status is told
+  -- all pairs were answered, and the number of pairs by status is reported
   pub told_pairs : (first : F) (second : S) (out out' : K) (all : Compared) (outcome : Outcome) → ReadsInput work
       → AllPaired former former_stopped former_allowance content has_stopped allowance taken is_failed work first second out out' all
       → outcome.status ≡ all.tally.status → outcome.note.now ≡ []

@@ -1,4 +1,4 @@
--- What the proofs use of other crates, and of this crate's definitions.
+-- What the proofs use from other crates and from this crate's definitions.
 pub use Rattle.std.proofs.Common.{[], ap, append-nil, append_assoc, arith, Bool, chars, codes, cond, encode_utf8, Err, false, flat_map, if◌then◌else◌, inl, inr, IsUtf8, length, length-append, List, map, max, None, not, Ok, Option, refl, Result, rules, Some, string_bytes, subst, suc, sym, take, true, true≢false, zero, ℕ, ◌%◌, ◌&&◌, ◌++◌, ◌+◌, ◌-◌, ◌/◌, ◌<◌, ◌==◌, ◌^◌, ◌∙◌, ◌∷◌, ◌≡◌, ◌≢◌, ◌≤◌, ◌⊎◌}
 pub use Rattle.std.proofs.Math.Seq.{take-append-add}
 pub use Rattle.std.proofs.lemmas.List.{get_or-map, length-map, take-append-le}

@@ -5,12 +5,12 @@ use Rattle.bcs_io.proofs.GivingLemmas as giving
 use Rattle.bcs_io.specs.declared.next_fault.NextFault.TheVariants as next_fault
 use Rattle.bcs_tool.proofs.LineLemmas.{all_within, end_past, stand_all, stand_end, stand_first, stand_last, stand_line, stand_long, stand_nothing, stand_past, stand_some, stand_within}
 
--- what a line and its line feed take of the room
+-- a list that isn't empty has at least one element
 some_long : (xs : List ℕ) → (xs ≡ [] → ⊥) → 1 ≤ length xs
 some_long [] some = absurd (some refl)
 some_long (x ∷ xs) some = omega arith
 
--- there are bytes that may be the content, and have exactly these lines
+-- some bytes may be the content and have exactly these lines
 abbrev pub MayHave : Option (List ℕ) → List (List ℕ) → Type 0
 MayHave content lines = (bytes : List ℕ) × IsContent content bytes × (lines_of bytes ≡ lines)
 
@@ -38,7 +38,7 @@ module _ {S : Type 0} (content : S → Option (List ℕ)) (has_stopped : S → B
     omega (arith, ap (λ (t : List ℕ). line_feeds (before_block t)) read.parts, feeds_before_block read.front rest (short_ahead rest read.ahead), read.few),
   )
 
-  -- a line took a byte at least
+  -- a line took at least one byte
   pub line_room : (now later : S) (before after : HeldLine) → TakesLine content has_stopped allowance size_limit now later before after
       → 1 + length after.rest + allowance later ≤ length before.rest + allowance now
   line_room now later before after takes = go takes.parts
@@ -50,7 +50,7 @@ module _ {S : Type 0} (content : S → Option (List ℕ)) (has_stopped : S → B
           omega (arith, takes.took.less, ap (λ (t : List ℕ). length t) last.line, length-append before.rest takes.given, some_long after.line last.some, ap (λ (t : List ℕ). length t) last.rest)
 
   module _ (input now later : S) (lines : List (List ℕ)) (before after : HeldLine) (read : AreRead content has_stopped allowance input now lines before.rest) where
-    -- the content behind the line that was read
+    -- the content after the line that was read
     stand_behind : TakesLine content has_stopped allowance size_limit now later before after → StandBefore (content input) (content later) (lines ++ after.line ∷ []) after.rest
     stand_behind takes = go takes.parts
       where
@@ -59,7 +59,7 @@ module _ {S : Type 0} (content : S → Option (List ℕ)) (has_stopped : S → B
         go (inl parts) = stand_line (content input) (content now) (content later) lines after.line before.rest takes.given after.rest takes.took.front parts takes.plain read.stand
         go (inr last) = stand_last (content input) (content now) (content later) lines after.line before.rest takes.given after.rest takes.took.front last.line last.rest last.ends takes.plain last.some read.stand
 
-    -- what was given, up to what stands behind the line
+    -- what was given, up to what follows the line
     front_behind : (given : List ℕ) → HasNoLineFeed after.line
         → (before.rest ++ given ≡ after.line ++ 10 ∷ after.rest) ⊎ IsLastLine content has_stopped allowance later (before.rest ++ given) after
         → (front : List ℕ) × (read.given ++ given ≡ front ++ after.rest) × (line_feeds front ≤ length lines + 1)
@@ -102,7 +102,7 @@ module _ {S : Type 0} (content : S → Option (List ℕ)) (has_stopped : S → B
     pub none_behind : HasNoLine content has_stopped allowance now later before after → MayHave (content input) (lines ++ [])
     none_behind ends = let all = all_read ends in (all.0, all.1, all.2 ∙ sym (append-nil lines))
 
-    -- the next line is a line of the content, and some or none stand behind it
+    -- the lines so far and the next one are the first lines of the content
     pub first_behind : TakesLine content has_stopped allowance size_limit now later before after → AreFirst (content input) (lines ++ after.line ∷ [])
     first_behind takes = stand_first (content input) (content later) (lines ++ after.line ∷ []) after.rest (stand_behind takes)
 
@@ -118,11 +118,11 @@ module _ {S : Type 0} (content : S → Option (List ℕ)) (has_stopped : S → B
     pub long_behind : IsTooLong content has_stopped allowance size_limit now later before after → IfSome (content input) (IsLongBehind (length lines))
     long_behind long = stand_long (content input) (content now) (content later) lines before.rest long.given long.took.front long.longer long.plain read.stand
 
-    -- what was given of the input in all
+    -- all that the input gave
     pub gave : (given : List ℕ) → source.Gave content has_stopped allowance now later given → (bytes : List ℕ) × source.Gave content has_stopped allowance input later bytes
     gave given took = (read.given ++ given, giving.Gave-then content has_stopped allowance input now later read.given given read.took took)
 
-    -- behind the lines no whole one was given
+    -- no complete line was given after these lines
     gave_none : (given : List ℕ) → HasNoLineFeed (before.rest ++ given) → line_feeds (read.given ++ given) ≤ length lines
     gave_none given plain =
         omega (arith, ap line_feeds read.parts, feeds_append read.given given, feeds_append read.front before.rest, feeds_append before.rest given, feeds_none (before.rest ++ given) plain, read.few)
@@ -134,7 +134,7 @@ module _ {S : Type 0} (content : S → Option (List ℕ)) (has_stopped : S → B
       gave_none fails.given fails.plain,
     )
 
-    -- or none before the last block
+    -- or none was given before the last block
     gave_few : (given : List ℕ) → HasNoLineFeed (before_block (before.rest ++ given)) → line_feeds (before_block (read.given ++ given)) ≤ length lines
     gave_few given ahead =
         let parts : read.given ++ given ≡ read.front ++ (before.rest ++ given) = ap (λ (t : List ℕ). t ++ given) read.parts ∙ append_assoc read.front before.rest given in
@@ -144,7 +144,7 @@ module _ {S : Type 0} (content : S → Option (List ℕ)) (has_stopped : S → B
         → GaveFew content has_stopped allowance input later (length lines)
     few_given given took ahead = (read.given ++ given, giving.Gave-then content has_stopped allowance input now later read.given given read.took took, gave_few given ahead)
 
-    -- the next line was read, and none before the last block stands behind it
+    -- the next line was read, and no other one was given before the last block
     line_ahead : (takes : TakesLine content has_stopped allowance size_limit now later before after) → HasNoLineFeed (before_block (before.rest ++ takes.given))
     line_ahead takes = go takes.parts
       where
@@ -157,7 +157,7 @@ module _ {S : Type 0} (content : S → Option (List ℕ)) (has_stopped : S → B
             subst (λ (t : List ℕ). HasNoLineFeed (before_block t)) (append-nil after.line ∙ sym last.line)
             (block_behind after.line [] takes.plain (omega arith))
 
-    -- and so where no line is left
+    -- and similarly if no line is left
     pub few_behind : (has_line : Bool) → ReadsOn content has_stopped allowance has_line now later before after → GaveFew content has_stopped allowance input later (length lines)
     few_behind true takes = few_given takes.given takes.took (line_ahead takes)
     few_behind false ends = few_given [] ends.took (subst (λ (t : List ℕ). HasNoLineFeed (before_block (t ++ []))) (sym ends.none_left) refl)
@@ -178,7 +178,7 @@ module _ {S : Type 0} (content : S → Option (List ℕ)) (has_stopped : S → B
       past = end_past (content input) (content later) (length lines) ends.ends;
     }
 
-    -- the next line isn't there
+    -- the next line couldn't be read
     pub stops_at : (fault : NextFault) → FailsNext content has_stopped allowance fault now later before after → StopsAt content has_stopped allowance (take_of fault) input later (length lines)
     stops_at next_fault.Read fails = broke_in_line fails
     stops_at next_fault.TooLong long = (long_behind long, few_long long)

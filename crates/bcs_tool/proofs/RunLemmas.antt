@@ -1,22 +1,22 @@
--- What comes of a run, by what its steps answered.
+-- The outcome of a run, from the results of its steps.
 use Rattle.bcs_tool.proofs.Prelude.{◌≡◌, ◌≤◌, ◌+◌, ◌++◌, ◌∙◌, ℕ, Bool, false, List, [], Option, Some, None, Result, Ok, Err, ap, append-nil, arith, inl, inr, length, refl, subst, sym, true≢false, IsErrAnd, Consumes, IsAtEnd, lines_of, ReadsInput, none, summary, tally_text, IsAnswer, Places, IsAskedBy, Answer, Asked, status_below, greatest_below, ReportsPlace, IsContent, size_limit, TakeFault, Outcome, Work, Second, AllAnswered, IsTally, AreFirst, Ends, FailsAt, HasLines, IsAnswered, IsUnhurt, PutBefore, PutsAnswer, ReadsNoFurther, Responds, by_line, once, Interruption, Take, Tally}
 use Rattle.bcs_io.specs.Giving as source
 use Rattle.bcs_io.proofs.GivingLemmas as giving
 use Rattle.bcs_io.proofs.TakingLemmas as taking
 use Rattle.bcs_io.specs.declared.taking.TakeFault.TheVariants as take_fault
 
--- there are bytes that may be the content
+-- some bytes may be the content
 pub some_content : (content : Option (List ℕ)) → (bytes : List ℕ) × IsContent content bytes
 some_content None = ([], tt)
 some_content (Some bytes) = (bytes, refl)
 
--- bytes that were taken to the end are the content
+-- bytes that were read up to the end are the content
 pub whole_content : (old left : Option (List ℕ)) (bytes : List ℕ) → Consumes old left bytes → IsAtEnd left → IsContent old bytes
 whole_content None left bytes taken end = tt
 whole_content (Some xs) None bytes taken end = absurd taken
 whole_content (Some xs) (Some ys) bytes taken end = sym (taken ∙ (ap (λ t. bytes ++ t) end ∙ append-nil bytes))
 
--- a job that isn't for lines has none, and neither has one that reads no input
+-- a job without `--lines` has no lines, and neither does one that reads no input
 pub no_lines : (work : Work) → work.options.lines ≡ false → ¬ HasLines work
 no_lines work whole lines = true≢false (sym lines.0 ∙ whole)
 
@@ -26,7 +26,7 @@ no_input_no_lines work refused lines = refused lines.1
 pub reads_input : (work : Work) (asked : Asked) → IsAskedBy work asked → ReadsInput work
 reads_input work asked is = (_, _, is.asks)
 
--- a fault that a `?` hands on
+-- a fault that a `?` returns
 pub handed_on : {A E : Type 0} (P : Result A E → Type 0) (r : Result A E) (e : E) → IsErrAnd r (λ x. x ≡ e) → P (Err e) → P r
 handed_on P (Ok a) e h p = absurd h
 handed_on P (Err x) e h p = subst (λ y. P (Err y)) (sym h) p
@@ -41,7 +41,7 @@ told_counts tally statuses counted = rw counted.done (rw counted.negative (rw co
 
 module _ {S K : Type 0} (content : S → Option (List ℕ)) (has_stopped : S → Bool) (allowance : S → ℕ)
     (taken : K → Option (List ℕ)) (is_failed : K → Bool) (work : Work) where
-  -- nothing was put
+  -- nothing was written
   pub nothing_before : (input : S) (out : K) → PutBefore content has_stopped allowance taken is_failed work input out out 0
   nothing_before input out = record {
     lines = [];
@@ -58,7 +58,7 @@ module _ {S K : Type 0} (content : S → Option (List ℕ)) (has_stopped : S →
   pub unread : (input : S) → ReadsNoFurther content has_stopped allowance taken is_failed work input input 0
   unread input lines = ([], giving.Gave-nothing content has_stopped allowance input, omega arith)
 
-  -- memory ran out before the input was read, or behind all of it
+  -- memory ran out before the input was read, or after all of it
   pub no_memory : (input input' : S) (out : K) → IsUnhurt content has_stopped allowance taken is_failed work input input'
       → ReadsNoFurther content has_stopped allowance taken is_failed work input input' 0
       → Ends content has_stopped allowance taken is_failed work input input' out out (Err (record { fault = Take take_fault.OutOfMemory; answered = 0; side = Second }))
@@ -68,7 +68,7 @@ module _ {S K : Type 0} (content : S → Option (List ℕ)) (has_stopped : S →
       → IsUnhurt content has_stopped allowance taken is_failed work input input'
   unhurt_whole input input' bytes took within works = inr (inl (bytes, took, λ whole. (within, works)))
 
-  -- the input was not taken
+  -- the input couldn't be read
   pub not_taken : (input input' : S) (out : K) (fault : TakeFault) → ReadsInput work → ¬ HasLines work
       → (fault ≡ take_fault.Read → (bytes : List ℕ) × source.GaveThenFailed content has_stopped allowance input input' bytes × (length bytes ≤ size_limit))
       → (fault ≡ take_fault.TooLarge → (bytes : List ℕ) × source.Gave content has_stopped allowance input input' bytes × (length bytes ≡ size_limit + 1))
@@ -81,7 +81,7 @@ module _ {S K : Type 0} (content : S → Option (List ℕ)) (has_stopped : S →
   not_taken input input' out take_fault.OutOfMemory reads whole read large memory =
       let m = memory refl in no_memory input input' out (unhurt_whole input input' m.0 m.1 m.2 m.3) (λ lines. absurd (whole lines))
 
-  -- one answer was put, or a front of it
+  -- one answer was written, or a prefix of it
   pub put_once : (input input' : S) (out out' : K) (answer : Answer) (bytes : List ℕ) (result : Result Outcome Interruption) → ¬ HasLines work
       → IsContent (content input) bytes → IsAnswer work bytes answer → PutsAnswer taken is_failed answer out out' result
       → Ends content has_stopped allowance taken is_failed work input input' out out' result
@@ -119,7 +119,7 @@ module _ {S K : Type 0} (content : S → Option (List ℕ)) (has_stopped : S →
         },
       )
 
-  -- all lines were answered, and how many with which status is told
+  -- all lines were answered, and the number of lines by status is reported
   pub tallied : (input : S) (out out' : K) (tally : Tally) (outcome : Outcome) → HasLines work → AllAnswered content has_stopped allowance taken is_failed work input out out' tally
       → outcome.status ≡ tally.status → outcome.note.now ≡ [] → ReportsPlace work.options.quiet (tally_text tally.done tally.negative tally.refused) outcome.place.items
       → IsAnswered content has_stopped allowance taken is_failed work input out out' outcome

@@ -1,4 +1,4 @@
--- Bytes that are validated as they come: the answer to them, and what comes of it.
+-- Bytes that are validated as they arrive: the answer to them, and the outcome of the run.
 use Rattle.bcs_tool.proofs.Prelude.{◌≡◌, ◌⊎◌, ◌≤◌, ◌∙◌, ◌&&◌, ℕ, suc, Bool, true, false, List, [], Option, Some, None, Result, Ok, Err, arith, inl, inr, refl, subst, sym, true≢false, FrontGone, GoneTo, Trails, Stops, Accepts, DecodeFault, Stop, Entries, Shape, shape_of, Answers, IsAsked, count_line, scan_stopped, scanned, stop_line, GivesBytes, Asks, is_scan, is_unlimited, none, PrintsWithoutPlace, IsAskedBy, Answer, Asked, Outcome, Work, coding_of, is_raw, Coding, Hexadecimal, Base64, Raw, Command, Scan, Ends, FailsAt, HasLines, IfTold, PutsAnswer, Responds, Streams, once, AnswersScan, FaultOfScan, IsScanned, RefusesScan, Scans, Interruption, RunFault, Take, Write}
 use Rattle.bcs_decode_spec.specs.declared.decode_fault.DecodeFault.TheVariants as decode_fault
 use Rattle.bcs_tool_answers.specs.Places as places
@@ -8,7 +8,7 @@ use Rattle.bcs_tool.proofs.RunLemmas.{nothing_before}
 
 -- ---- the answer
 
--- as they are, bytes give themselves
+-- raw bytes represent themselves
 given_raw : (coding : Coding) (input : List ℕ) → is_raw coding ≡ true → GivesBytes coding input input
 given_raw Hexadecimal input is = cc
 given_raw Base64 input is = cc
@@ -64,7 +64,7 @@ is_scanned work content a status output within prints told = record {
     go None told = tt
     go (Some all) told = λ are. rw prints.same_status (rw prints.same_output (told are))
 
--- such a job scans bytes as they are
+-- such a job scans raw bytes
 scan_raw : (c : Command) (raw : Bool) → (is_scan c && raw) ≡ true → (c ≡ command.Scan) × (raw ≡ true)
 scan_raw command.Check raw is = cc
 scan_raw command.Grows raw is = cc
@@ -123,7 +123,7 @@ module _ {S K : Type 0} (content : S → Option (List ℕ)) (has_stopped : S →
       go (Take take_fault.OutOfMemory) of = (inr (inr (streams, of)), λ lines. absurd (whole lines), nothing_before content has_stopped allowance taken is_failed work input out)
       go Write of = absurd of
 
-  -- the answer was put, or a front of it
+  -- the answer was written, or a prefix of it
   pub put_scan : (input input' : S) (out out' : K) (answer : Answer) (result : Result Outcome Interruption) → IsScanned work (content input) answer
       → PutsAnswer taken is_failed answer out out' result → Ends content has_stopped allowance taken is_failed work input input' out out' result
   put_scan input input' out out' answer (Ok outcome) is puts = record {

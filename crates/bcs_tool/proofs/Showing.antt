@@ -26,7 +26,7 @@ pub left_visible : (keeps : Bool) (text : List ℕ) → flat_map (visible_char k
 unfolding visible
 left_visible keeps text = refl
 
--- a character comes off the front
+-- the first character is removed
 pub left_after : (keeps : Bool) (before after : List ℕ) (c : ℕ) → IsUtf8 before → before ≡ encode_utf8 c ++ after
     → visible_char keeps c ++ flat_map (visible_char keeps) (chars after) ≡ flat_map (visible_char keeps) (chars before)
 left_after keeps before after c text begins = sym (ap (flat_map (visible_char keeps)) (chars_past_char before after c text begins))
@@ -35,19 +35,19 @@ pub left_none : (keeps : Bool) (rest : List ℕ) → length rest ≡ 0 → flat_
 left_none keeps [] none = ap (flat_map (visible_char keeps)) chars-nil
 left_none keeps (b ∷ bs) none = absurd (omega arith)
 
--- where lines aren't kept, a line end follows
+-- if lines aren't kept, a line end follows
 pub usage_line : (keeps : Bool) (text : List ℕ) → keeps ≡ false → visible keeps text ++ codes "\n" ≡ usage_text keeps text
 usage_line keeps text is = rw is refl
 
--- ---- what was put
+-- ---- what was written
 
 module _ {K : Type 0} (taken : K → Option (List ℕ)) (is_failed : K → Bool) where
-  -- one text, and then a front of another
+  -- one text, and then a prefix of another
   pub front_then : (a b c : K) (xs ys : List ℕ) → Took taken is_failed a b xs → PutFront taken is_failed b c ys → PutFront taken is_failed a c (xs ++ ys)
   front_then a b c xs ys first (n, short, lost) =
       (length xs + n, omega (arith, length-append xs ys), subst (λ (bs : List ℕ). TookThenFailed taken is_failed a c bs) (sym (take-append-add xs ys n)) (TookThenFailed-then taken is_failed a b c xs (take n ys) first lost))
 
-  -- what a call says of a text that it put in part
+  -- what a call reports about a text that it wrote in part
   pub part_of : {A : Type 0} (r : Result A ℕ) (a b : K) (text : List ℕ)
       → IfErr r (λ n. (n < length text) × TookThenFailed taken is_failed a b (take n text)) → OnErr r (PutFront taken is_failed a b text)
   part_of (Ok v) a b text part = tt
@@ -79,7 +79,7 @@ pub none_hidden : (keeps : Bool) (text done rest : List ℕ) → length rest ≡
 none_hidden keeps text done rest none same whole =
     sym (all_put keeps text done rest none whole) ∙ sym (append-nil done) ∙ ap (λ (bs : List ℕ). done ++ bs) (sym (nothing_left rest none)) ∙ same
 
--- one character more was put
+-- one more character was written
 pub one_more : (keeps : Bool) (text done before after : List ℕ) (c : ℕ) → IsUtf8 before → before ≡ encode_utf8 c ++ after
     → done ++ flat_map (visible_char keeps) (chars before) ≡ visible keeps text
     → (done ++ visible_char keeps c) ++ flat_map (visible_char keeps) (chars after) ≡ visible keeps text

@@ -22,7 +22,7 @@ module _ {S K : Type 0} (content : S → Option (List ℕ)) (has_stopped : S →
 
   module _ (input now later : S) (out out' : K) (before after : HeldLine) (tally : Tally)
       (far : IsSoFar content has_stopped allowance taken is_failed work input now out out' before.rest tally) where
-    -- a line was read, and its answer put
+    -- a line was read, and its answer was written
     pub so_far_line : (out'' : K) (status : ℕ) (output : List ℕ) (more : Tally) → TakesLine content has_stopped allowance size_limit now later before after
         → AnswersLine work after.line status output → sink.Took taken is_failed out' out'' output
         → ((statuses : List ℕ) → IsTally tally statuses → IsTally more (statuses ++ status ∷ []))
@@ -40,7 +40,7 @@ module _ {S K : Type 0} (content : S → Option (List ℕ)) (has_stopped : S →
     answered_many : length far.lines ≡ tally.answered
     answered_many = sym (far.counted.answered ∙ as_many work far.lines far.statuses far.output far.answers)
 
-    -- so many lines can be counted
+    -- one more line can be counted
     pub can_count : allowance input < 2 ^ 64 → TakesLine content has_stopped allowance size_limit now later before after → tally.answered + 1 < 2 ^ 64
     can_count bounded takes =
         omega (arith, room_for_one content has_stopped allowance input now later far.lines before after far.read bounded takes, answered_many)
@@ -60,7 +60,7 @@ module _ {S K : Type 0} (content : S → Option (List ℕ)) (has_stopped : S →
           counted = far.counted;
         }
 
-    -- what was put before the next line
+    -- what was written before the next line
     pub put_before : HasLines work → PutBefore content has_stopped allowance taken is_failed work input out out' tally.answered
     put_before by_line = record {
       lines = far.lines;
@@ -88,20 +88,20 @@ module _ {S K : Type 0} (content : S → Option (List ℕ)) (has_stopped : S →
         let all = gave content has_stopped allowance input now later far.lines before after far.read given took in
         inr (inl (all.0, all.1, λ whole. absurd (whole by_line)))
 
-    -- no whole line was given behind those that were answered
+    -- no complete line was given after the answered ones
     pub stops_in_line : FailsInLine content has_stopped allowance size_limit now later before after → StopsInLine content has_stopped allowance taken is_failed work input later tally.answered
     stops_in_line fails by_line =
         subst (λ (n : ℕ). BrokeInLine content has_stopped allowance input later n) answered_many
         (broke_in_line content has_stopped allowance input now later far.lines before after far.read fails)
 
-    -- or none before the last block
+    -- or none was given before the last block
     no_further : GaveFew content has_stopped allowance input later (length far.lines) → ReadsNoFurther content has_stopped allowance taken is_failed work input later tally.answered
     no_further few by_line = subst (λ (n : ℕ). GaveFew content has_stopped allowance input later n) answered_many few
 
     no_line_further : TakesLine content has_stopped allowance size_limit now later before after → ReadsNoFurther content has_stopped allowance taken is_failed work input later tally.answered
     no_line_further takes = no_further (few_behind content has_stopped allowance input now later far.lines before after far.read true takes)
 
-    -- a front of the answer to the line was put
+    -- a prefix of the answer to the line was written
     pub put_part : (out'' : K) (status : ℕ) (output : List ℕ) → HasLines work → TakesLine content has_stopped allowance size_limit now later before after
         → AnswersLine work after.line status output → PutFront taken is_failed out' out'' output
         → PutPart content has_stopped allowance taken is_failed work input out out'' tally.answered
@@ -120,7 +120,7 @@ module _ {S K : Type 0} (content : S → Option (List ℕ)) (has_stopped : S →
       once = λ whole. absurd (whole by_line);
     }
 
-    -- the next line isn't there
+    -- the next line couldn't be read
     pub fails_next : (fault : NextFault) → HasLines work → FailsNext content has_stopped allowance fault now later before after
         → FailsAt content has_stopped allowance taken is_failed work input later out out' (of_next fault) tally.answered
     fails_next next_fault.Read by_line fails = (by_line.1, fails.lost.after, stops_in_line fails, put_before by_line)
@@ -136,7 +136,7 @@ module _ {S K : Type 0} (content : S → Option (List ℕ)) (has_stopped : S →
       put_before by_line,
     )
 
-    -- the answer to the line was not put
+    -- the answer to the line wasn't written
     pub fails_put : (out'' : K) (fault : RunFault) → HasLines work → TakesLine content has_stopped allowance size_limit now later before after
         → PutsLine taken is_failed work after.line out' out'' (Err fault)
         → FailsAt content has_stopped allowance taken is_failed work input later out out'' fault tally.answered

@@ -1,4 +1,4 @@
--- Where the answer of a job goes: to the standard output, or with `--output` to a file.
+-- Where the answer of a job goes: to standard output, or with `--output` to a file.
 use Rattle.std.specs.Prelude.{◌≡◌, ◌≢◌, ◌⊎◌, ◌++◌, ℕ, List, [], Bool, true, false, Option, Some, None, String, codes, string_bytes}
 use Rattle.std.specs.declared.alloc.Global.{Global}
 use Rattle.bcs_io.specs.Taking as sink
@@ -23,35 +23,35 @@ pub record IsUnwritten (quiet : Bool) (name : List ℕ) (cause : List ℕ) (outc
   pub fault : HasFailed (codes "fault: write") outcome
   pub place : ReportsPlace quiet (file_text name ++ cause) outcome.place.items
 
--- memory ran out, before an answer was held as a whole
+-- memory ran out before the whole answer was held
 pub record RanOut (outcome : Outcome) : Type 0 where
   pub fault : HasFailed (codes "fault: memory") outcome
   pub place : outcome.place.items ≡ []
 
 module _ {F : Type 0} (contents : F → Option (List ℕ)) where
-  -- what an opened file received, through a sink
+  -- what an open file received through a sink
   abbrev pub received : WriteSink F → Option (List ℕ)
   received s = contents (writer_of s)
 
-  -- these bytes, and no others, were written to a file that was opened for writing
+  -- exactly these bytes were written to a file that was opened for writing
   abbrev pub IsWritten : List ℕ → Type 0
   IsWritten bytes = (file : WriteSink F) × (file' : WriteSink F) × (failed file ≡ false) × sink.Took received failed file file' bytes
 
-  -- the file couldn't be opened; or it accepted only a front of the bytes
+  -- the file couldn't be opened, or it accepted only a prefix of the bytes
   abbrev pub FailsToWrite : Bool → List ℕ → List ℕ → Outcome → Type 0
   FailsToWrite quiet name bytes outcome = ((cause : OpenCause) × IsUnwritten quiet name (cause_text cause) outcome)
       ⊎ ((file : WriteSink F) × (file' : WriteSink F) × PutFront received failed file file' bytes × IsUnwritten quiet name [] outcome)
 
 module _ {E : Type 0} (told : E → Option (List ℕ)) (has_failed : E → Bool) where
-  -- the answer was put on the standard error, followed by the report; or a front of it
+  -- the answer was written to standard error, followed by the report; or only a prefix of the answer was written
   abbrev pub PrintsAnswer : List ℕ → Outcome → E → E → ℕ → Type 0
   PrintsAnswer answer run errors errors' status =
       ((mid : E) × sink.Took told has_failed errors mid answer × PrintsReport told has_failed run mid errors' status)
       ⊎ (PutFront told has_failed errors errors' answer × (status ≡ run.status))
 
 module _ {E F : Type 0} (told : E → Option (List ℕ)) (has_failed : E → Bool) (contents : F → Option (List ℕ)) where
-  -- what becomes of a run whose answer is held, with `--output`: only with status 0 a file is written, with the answer, and else
-  -- the answer goes to the standard error
+  -- how a run ends with `--output`, which holds the answer: if the status is 0, the answer is written to a file, and otherwise
+  -- to standard error
   pub data Delivers (quiet : Bool) (name : List ℕ) (held : HeldOutput) (run : Outcome) (errors errors' : E) (status : ℕ) : Type 0 where
     held_in_part : ran_out held ≡ true → (outcome : Outcome) → RanOut outcome → PrintsReport told has_failed outcome errors errors' status
         → Delivers quiet name held run errors errors' status
@@ -68,7 +68,7 @@ without_output job = record job { options = record job.options { output = None }
 
 module _ {S O E F : Type 0} (content : S → Option (List ℕ)) (has_stopped : S → Bool) (allowance : S → ℕ) (taken : O → Option (List ℕ)) (is_failed : O → Bool)
     (told : E → Option (List ℕ)) (has_failed : E → Bool) (remaining : F → Option (List ℕ)) (contents : F → Option (List ℕ)) where
-  -- how a job ends. With `--output`, the standard output is left alone, and the answer is the one of the job without it
+  -- how a job ends. With `--output`, nothing is written to standard output, and the answer is that of the job without it
   pub data Finishes (job : Job) (input input' : S) (out out' : O) (errors errors' : E) (status : ℕ) : Type 0 where
     to_output : job.options.output ≡ None → (outcome : Outcome) → Performs content has_stopped allowance taken is_failed remaining job input input' out out' outcome
         → PrintsReport told has_failed outcome errors errors' status → Finishes job input input' out out' errors errors' status

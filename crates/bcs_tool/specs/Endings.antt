@@ -1,4 +1,4 @@
--- How the program ends: what the standard output and the standard error are told, and its status.
+-- How the program ends: what is written to standard output and standard error, and its status.
 use Rattle.std.specs.Prelude.{◌≡◌, ◌≢◌, ◌⊎◌, ◌++◌, ℕ, List, [], Bool, Option, Some, None, String, codes, string_bytes}
 use Rattle.std.specs.Io.Buffered.{reader_remaining}
 use Rattle.std.specs.declared.alloc.Global.{Global}
@@ -26,12 +26,12 @@ use Rattle.bcs_tool.specs.Visible.{usage_text}
 -- ---- one stream
 
 module _ {K : Type 0} (taken : K → Option (List ℕ)) (is_failed : K → Bool) where
-  -- the text was put, or a front of it where the stream failed
+  -- the text was written, or a prefix of it if the stream failed
   abbrev pub Put : K → K → List ℕ → Type 0
   Put old new text = sink.Took taken is_failed old new text ⊎ PutFront taken is_failed old new text
 
-  -- the program ends with the outcome's status; its note stands on a line of the standard error, and then its place on one,
-  -- each where it has one
+  -- the program ends with the outcome's status; the outcome's note is printed on a line of standard error, and then its place
+  -- on another, if it has them
   abbrev pub PrintsReport : Outcome → K → K → ℕ → Type 0
   PrintsReport outcome old new status = (status ≡ outcome.status)
       × (outcome.note.now ≡ [] → outcome.place.items ≡ [] → new ≡ old)
@@ -39,11 +39,11 @@ module _ {K : Type 0} (taken : K → Option (List ℕ)) (is_failed : K → Bool)
       × (outcome.note.now ≡ [] → outcome.place.items ≢ [] → Put old new (line_of outcome.place.items))
       × (outcome.note.now ≢ [] → outcome.place.items ≢ [] → Put old new (line_of outcome.note.now ++ line_of outcome.place.items))
 
--- ---- words that are no job
+-- ---- arguments that aren't a job
 
 module _ {O E : Type 0} (taken : O → Option (List ℕ)) (is_failed : O → Bool) (told : E → Option (List ℕ)) (has_failed : E → Bool) where
-  -- the text of usage is written to the standard error with its hidden characters escaped, and the status is 3; that of
-  -- help or of the version is written to the standard output, and the status is 0
+  -- a usage text is written to standard error with its hidden characters escaped, and the status is 3; the text of help or of
+  -- the version is written to standard output, and the status is 0
   abbrev pub ReportsFault : Bool → LineFault → O → O → E → E → ℕ → Type 0
   ReportsFault keeps_lines (Usage text) out out' errors errors' status =
       (status ≡ 3) × (out' ≡ out) × Put told has_failed errors errors' (usage_text keeps_lines (string_bytes text))
@@ -53,7 +53,7 @@ module _ {O E : Type 0} (taken : O → Option (List ℕ)) (is_failed : O → Boo
   ReportsFault keeps_lines OutOfMemory out out' errors errors' status =
       (status ≡ 4) × (out' ≡ out) × Put told has_failed errors errors' (line_of (codes "fault: memory"))
 
--- why the system gives no words: one is no UTF-8, or memory ran out
+-- why the system returns no arguments: one isn't UTF-8, or memory ran out
 abbrev pub IsWordsFault : LineFault → Type 0
 IsWordsFault (Usage text) = string_bytes text ≡ line_of (codes "error: a word is no UTF-8")
 IsWordsFault (Help text) = ⊥
@@ -61,7 +61,7 @@ IsWordsFault OutOfMemory = Unit {0}
 
 -- ---- a job
 
--- a file that the job needs for its work was not read; the place tells which one, unless memory ran out
+-- a file that the job needs for its work wasn't read; the place reports which one, unless memory ran out
 module _ {F : Type 0} (remaining : F → Option (List ℕ)) where
   pub record LacksFile (job : Job) (outcome : Outcome) : Type 0 where
     pub unread : UnreadFile
@@ -73,20 +73,20 @@ module _ {F : Type 0} (remaining : F → Option (List ℕ)) where
     pub known : IsFaultOfFiles remaining (file_fault_of unread)
     pub needed : NamesNoFile job → unread ≡ ReadFailed taking.OutOfMemory
 
--- the file of this name, of an input, was not read, for this reason
+-- an input's file of this name wasn't read, for this reason
 pub record IsUnread (quiet : Bool) (name : List ℕ) (unread : UnreadFile) (outcome : Outcome) : Type 0 where
   pub status : outcome.status ≡ 4
   pub note : outcome.note.now ≡ file_note (file_fault_of unread)
   pub place : ReportsPlace quiet (file_place unread name) outcome.place.items
 
--- it was not opened
+-- it couldn't be opened
 abbrev pub IsUnopened : Bool → List ℕ → Outcome → Type 0
 IsUnopened quiet name outcome = (cause : OpenCause) × IsUnread quiet name (OpenFailed cause) outcome
 
 module _ {S O F : Type 0} (content : S → Option (List ℕ)) (has_stopped : S → Bool) (allowance : S → ℕ)
     (taken : O → Option (List ℕ)) (is_failed : O → Bool) (remaining : F → Option (List ℕ)) where
-  -- what comes of a job with one input: a run over the standard one, or over a file that was opened, by blocks; where the file
-  -- wasn't, or there is no memory for a block, nothing is read, or put
+  -- the outcome of a job with one input: a run over standard input, or over an open file that is read in blocks; if the file
+  -- couldn't be opened or a block couldn't be allocated, nothing is read or written
   pub data PerformsOne (work : Work) (file : Option (String Global)) (input input' : S) (out out' : O) (outcome : Outcome) : Type 0 where
     unopened : (name : String Global) → file ≡ Some name → IsUnopened work.options.quiet (string_bytes name) outcome → input' ≡ input → out' ≡ out
         → PerformsOne work file input input' out out' outcome
@@ -98,7 +98,7 @@ module _ {S O F : Type 0} (content : S → Option (List ℕ)) (has_stopped : S �
         → Runs (λ s. reader_remaining remaining (reader_of s)) failed allowance_of taken is_failed work (file_text (string_bytes name)) source source' out out' outcome
         → input' ≡ input → PerformsOne work file input input' out out' outcome
 
-  -- what comes of one that compares the lines of two files, of which the first has this name, and is opened first
+  -- the outcome of a job that compares the lines of two files; the first has this name and is opened first
   pub data PerformsPairs (work : Work) (first : List ℕ) (file : Option (String Global)) (input input' : S) (out out' : O) (outcome : Outcome) : Type 0 where
     first_unopened : IsUnopened work.options.quiet first outcome → input' ≡ input → out' ≡ out → PerformsPairs work first file input input' out out' outcome
     second_unopened : (name : String Global) (lines : ReadSource F) → file ≡ Some name → IsUnopened work.options.quiet (string_bytes name) outcome → input' ≡ input → out' ≡ out
@@ -110,7 +110,7 @@ module _ {S O F : Type 0} (content : S → Option (List ℕ)) (has_stopped : S �
         → PairRuns (λ s. remaining (reader_of s)) failed allowance_of (λ s. remaining (reader_of s)) failed allowance_of taken is_failed work (file_text first) (file_text (string_bytes name))
         lines lines' source source' out out' outcome → input' ≡ input → PerformsPairs work first file input input' out out' outcome
 
-  -- what comes of a job: a file is lacking for its work, and nothing is read of the input, or put; or its work is done
+  -- the outcome of a job: a file that it needs wasn't read, and no input is read and nothing is written; or its work is done
   pub data Performs (job : Job) (input input' : S) (out out' : O) (outcome : Outcome) : Type 0 where
     lacks_file : LacksFile remaining job outcome → input' ≡ input → out' ≡ out → Performs job input input' out out' outcome
     over_one : (work : Work) → IsWorkOf remaining job work → ¬ ComparesLines job → PerformsOne work job.file input input' out out' outcome → Performs job input input' out out' outcome

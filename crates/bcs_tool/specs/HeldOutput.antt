@@ -6,6 +6,6 @@ use Rattle.bcs_tool.specs.declared.held_output.HeldOutput.{HeldOutput}
 abbrev pub held_bytes : HeldOutput → List ℕ
 held_bytes sink = sink.bytes.items
 
--- a call failed, since memory ran out
+-- a call failed because memory ran out
 abbrev pub ran_out : HeldOutput → Bool
 ran_out sink = sink.has_failed

@@ -1,4 +1,4 @@
--- What is known of a run over lines, between two of them.
+-- What is known about a run over lines, between two of them.
 use Rattle.std.specs.Prelude.{◌≡◌, ◌+◌, ◌<◌, ◌≤◌, ◌++◌, ℕ, List, Bool, true, false, All, Option, Some, None, Result, Ok, Err, length}
 use Rattle.bcs_io.specs.Giving as source
 use Rattle.bcs_io.specs.Taking as sink
@@ -17,12 +17,12 @@ use Rattle.bcs_tool.specs.declared.tally.Tally.{Tally}
 
 -- ---- the next line
 
--- where a run is broken off, since the next line of this side isn't there
+-- where a run is interrupted because the next line of this side couldn't be read
 abbrev pub broken_at : Side → NextFault → ℕ → Interruption
 broken_at side fault count = record { fault = of_next fault; answered = count; side = side }
 
 module _ {S : Type 0} (content : S → Option (List ℕ)) (has_stopped : S → Bool) (allowance : S → ℕ) where
-  -- why the next line isn't there
+  -- why the next line couldn't be read
   abbrev pub FailsNext : NextFault → S → S → HeldLine → HeldLine → Type 0
   FailsNext next_fault.Read old new before after = FailsInLine content has_stopped allowance size_limit old new before after
   FailsNext next_fault.TooLong old new before after = IsTooLong content has_stopped allowance size_limit old new before after
@@ -39,7 +39,7 @@ module _ {S : Type 0} (content : S → Option (List ℕ)) (has_stopped : S → B
 
 -- ---- between two lines
 
--- how many lines have which status, and which one is the greatest
+-- the number of lines by status, and the greatest status
 pub record IsTally (tally : Tally) (statuses : List ℕ) : Type 0 where
   pub answered : tally.answered ≡ length statuses
   pub done : tally.done ≡ count_of 0 statuses
@@ -47,30 +47,30 @@ pub record IsTally (tally : Tally) (statuses : List ℕ) : Type 0 where
   pub refused : tally.refused ≡ count_of 2 statuses
   pub status : tally.status ≡ greatest statuses
 
--- behind these lines of the content stand what was read already and what is left, where that is known
+-- after these lines, the content consists of what was already read and what is left, if that is known
 abbrev pub StandBefore : Option (List ℕ) → Option (List ℕ) → List (List ℕ) → List ℕ → Type 0
 StandBefore None left lines rest = Unit {0}
 StandBefore (Some all) None lines rest = ⊥
 StandBefore (Some all) (Some left) lines rest = lines_of all ≡ lines ++ lines_of (rest ++ left)
 
 module _ {S : Type 0} (content : S → Option (List ℕ)) (has_stopped : S → Bool) (allowance : S → ℕ) where
-  -- these lines of the input were read, and behind them these bytes
+  -- these lines of the input were read, and these bytes after them
   pub record AreRead (input now : S) (lines : List (List ℕ)) (rest : List ℕ) : Type 0 where
     pub given : List ℕ
     pub took : source.Gave content has_stopped allowance input now given
-    -- the rest stands behind the lines, and is less than a block
+    -- the rest follows the lines, and is shorter than a block
     pub front : List ℕ
     pub parts : given ≡ front ++ rest
     pub few : line_feeds front ≤ length lines
     pub ahead : length rest < block_size
     pub stand : StandBefore (content input) (content now) lines rest
     pub plain : All HasNoLineFeed lines
-    -- each line took a byte at least, so that they can be counted
+    -- each line took at least one byte, so the lines can be counted
     pub room : length lines + length rest + allowance now ≤ allowance input
 
 module _ {S K : Type 0} (content : S → Option (List ℕ)) (has_stopped : S → Bool) (allowance : S → ℕ)
     (taken : K → Option (List ℕ)) (is_failed : K → Bool) where
-  -- some lines were answered, and behind them these bytes were read
+  -- some lines were answered, and these bytes after them were read
   pub record IsSoFar (work : Work) (input now : S) (out out' : K) (rest : List ℕ) (tally : Tally) : Type 0 where
     pub lines : List (List ℕ)
     pub statuses : List ℕ

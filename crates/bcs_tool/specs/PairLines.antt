@@ -1,4 +1,4 @@
--- What is known of a comparison of two files, between two pairs of lines.
+-- What is known about a comparison of two files, between two pairs of lines.
 use Rattle.std.specs.Prelude.{◌≡◌, ◌≢◌, ◌⊎◌, ◌++◌, ℕ, List, [], ◌∷◌, Bool, true, false, Option, Some, None, Result, Ok, Err, codes}
 use Rattle.bcs_io.specs.Taking as sink
 use Rattle.bcs_io.specs.Held.{HeldLine}
@@ -22,7 +22,7 @@ use Rattle.bcs_tool.specs.declared.tally.Tally.{Tally}
 
 -- ---- the end
 
--- the answer where one file has a line and the other has ended
+-- the answer if one file has a line and the other one has ended
 abbrev pub last_statuses : Ending → List ℕ
 last_statuses Together = []
 last_statuses FirstEnds = 1 ∷ []
@@ -34,14 +34,14 @@ last_output FirstEnds = line_of (codes "different")
 last_output SecondEnds = line_of (codes "different")
 
 module _ {K : Type 0} (taken : K → Option (List ℕ)) (is_failed : K → Bool) where
-  -- that answer was put, or a front of it
+  -- that answer was written, or a prefix of it
   abbrev pub EndsBy : Ending → Tally → K → K → Result Compared Interruption → Type 0
   EndsBy ending tally out out' (Ok compared) = (compared.ending ≡ ending) × sink.Took taken is_failed out out' (last_output ending)
       × ((statuses : List ℕ) → IsTally tally statuses → IsTally compared.tally (statuses ++ last_statuses ending))
   EndsBy ending tally out out' (Err e) = (e ≡ record { fault = Write; answered = tally.answered; side = Second })
       × (ending ≢ Together) × PutFront taken is_failed out out' (line_of (codes "different"))
 
-  -- the answer to a pair of lines was put, or a front of it; or there was no memory for it
+  -- the answer to a pair of lines was written, or a prefix of it; or an allocation failed
   abbrev pub PutsPair : Work → List ℕ → List ℕ → K → K → Result ℕ RunFault → Type 0
   PutsPair work first second out out' (Ok status) = (output : List ℕ) × AnswersLinePair work first second status output × sink.Took taken is_failed out out' output
   PutsPair work first second out out' (Err (Take fault)) = (fault ≡ OutOfMemory) × (out' ≡ out)
@@ -49,7 +49,7 @@ module _ {K : Type 0} (taken : K → Option (List ℕ)) (is_failed : K → Bool)
 
 -- ---- reading
 
--- which file has ended, by which of them has a next line; neither where both have
+-- which file has ended, if not both have a next line
 abbrev pub ending_of : Bool → Bool → Option Ending
 ending_of true true = None
 ending_of true false = Some SecondEnds
@@ -72,7 +72,7 @@ module _ {F S : Type 0} (former : F → Option (List ℕ)) (former_stopped : F �
 
 module _ {F S K : Type 0} (former : F → Option (List ℕ)) (former_stopped : F → Bool) (former_allowance : F → ℕ)
     (content : S → Option (List ℕ)) (has_stopped : S → Bool) (allowance : S → ℕ) (taken : K → Option (List ℕ)) (is_failed : K → Bool) where
-  -- some pairs of lines were answered, and behind them these bytes were read of the two files
+  -- some pairs of lines were answered, and these bytes after them were read from the two files
   pub record ArePairsSoFar (work : Work) (first first' : F) (second second' : S) (out out' : K) (rest other_rest : List ℕ) (tally : Tally) : Type 0 where
     pub firsts : List (List ℕ)
     pub seconds : List (List ℕ)

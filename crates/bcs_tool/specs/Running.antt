@@ -1,4 +1,4 @@
--- What comes of a job and its input: what is put of the answers, and why that isn't all of them.
+-- The outcome of a job and its input: which answers are written, and why not all of them.
 use Rattle.std.specs.Prelude.{◌≡◌, ◌⊎◌, ◌≤◌, ◌<◌, ◌+◌, ◌++◌, ℕ, List, [], ◌∷◌, Bool, true, false, IfSome, Option, Result, Ok, Err, codes, length, take}
 use Rattle.std.specs.Fmt.{decimal}
 use Rattle.bcs_decode.specs.Whole.{FrontGone}
@@ -32,35 +32,35 @@ use Rattle.bcs_tool.specs.declared.run_fault.RunFault.TheVariants.{Take, Write}
 abbrev pub HasLines : Work → Type 0
 HasLines work = (work.options.lines ≡ true) × ReadsInput work
 
--- the job scans bytes as they are, which are validated as they come and not held
+-- the job scans raw bytes, which are validated as they arrive and not held
 abbrev pub Streams : Work → Type 0
 Streams work = (is_unlimited work ≡ true) × (work.options.lines ≡ false) × ReadsInput work
 
--- what is put for these bytes, the status, and what the standard error may be told beside: one answer, or one to each line
+-- what is written for these bytes, the status, and what else may be written to standard error: one answer, or one to each line
 pub data Responds (work : Work) (bytes : List ℕ) : ℕ → List ℕ → List ℕ → Type 0 where
   once : (status : ℕ) (output place : List ℕ) → ¬ HasLines work → Answers work bytes status output → Places work bytes place → Responds work bytes status output place
-  -- the status is the greatest one; beside stands how many lines have which
+  -- the status is the greatest one; the place reports the number of lines by status
   by_line : (statuses output place : List ℕ) → HasLines work → AnswersAll work (lines_of bytes) statuses output → ReportsPlace work.options.quiet (summary statuses) place
       → Responds work bytes (greatest statuses) output place
 
 -- ---- faults
 
--- the line of the standard error
+-- the line for standard error
 abbrev pub fault_note : RunFault → List ℕ
 fault_note (Take fault) = take_note fault
 fault_note Write = codes "fault: write"
 
--- which stream is at fault, where the input has this text; want of memory has none
+-- which stream is at fault, if the input has this text; empty if memory ran out
 abbrev pub stream_text : RunFault → List ℕ → List ℕ
 stream_text (Take fault) name = take_place fault name
 stream_text Write name = output_text
 
--- with a comma behind it, if it has any sign
+-- followed by a comma and a space, unless it is empty
 abbrev pub before_more : List ℕ → List ℕ
 before_more [] = []
 before_more (c ∷ cs) = c ∷ cs ++ codes ", "
 
--- where a run is broken off: the stream, and, where lines are answered, which line it is, behind so many
+-- where a run is interrupted: the stream, and, if lines are answered, the number of the line after the first `count`
 abbrev pub run_place : Bool → RunFault → List ℕ → ℕ → List ℕ
 run_place false fault name count = stream_text fault name
 run_place true fault name count = before_more (stream_text fault name) ++ codes "line " ++ decimal (count + 1)
@@ -70,18 +70,18 @@ abbrev pub side_text : Side → List ℕ → List ℕ → List ℕ
 side_text First name other = name
 side_text Second name other = other
 
--- the outcome tells where a run over inputs of these texts was broken off
+-- the outcome reports where a run over inputs with these texts was interrupted
 pub record IsBrokenOff (work : Work) (name other : List ℕ) (e : Interruption) (outcome : Outcome) : Type 0 where
   pub status : outcome.status ≡ 4
   pub note : outcome.note.now ≡ fault_note e.fault
   pub reports : ReportsPlace work.options.quiet (run_place work.options.lines e.fault (side_text e.side name other) e.answered) outcome.place.items
 
--- it is the one of a run that went through, or tells where the run was broken off
+-- it is the outcome of a completed run, or it reports where the run was interrupted
 abbrev pub IsOutcomeOf : Work → List ℕ → List ℕ → Result Outcome Interruption → Outcome → Type 0
 IsOutcomeOf work name other (Ok done) outcome = outcome ≡ done
 IsOutcomeOf work name other (Err e) outcome = IsBrokenOff work name other e outcome
 
--- the fault of a run whose next line isn't there
+-- the fault of a run whose next line couldn't be read
 abbrev pub take_of : NextFault → TakeFault
 take_of next.Read = Read
 take_of next.TooLong = TooLarge
@@ -92,11 +92,11 @@ of_next fault = Take (take_of fault)
 
 -- ---- lines of a content
 
--- these are the first lines of the content, where that is known
+-- these are the first lines of the content, if it is known
 abbrev pub AreFirst : Option (List ℕ) → List (List ℕ) → Type 0
 AreFirst content lines = IfSome content (λ all. (more : List (List ℕ)) × (lines_of all ≡ lines ++ more))
 
--- behind so many lines of the content stands one that is too long
+-- the line after the first `count` lines of the content is too long
 pub record IsLongBehind (count : ℕ) (all : List ℕ) : Type 0 where
   pub lines : List (List ℕ)
   pub long : List ℕ
@@ -105,11 +105,11 @@ pub record IsLongBehind (count : ℕ) (all : List ℕ) : Type 0 where
   pub many : length lines ≡ count
   pub longer : size_limit < length long
 
--- what holds of the bytes of a content, where they are known
+-- what holds for the bytes of a content, if they are known
 abbrev pub IfTold : Option (List ℕ) → (List ℕ → Type 0) → Type 0
 IfTold content P = IfSome content (λ all. AreBytes all → P all)
 
--- the answer to the input behind these lines: to the next line, or to all of the content
+-- the answer to the input after these lines: to the next line, or to the whole content
 abbrev pub AnswersNext : Work → Option (List ℕ) → List (List ℕ) → ℕ → List ℕ → Type 0
 AnswersNext work content lines status output =
     (HasLines work × ((line : List ℕ) × AreFirst content (lines ++ line ∷ []) × AnswersLine work line status output))
@@ -119,14 +119,14 @@ AnswersNext work content lines status output =
 -- ---- one answer
 
 module _ {K : Type 0} (taken : K → Option (List ℕ)) (is_failed : K → Bool) where
-  -- the answer was put, and its status and its place are handed on
+  -- the answer was written, and its status and its place are returned
   pub record IsPut (answer : Answer) (out out' : K) (outcome : Outcome) : Type 0 where
     pub status : outcome.status ≡ answer.status
     pub note : outcome.note.now ≡ []
     pub place : outcome.place.items ≡ answer.place.items
     pub put : sink.Took taken is_failed out out' answer.output.items
 
-  -- a front of the text was put, less than the whole, and then the output failed
+  -- a proper prefix of the text was written, and then the output failed
   abbrev pub PutFront : K → K → List ℕ → Type 0
   PutFront out out' text = (n : ℕ) × (n < length text) × sink.TookThenFailed taken is_failed out out' (take n text)
 
@@ -134,7 +134,7 @@ module _ {K : Type 0} (taken : K → Option (List ℕ)) (is_failed : K → Bool)
   PutsAnswer answer out out' (Ok outcome) = IsPut answer out out' outcome
   PutsAnswer answer out out' (Err e) = (e ≡ record { fault = Write; answered = 0; side = Second }) × PutFront out out' answer.output.items
 
-  -- the answer to a line was put, or a front of it; or there was no memory for it
+  -- the answer to a line was written, or a prefix of it; or an allocation failed
   abbrev pub PutsLine : Work → List ℕ → K → K → Result ℕ RunFault → Type 0
   PutsLine work line out out' (Ok status) = (output : List ℕ) × AnswersLine work line status output × sink.Took taken is_failed out out' output
   PutsLine work line out out' (Err (Take fault)) = (fault ≡ OutOfMemory) × (out' ≡ out)
@@ -144,7 +144,7 @@ module _ {K : Type 0} (taken : K → Option (List ℕ)) (is_failed : K → Bool)
 
 module _ {S K : Type 0} (content : S → Option (List ℕ)) (has_stopped : S → Bool) (allowance : S → ℕ)
     (taken : K → Option (List ℕ)) (is_failed : K → Bool) where
-  -- the answers to the first lines, so many, were put, and nothing else; nothing, where the input is one
+  -- exactly the answers to the first `count` lines were written, or nothing if the input isn't read by lines
   pub record PutBefore (work : Work) (input : S) (out out' : K) (count : ℕ) : Type 0 where
     pub lines : List (List ℕ)
     pub statuses : List ℕ
@@ -155,7 +155,7 @@ module _ {S K : Type 0} (content : S → Option (List ℕ)) (has_stopped : S →
     pub put : sink.Took taken is_failed out out' output
     pub once : ¬ HasLines work → (lines ≡ []) × (out' ≡ out)
 
-  -- behind the answers to the first lines, so many, a front of the next answer was put, less than the whole
+  -- after the answers to the first `count` lines, a proper prefix of the next answer was written
   pub record PutPart (work : Work) (input : S) (out out' : K) (count : ℕ) : Type 0 where
     pub lines : List (List ℕ)
     pub statuses : List ℕ
@@ -170,39 +170,39 @@ module _ {S K : Type 0} (content : S → Option (List ℕ)) (has_stopped : S →
     pub put : sink.TookThenFailed taken is_failed out out' (before ++ take shown output)
     pub once : ¬ HasLines work → lines ≡ []
 
-  -- the input gave a byte more than an input may have; or the line behind so many has one
+  -- the input gave one byte more than an input may have; or the line after the first `count` is too long
   abbrev pub IsTooLarge : Work → S → S → ℕ → Type 0
   IsTooLarge work input input' count =
       ((¬ HasLines work) × ((bytes : List ℕ) × (length bytes ≡ size_limit + 1) × source.Gave content has_stopped allowance input input' bytes))
       ⊎ (HasLines work × ((bytes : List ℕ) × source.Gave content has_stopped allowance input input' bytes) × IfSome (content input) (IsLongBehind count))
 
-  -- what is left of the input where memory ran out: it is as it was, or no call of it failed, and where it is one input, it
-  -- gave no more than is allowed; or, of bytes that are validated as they come, a front is gone
+  -- the state of the input if memory ran out: it is unchanged; or no call of it failed, and if it isn't read by lines, it gave
+  -- at most the allowed number of bytes; or, if its bytes are validated as they arrive, a prefix is gone
   abbrev pub IsUnhurt : Work → S → S → Type 0
   IsUnhurt work input input' = (input' ≡ input)
       ⊎ ((bytes : List ℕ) × source.Gave content has_stopped allowance input input' bytes
       × (¬ HasLines work → (length bytes ≤ size_limit) × (has_stopped input' ≡ false)))
       ⊎ (Streams work × IfTold (content input) (λ all. FrontGone all (content input')))
 
-  -- the input gave no whole line behind so many, and then a call failed
+  -- the input gave no complete line after the first `count`, and then a call failed
   abbrev pub StopsInLine : Work → S → S → ℕ → Type 0
   StopsInLine work input input' count =
       HasLines work → (given : List ℕ) × source.GaveThenFailed content has_stopped allowance input input' given × (line_feeds given ≤ count)
 
-  -- before the last block that the input gave stands no whole line behind so many: no block is asked for before the lines of
-  -- the one before are answered
+  -- the input gave no complete line after the first `count` before its last block: no block is requested before the lines of
+  -- the previous one are answered
   abbrev pub ReadsNoFurther : Work → S → S → ℕ → Type 0
   ReadsNoFurther work input input' count =
       HasLines work → (given : List ℕ) × source.Gave content has_stopped allowance input input' given × (line_feeds (before_block given) ≤ count)
 
-  -- the run stopped with this fault, behind so many lines
+  -- the run stopped with this fault, after `count` lines
   abbrev pub FailsAt : Work → S → S → K → K → RunFault → ℕ → Type 0
   FailsAt work input input' out out' (Take Read) count = ReadsInput work × (has_stopped input' ≡ true) × StopsInLine work input input' count × PutBefore work input out out' count
   FailsAt work input input' out out' (Take TooLarge) count = ReadsInput work × IsTooLarge work input input' count × ReadsNoFurther work input input' count × PutBefore work input out out' count
   FailsAt work input input' out out' (Take OutOfMemory) count = IsUnhurt work input input' × ReadsNoFurther work input input' count × PutBefore work input out out' count
   FailsAt work input input' out out' Write count = ReadsNoFurther work input input' count × PutPart work input out out' count
 
-  -- the answers to the whole input were put; of bytes that are validated as they come something is said where they are known
+  -- the answers to the whole input were written; for bytes that are validated as they arrive, this holds if they are known
   pub record IsAnswered (work : Work) (input : S) (out out' : K) (outcome : Outcome) : Type 0 where
     pub note : outcome.note.now ≡ []
     pub below : outcome.status < 3
@@ -211,12 +211,12 @@ module _ {S K : Type 0} (content : S → Option (List ℕ)) (has_stopped : S →
     pub responds : ((bytes : List ℕ) × IsContent (content input) bytes × Responds work bytes outcome.status output outcome.place.items)
         ⊎ (Streams work × IfTold (content input) (λ all. Responds work all outcome.status output outcome.place.items))
 
-  -- all answers were put, or an interruption came
+  -- all answers were written, or the run was interrupted
   abbrev pub Ends : Work → S → S → K → K → Result Outcome Interruption → Type 0
   Ends work input input' out out' (Ok outcome) = IsAnswered work input out out' outcome
   Ends work input input' out out' (Err e) = FailsAt work input input' out out' e.fault e.answered
 
-  -- what comes of a run over an input of this text; a job that has no input, or that its own words refuse, leaves it as it was
+  -- the outcome of a run over an input with this text; a job without an input or with refused arguments leaves it unchanged
   pub record Runs (work : Work) (name : List ℕ) (input input' : S) (out out' : K) (outcome : Outcome) : Type 0 where
     pub result : Result Outcome Interruption
     pub ends : Ends work input input' out out' result

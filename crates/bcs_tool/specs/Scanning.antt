@@ -1,4 +1,4 @@
--- What is answered of bytes that are validated as they come.
+-- The answer to bytes that are validated as they arrive.
 use Rattle.std.specs.Prelude.{◌≡◌, ◌<◌, ℕ, List, [], Bool, true, false, Option, Result, Ok, Err}
 use Rattle.bcs_registry_model.specs.Container.{Entries}
 use Rattle.bcs_registry_model.specs.Shape.{Shape}
@@ -18,12 +18,12 @@ use Rattle.bcs_tool.specs.declared.interruption.Side.TheVariants.{Second}
 use Rattle.bcs_tool.specs.declared.run_fault.RunFault.{RunFault}
 use Rattle.bcs_tool.specs.declared.run_fault.RunFault.TheVariants.{Take, Write}
 
--- the verdict on a content: on its front alone, or on all of it
+-- the verdict on a content: on a prefix of it, or on all of it
 abbrev pub Scans : Bool → Entries → Bounds → Shape → Option (List ℕ) → Option (List ℕ) → Result ℕ DecodeFault → Type 0
 Scans true = ScansFrom
 Scans false = ScansAll
 
--- the line of a stop; or why there is none
+-- the answer with the line of a stop, or why there is none
 abbrev pub RefusesScan : DecodeFault → Result Answer Interruption → Type 0
 RefusesScan (decode_fault.Stop stop) (Ok a) = PrintsWithoutPlace a 2 (stop_line stop.reason stop.place)
 RefusesScan (decode_fault.Stop stop) (Err e) = e ≡ record { fault = Take OutOfMemory; answered = 0; side = Second }
@@ -32,14 +32,14 @@ RefusesScan decode_fault.Read (Err e) = e ≡ record { fault = Take Read; answer
 RefusesScan decode_fault.OutOfMemory (Ok a) = ⊥
 RefusesScan decode_fault.OutOfMemory (Err e) = e ≡ record { fault = Take OutOfMemory; answered = 0; side = Second }
 
--- the answer to the content, where it is known
+-- the answer to the content, if it is known
 pub record IsScanned (work : Work) (content : Option (List ℕ)) (answer : Answer) : Type 0 where
   pub below : answer.status < 3
   pub place : answer.place.items ≡ []
   pub told : IfTold content (λ all. Answers work all answer.status answer.output.items)
 
 module _ {S : Type 0} (content : S → Option (List ℕ)) (has_stopped : S → Bool) where
-  -- a call of the input failed; or memory ran out, and a front of the input is gone
+  -- a call of the input failed; or memory ran out, and a prefix of the input is gone
   abbrev pub FaultOfScan : S → S → RunFault → Type 0
   FaultOfScan input input' (Take Read) = has_stopped input' ≡ true
   FaultOfScan input input' (Take TooLarge) = ⊥

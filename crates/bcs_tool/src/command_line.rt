@@ -11,10 +11,10 @@ use std::alloc::{AllocError, Global};
 /// The job that the arguments ask for. The first one is the program's own name, and the second the name of a command. Options
 /// may come anywhere after it. An argument that begins with `-` is an option, unless it is `-` alone or comes after `--`.
 ///
-/// `Help` answers `--help`, `-h` and `help`, and `--version` and `-V`. `Usage` answers everything else that isn't a command
-/// line of `bcs`: a missing or an unknown command, a missing argument or one too many, an option that the command lacks or that
-/// is repeated, and arguments that don't go together (`Misuse`). Arguments of a command line are only refused if memory runs
-/// out.
+/// `Help` is returned for `--help`, `-h` and `help`, and for `--version` and `-V`. `Usage` is returned for everything else that
+/// isn't a command line of `bcs`: a missing or an unknown command, a missing argument or one too many, an option that the
+/// command lacks or that is repeated, and arguments that don't go together (`Misuse`). Valid arguments are refused only if
+/// memory runs out.
 pub fn line(alloc: Global, words: &[String]) -> Result<Job, LineFault>
     ensures job { IfOk result (IsJobOf (texts_of words.now)) }
     ensures taken { IfOk result (λ _. AcceptsArguments (texts_of words.now)) }

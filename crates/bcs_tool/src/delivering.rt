@@ -1,4 +1,4 @@
-//! Where the answer of a job goes: to the standard output, or with `--output` to a file.
+//! Where the answer of a job goes: to standard output, or with `--output` to a file.
 ghost use Rattle.std.specs.Prelude.{IfErr, IfOk};
 ghost use Rattle.bcs_tool.specs.Delivering.{Delivers, FailsToWrite, Finishes, IsUnwritten, IsWritten, PrintsAnswer, RanOut};
 ghost use Rattle.bcs_tool_command_line.specs.FaultPlaces.{cause_text};
@@ -14,7 +14,7 @@ use std::env::Env;
 use std::fs::File;
 use std::rt::Files;
 
-/// Does a job, writes its answer to the standard output, or to the file of `--output`, and returns the status.
+/// Does a job, writes its answer to standard output, or to the file of `--output`, and returns the status.
 pub(crate) fn finish<R: Files + Env + AllocGlobal, S: ByteSource, O: ByteSink, E: ByteSink>(
     rt: &R,
     mut job: Job,
@@ -36,7 +36,7 @@ pub(crate) fn finish<R: Files + Env + AllocGlobal, S: ByteSource, O: ByteSink, E
     }
 }
 
-// Writes the answer of a run that is done to a file, and any other answer to the standard error. No file is opened for that.
+// Writes the answer to a file if the run's status is 0. Otherwise it writes the answer to standard error and opens no file.
 fn deliver<R: Files + AllocGlobal, E: ByteSink>(
     rt: &R,
     quiet: bool,
@@ -59,7 +59,7 @@ fn deliver<R: Files + AllocGlobal, E: ByteSink>(
     }
 }
 
-// Writes an answer to the standard error, before the report.
+// Writes an answer to standard error, before the report.
 fn print_answer<E: ByteSink>(answer: &[u8], run: Outcome, errors: &mut E) -> u8
     ensures { PrintsAnswer E.taken E.is_failed answer.now run errors.old errors.new result }
 {
@@ -92,7 +92,7 @@ fn write_file<R: Files + AllocGlobal>(
     }
 }
 
-// The outcome of a job whose file wasn't written; after opening it, for no cause that has a text.
+// The outcome of a job whose file wasn't written. If the file could be opened, the cause has no text.
 fn unwritten(alloc: Global, quiet: bool, name: &str, cause: OpenCause) -> Outcome
     ensures { IsUnwritten quiet name.now (cause_text cause) result }
 {

@@ -50,7 +50,7 @@ fn read_ahead(words: &Result<Vec<String>, LineFault>) -> usize {
     }
 }
 
-/// Does what the arguments ask for, or reports why there are none, and returns the status.
+/// Does what the arguments ask for, or reports why they couldn't be read, and returns the status.
 pub fn start<R: Files + Env + AllocGlobal, S: ByteSource, O: ByteSink, E: ByteSink>(
     rt: &R,
     words: Result<Vec<String>, LineFault>,

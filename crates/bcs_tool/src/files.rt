@@ -52,7 +52,7 @@ fn unread_file<R: Files + AllocGlobal>(rt: &R, name: &str, fault: FileFault) -> 
     }
 }
 
-// Why a file of this name, which couldn't be opened before, can't be opened now. Only people read it.
+// Why a file of this name, which couldn't be opened before, can't be opened now. It is only shown to people.
 fn open_cause<R: Files + AllocGlobal>(rt: &R, name: &str) -> OpenCause {
     match File::open(rt, name) {
         Ok(_) => OpenCause::Other,

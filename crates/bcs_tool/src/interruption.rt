@@ -21,7 +21,7 @@ pub struct Interruption {
     pub fault: RunFault,
     /// The number of lines, or of pairs of lines, that were answered before; 0 if the input isn't read by lines.
     pub answered: u64,
-    /// The input that failed. It says nothing if the output failed or memory ran out.
+    /// The input that failed. It has no meaning if the output failed or memory ran out.
     pub side: Side,
 }
 

@@ -14,8 +14,8 @@ use bcs_tool_answers::{Answer, Asked, counted, stopped};
 use bcs_tool_command_line::{Outcome, Work};
 use std::alloc::Global;
 
-/// Writes the number of bytes of the value in the input, or where the bytes stop being one. Which part of the value that is,
-/// isn't reported.
+/// Writes the number of bytes of the value in the input, or where the bytes stop being one. It doesn't report which part of
+/// the value that is.
 pub fn run_scan<S: ByteSource, K: ByteSink>(
     alloc: Global,
     work: &Work,

@@ -1,4 +1,4 @@
-//! Text that may hold what people typed, on the standard error.
+//! Text that may contain user input, on standard error.
 ghost use Rattle.std.specs.Prelude.{◌≡◌, ◌<◌, false, map, string_bytes, OnOk, OnErr};
 ghost use Rattle.bcs_io.specs.Taking.{Took};
 ghost use Rattle.bcs_display_text.specs.Escaped.{last_digit, numbered};
@@ -9,7 +9,7 @@ use bcs_io::{ByteSink, put_all};
 
 const DIGITS: &[u8; 16] = b"0123456789abcdef";
 
-/// Puts a text with its hidden characters escaped, without memory; or as far as the sink took it.
+/// Writes a text with its hidden characters escaped, or as much of it as the sink accepts. It doesn't allocate.
 pub(crate) fn put_visible<E: ByteSink>(
     keeps_lines: bool,
     text: &str,
@@ -25,7 +25,7 @@ pub(crate) fn put_visible<E: ByteSink>(
     }
 }
 
-// Whether a text isn't shown as it is.
+// Whether some characters of a text are hidden.
 fn has_hidden(keeps_lines: bool, text: &str) -> bool
     ensures { result ≡ false → visible.visible keeps_lines text.now ≡ text.now }
 {
@@ -58,7 +58,7 @@ fn put_character<E: ByteSink>(keeps_lines: bool, character: char, errors: &mut E
     }
 }
 
-// Puts the numbers of a character's UTF-16 units.
+// Writes the numbers of a character's UTF-16 units.
 fn put_escape<E: ByteSink>(code: u32, errors: &mut E) -> Result<(), u64>
     requires { code < 0x11_0000 }
     ensures whole { OnOk result (Took E.taken E.is_failed errors.old errors.new (visible.escape code)) }
@@ -92,7 +92,7 @@ fn last_digit(number: u32) -> u8
     DIGITS[(number % 16) as usize]
 }
 
-// Whether a character isn't shown as it is.
+// Whether a character is escaped.
 #[tactic(auto, unfolding(crate::specs::Visible::is_hidden))]
 fn is_hidden(keeps_lines: bool, character: char) -> bool
     ensures { result ≡ visible.is_hidden keeps_lines character }
@@ -104,7 +104,7 @@ fn is_hidden(keeps_lines: bool, character: char) -> bool
     }
 }
 
-// Whether a character turns the direction of text, has no width, or separates lines.
+// Whether a character changes the direction of text, has no width, or separates lines.
 #[tactic(auto, unfolding(crate::specs::Visible::misleads))]
 fn misleads(code: u32) -> bool
     ensures { result ≡ visible.misleads code }
@@ -125,7 +125,7 @@ fn is_within(first: u32, last: u32, code: u32) -> bool
     first <= code && code <= last
 }
 
-/// Whether a word has a line feed.
+/// Whether an argument contains a line feed.
 pub(crate) fn breaks_lines(words: &[String]) -> bool
     ensures { result ≡ visible.breaks_lines (map string_bytes words.now) }
 {

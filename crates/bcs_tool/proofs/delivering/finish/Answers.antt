@@ -4,7 +4,7 @@ use Rattle.bcs_tool.specs.HeldOutput.{held_bytes, ran_out}
 use Rattle.bcs_tool.proofs.Prelude.{◌∙◌, List, ℕ, Option, Some, refl, subst, sym, String, Global, Performs}
 use Rattle.bcs_tool.proofs.delivering.finish.Goals as goal
 
--- the standard output
+-- standard output
 pub returns-in-None : goal.returns-in-None
 returns-in-None g c =
     let P : Option (String Global) → Type 0 = λ output. Performs g.S.ByteSource.content g.S.ByteSource.is_failed g.S.ByteSource.allowance

@@ -9,13 +9,13 @@ returns-in-Ok-with_capacity g c =
     c.args.work.now (file_text text) c.new.result c.run_from-in-Ok-with_capacity.new.input c.args.out.now c.run_from-in-Ok-with_capacity.new.out c.run_from-in-Ok-with_capacity.result in
     over_file c.in-Some.name c.new.result c.run_from-in-Ok-with_capacity.new.input c.in-Some.is (subst P c.as_str-name.ensures.value c.run_from-in-Ok-with_capacity.ensures) refl
 
--- no memory for a block of the file
+-- a block of the file couldn't be allocated
 pub returns-in-Ok : goal.returns-in-Ok
 returns-in-Ok g c =
     no_room c.in-Some.name c.in-Some.is
     (subst (λ (name : List ℕ). IsUnread c.args.work.now.options.quiet name (ReadFailed taking.OutOfMemory) c.unread.result) c.as_str-name.ensures.value c.unread.ensures) refl refl
 
--- a file that isn't there
+-- a file that couldn't be opened
 pub returns : goal.returns
 returns g c =
     unopened c.in-Some.name c.in-Some.is

@@ -1,7 +1,7 @@
 use Rattle.bcs_tool.proofs.Prelude.{List, refl, subst, ℕ, file_text, IsUnopened, pairs_over_file, pairs_over_input, second_unopened, IsOutcomeOf}
 use Rattle.bcs_tool.proofs.performing.perform_pairs.Goals as goal
 
--- the standard input
+-- standard input
 pub returns-in_default : goal.returns-in_default
 returns-in_default g c =
     let run = c.run_pairs-result in
@@ -16,7 +16,7 @@ returns-in-Ok-open g c =
     pairs_over_file c.in-Some.name c.new-lines.result run.new.first c.new.result run.new.second c.in-Some.is
     (record { result = run.result; ends = run.ensures.ends; is = subst P c.as_str-name.ensures.value c.outcome_of-in-Ok-open.ensures; untouched = run.ensures.untouched }) refl
 
--- a file that isn't there
+-- a file that couldn't be opened
 pub returns : goal.returns
 returns g c =
     let outcome = c.unopened-in-Err-open in

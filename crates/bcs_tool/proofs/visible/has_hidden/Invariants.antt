@@ -1,7 +1,7 @@
 use Rattle.bcs_tool.proofs.Prelude.{◌≡◌, ◌++◌, ℕ, List, IsUtf8, chars, flat_map, chars_rest, visible_char, visible}
 use Rattle.bcs_tool.proofs.visible.has_hidden.Given as goal
 
--- the characters so far are shown as they are
+-- the characters so far are shown unchanged
 abbrev pub invariant-loop-character : goal.invariant-loop-character
 invariant-loop-character l = IsUtf8 (chars_rest l.character-iterator)
     × ((done : List ℕ) × (done ++ chars_rest l.character-iterator ≡ l.text)
