@@ -1,4 +1,4 @@
--- An open registry may move to another thread, since all its parts may. `search` finds only a layer or two at once.
+-- An open registry may move to another thread, since all its parts may. `search` handles only a layer or two at once.
 use Rattle.bcs_c.proofs.Prelude.{shape, IsSend, enum_send, recorded_send, sendable, Vec-send, crosses, ghosts, send-Format}
 use Rattle.std.proofs.MapsCrossing as maps
 use Rattle.std.specs.contracts.alloc.Global as Global

@@ -1,4 +1,4 @@
--- Answers, each with all that it says.
+-- The answers of calls, with all their fields.
 use Rattle.std.specs.Prelude.{ℕ, Option, Some, None}
 use Rattle.bcs_decode_spec.specs.declared.reason.Reason.{Reason}
 use Rattle.bcs_decode_spec.specs.declared.stop.Stop as declared
@@ -14,11 +14,11 @@ use Rattle.bcs_c.specs.Statuses.{status_number}
 abbrev pub plain : Status → Answer
 plain status = record { status = status_number status; fault = 0; place = 0; length = 0 }
 
--- how many bytes there are
+-- the number of bytes
 abbrev pub sized : Status → ℕ → Answer
 sized status n = record { status = status_number status; fault = 0; place = 0; length = n }
 
--- where a part stands, and how many bytes it has
+-- the place of a part, and its length in bytes
 abbrev pub placed : ℕ → ℕ → Answer
 placed place n = record { status = status_number Done; fault = 0; place = place; length = n }
 
@@ -30,7 +30,7 @@ refusal status fault = record { status = status_number status; fault = fault_num
 abbrev pub stop_at : Reason → ℕ → Answer
 stop_at reason place = record { status = status_number Refused; fault = fault_number (Stop reason); place = place; length = 0 }
 
--- the answer, and where the bytes stop being a value, if they do
+-- the answer, with why and where the bytes stop being a value, if they do
 abbrev pub with_stop : Option declared.Stop → Answer → Answer
 with_stop None a = a
 with_stop (Some x) a = record a { fault = reason_number x.reason; place = x.place }

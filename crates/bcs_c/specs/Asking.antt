@@ -1,4 +1,4 @@
--- What is asked for of a registry that a text writes down, or of one that is open, and why it is refused.
+-- The arguments of a call, with a registry that is given as JSON or open, and when they are refused.
 use Rattle.std.specs.Prelude.{◌≡◌, ◌≢◌, ◌<◌, ◌≤◌, ℕ, List, Option, Some, None}
 use Rattle.bcs_registry_model.specs.Container.{Entries}
 use Rattle.bcs_registry_model.specs.Shape.{Shape}
@@ -12,41 +12,41 @@ use Rattle.bcs_c.specs.declared.ask.HandleAsk.{HandleAsk}
 use Rattle.bcs_c.specs.declared.asked.Asked.{Asked}
 use Rattle.bcs_c.specs.declared.status.Status.TheVariants.{Closed, Limits, Memory, Registry}
 
--- where a registry is from: a text that writes it down, or a handle that keeps it, if one is open
+-- the source of a registry: JSON that represents it, or a handle, in which it may be open
 pub data Source : Type 0 where
   written : List ℕ → Source
   kept : Option Entries → Source
 
--- the text writes down this registry, or it is open
+-- the JSON represents this registry, or this registry is open
 abbrev pub Has : Source → Entries → Type 0
 Has (written text) r = IsRegistry text r
 Has (kept registry) r = registry ≡ Some r
 
--- the text is refused, or no registry is open
+-- the JSON is refused, or no registry is open
 abbrev pub RefusesSource : Source → Answer → Type 0
 RefusesSource (written text) a = RefusesRegistry text Registry a
 RefusesSource (kept registry) a = (registry ≡ None) × (a ≡ plain Closed)
 
--- what a call is asked for
+-- the arguments of a call besides its input
 pub record Request : Type 0 where
   pub source : Source
   pub format : List ℕ
   pub depth : ℕ
   pub nodes : ℕ
 
--- by a call over texts
+-- those of a call that receives the registry as JSON
 abbrev pub by_texts : Ask → Request
 by_texts ask = record { source = written ask.registry.now; format = ask.format.now; depth = ask.depth; nodes = ask.nodes }
 
--- by a call on a handle, in which this registry is open, or none is
+-- those of a call on a handle, in which this registry is open, or none
 abbrev pub on_handle : Option Entries → HandleAsk → Request
 on_handle registry ask = record { source = kept registry; format = ask.format.now; depth = ask.depth; nodes = ask.nodes }
 
--- what is asked for beside the registry
+-- the arguments besides the registry
 abbrev pub rest : Ask → HandleAsk
 rest ask = record { format = ask.format; depth = ask.depth; nodes = ask.nodes }
 
--- this registry is asked for, and this format of it, and these limits, which are allowed
+-- the arguments mean this registry, this format and these limits, which are allowed
 pub record AsksFor (q : Request) (registry : Entries) (limits : Bounds) (s : Shape) : Type 0 where
   pub has : Has q.source registry
   pub is_format : IsFormat registry q.format s
@@ -54,22 +54,22 @@ pub record AsksFor (q : Request) (registry : Entries) (limits : Bounds) (s : Sha
   pub nodes : limits.nodes ≡ q.nodes
   pub allowed : q.depth ≤ 500
 
--- why nothing is asked for: there is no registry; or else the format of it is refused; or else the depth
+-- the arguments are refused: the registry, or else the format, or else the depth
 pub data RefusesAsk (q : Request) (a : Answer) : Type 0 where
   no_registry : RefusesSource q.source a → RefusesAsk q a
   no_format : (r : Entries) → Has q.source r → RefusesFormat r q.format a → RefusesAsk q a
   no_limits : (r : Entries) (s : Shape) → Has q.source r → IsFormat r q.format s → 500 < q.depth → a ≡ plain Limits → RefusesAsk q a
 
--- something is asked for, and this holds of it; or nothing is
+-- the arguments are valid, and this holds of what they mean; or they are refused with this answer
 pub data AnswersIfAsked (q : Request) (a : Answer) (P : Entries → Bounds → Shape → Type 0) : Type 0 where
   given : (r : Entries) (l : Bounds) (s : Shape) → AsksFor q r l s → P r l s → AnswersIfAsked q a P
   refused : RefusesAsk q a → AnswersIfAsked q a P
 
--- whatever is asked for, this holds of it
+-- this holds of whatever the arguments mean
 abbrev pub Whatever : Request → (Entries → Bounds → Shape → Type 0) → Type 0
 Whatever q P = (r : Entries) (l : Bounds) (s : Shape) → AsksFor q r l s → P r l s
 
--- this holds of what was read
+-- this holds of the parsed arguments
 abbrev pub On : Asked → (Entries → Bounds → Shape → Type 0) → Type 0
 On asked P = P asked.registry.now asked.limits (shape_of asked.format.now)
 

@@ -1,4 +1,4 @@
--- What is answered to two JSON texts.
+-- The answer of a call that compares two JSON documents.
 use Rattle.std.specs.Prelude.{◌≡◌, ◌⊎◌, ℕ, List, false, true}
 use Rattle.bcs_registry_model.specs.Container.{Entries}
 use Rattle.bcs_registry_model.specs.Shape.{Shape}
@@ -13,11 +13,11 @@ use Rattle.bcs_c.specs.declared.fault.Fault.TheVariants.{Text}
 use Rattle.bcs_c.specs.declared.status.Status.TheVariants.{Done, Memory, No, Refused}
 
 module _ (registry : Entries) (limits : Bounds) (s : Shape) (first second : List ℕ) where
-  -- the first text is refused for this fault; or it denotes a value, and the second is refused
+  -- the first document is refused for this fault; or it represents a value, and the second is refused for this fault
   abbrev pub RefusesOne : JsonFault → Type 0
   RefusesOne e = RefusesText registry limits s first e ⊎ (((t : Tree) × Denotes registry limits s first t) × RefusesText registry limits s second e)
 
-  -- the texts denote equal values, or different ones; or one is refused; or memory ran out
+  -- the documents represent equal values, or different ones; or one is refused; or memory ran out
   pub data AnswersComparing (a : Answer) : Type 0 where
     equal : Compares registry limits s first second true → a ≡ plain Done → AnswersComparing a
     different : Compares registry limits s first second false → a ≡ plain No → AnswersComparing a

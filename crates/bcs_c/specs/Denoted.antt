@@ -1,4 +1,4 @@
--- What is answered to a JSON text of which something is asked for.
+-- The answer of a call that converts a JSON document.
 use Rattle.std.specs.Prelude.{◌≡◌, ℕ, List}
 use Rattle.bcs_registry_model.specs.Container.{Entries}
 use Rattle.bcs_registry_model.specs.Shape.{Shape}
@@ -13,7 +13,7 @@ use Rattle.bcs_c.specs.declared.fault.Fault.TheVariants.{Text}
 use Rattle.bcs_c.specs.declared.status.Status.TheVariants.{Memory, Refused}
 
 module _ (registry : Entries) (limits : Bounds) (s : Shape) where
-  -- such bytes are handed out; or the text is refused for this fault, and denotes nothing; or memory ran out
+  -- the call returns such bytes; or the document is refused for a fault, and represents no value; or memory ran out
   pub data AnswersText (P : List ℕ → Type 0) (text old new : List ℕ) (a : Answer) : Type 0 where
     put : (b : List ℕ) → P b → Puts b old new a → AnswersText P text old new a
     refused : (e : JsonFault) → RefusesText registry limits s text e → ((t : Tree) → Denotes registry limits s text t → ⊥)

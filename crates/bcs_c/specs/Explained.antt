@@ -1,4 +1,4 @@
--- What is answered to bytes that are to be explained.
+-- The answer of a call that explains bytes.
 use Rattle.std.specs.Prelude.{◌≡◌, ◌==◌, ℕ, List, Option, if◌then◌else◌}
 use Rattle.bcs_registry_model.specs.Container.{Entries}
 use Rattle.bcs_registry_model.specs.Shape.{Shape}
@@ -12,11 +12,11 @@ use Rattle.bcs_c.specs.Output.{Puts}
 use Rattle.bcs_c.specs.declared.answer.Answer.{Answer}
 use Rattle.bcs_c.specs.declared.status.Status.TheVariants.{Memory}
 
--- the form of this number
+-- the form with this number
 abbrev pub form_numbered : ℕ → Form
 form_numbered n = if n == 1 then Paths else (if n == 2 then Tree else (if n == 3 then Json else Ways))
 
--- a text is handed out, and where the bytes stop is told; or memory ran out
+-- the call returns a text, and reports where the bytes stop being a value, if they do; or memory ran out
 pub data AnswersExplained (registry : Entries) (limits : Bounds) (s : Shape) (b old new : List ℕ) (a : Answer) : Type 0 where
   put : (text : List ℕ) (x : Option Stop) (without : Answer) → EndsAt registry limits s b x → Puts text old new without → a ≡ with_stop x without
       → AnswersExplained registry limits s b old new a

@@ -1,4 +1,4 @@
--- The numbers of faults, as C sees them, and their names. Want of memory is a status of its own, and has no number.
+-- The numbers of faults, as C sees them, and their names. Running out of memory has no number: it is a status.
 use Rattle.std.specs.Prelude.{ℕ, List, codes}
 use Rattle.bcs_registry_model.specs.FaultNames.{growth_fault_name, registry_fault_name}
 use Rattle.bcs_registry_model.specs.declared.fault.RegistryFault.{RegistryFault}

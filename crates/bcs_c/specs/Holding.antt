@@ -1,4 +1,4 @@
--- What a handle owns beside its fields.
+-- What a handle owns besides its fields.
 use Rattle.std.specs.Coded.{Coded, coded_option}
 use Rattle.std.specs.declared.option.Option.{Option}
 use Rattle.std.specs.declared.option.Option.TheVariants.{None, Some}
@@ -10,7 +10,7 @@ use denote.RawPtr.{Ptr, null_ptr}
 use Rattle.bcs_registry_model.specs.Container.{Entries}
 use Rattle.bcs_c.specs.contracts.open_registry.OpenRegistry.{the_row}
 
--- with no registry the pointer is null, and nothing is owned; else what a box of the open registry owns
+-- if no registry is open, the pointer is null and nothing is owned; otherwise what a box of the open registry owns
 abbrev pub holds : Global → Ptr → Option Entries → Fml
 holds alloc pointer None = feq Ptr pointer null_ptr
 holds alloc pointer (Some registry) = box_owns (ghosts.dealloc_token alloc) the_row pointer registry

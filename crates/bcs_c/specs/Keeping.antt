@@ -1,10 +1,10 @@
--- What is kept of a registry that is open.
+-- The format that an open registry caches.
 use Rattle.std.specs.Prelude.{ℕ, List}
 use Rattle.bcs_registry_model.specs.Container.{Entries}
 use Rattle.bcs_registry_model.specs.View.{shape_of}
 use Rattle.bcs_c.specs.Registries.{IsFormat}
 use Rattle.bcs_c.specs.declared.known.Known.{Known}
 
--- the format is the one that its text writes down
+-- the format is the one that its JSON represents
 abbrev pub Knows : Entries → Known → Type 0
 Knows registry known = IsFormat registry known.text.items (shape_of known.format)

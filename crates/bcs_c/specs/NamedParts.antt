@@ -1,4 +1,4 @@
--- What is answered to the name of a part.
+-- The answer to the name of a part.
 use Rattle.std.specs.Prelude.{◌≡◌, ◌==◌, ℕ, Bool, false, true, IsUtf8, List, if◌then◌else◌}
 use Rattle.bcs_registry_model.specs.Container.{Entries}
 use Rattle.bcs_registry_model.specs.Shape.{Shape}
@@ -10,15 +10,15 @@ use Rattle.bcs_c.specs.declared.answer.Answer.{Answer}
 use Rattle.bcs_c.specs.declared.fault.Fault.TheVariants.{BadPath}
 use Rattle.bcs_c.specs.declared.status.Status.TheVariants.{Memory, Path}
 
--- the text is valid in the notation of this number
+-- the text is valid in the notation with this number
 abbrev pub is_in_notation : ℕ → List ℕ → Bool
 is_in_notation n text = if n == 1 then is_name text else (if n == 2 then is_pointer text else false)
 
--- the bytes are a text that may name a part in the notation of this number
+-- the bytes are UTF-8 and valid in the notation with this number
 abbrev pub MayName : ℕ → List ℕ → Type 0
 MayName n name = IsUtf8 name × (is_in_notation n name ≡ true)
 
--- the name is refused; or this is answered to steps, those that the name stands for; or memory ran out
+-- the name is refused; or this is the answer to some steps, not proved to be those of the name; or memory ran out
 pub data AnswersNamed (registry : Entries) (limits : Bounds) (s : Shape) (b : List ℕ) (n : ℕ) (name : List ℕ) (a : Answer) : Type 0 where
   refused : (MayName n name → ⊥) → a ≡ refusal Path BadPath → AnswersNamed registry limits s b n name a
   stepped : MayName n name → (steps : Steps) → AnswersSteps registry limits s b steps a → AnswersNamed registry limits s b n name a

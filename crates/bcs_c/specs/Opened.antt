@@ -1,4 +1,4 @@
--- What is answered to the text of a registry that is to be open.
+-- The answer of a call that opens a registry.
 use Rattle.std.specs.Prelude.{◌≡◌, ℕ, List, Option, Some}
 use Rattle.bcs_registry_model.specs.Container.{Entries}
 use Rattle.bcs_c.specs.Answers.{plain}
@@ -6,7 +6,7 @@ use Rattle.bcs_c.specs.Registries.{IsRegistry, RefusesRegistry}
 use Rattle.bcs_c.specs.declared.answer.Answer.{Answer}
 use Rattle.bcs_c.specs.declared.status.Status.TheVariants.{Done, Registry}
 
--- the registry is open that the text writes down; or the text is refused, and what was open still is
+-- the registry that the JSON represents is open; or the JSON is refused, and what was open still is
 pub data AnswersOpening (text : List ℕ) (old new : Option Entries) (a : Answer) : Type 0 where
   opened : (r : Entries) → IsRegistry text r → new ≡ Some r → a ≡ plain Done → AnswersOpening text old new a
   refused : RefusesRegistry text Registry a → new ≡ old → AnswersOpening text old new a

@@ -1,4 +1,4 @@
--- What is answered to a path into the bytes of a value.
+-- The answer to a path into the bytes of a value.
 use Rattle.std.specs.Prelude.{◌≡◌, ℕ, IsUtf8, List, Option, Some, None, drop, length, take}
 use Rattle.bcs_registry_model.specs.Container.{Entries, of}
 use Rattle.bcs_registry_model.specs.Shape.{Shape}
@@ -18,17 +18,17 @@ use Rattle.bcs_c.specs.declared.status.Status.TheVariants.{Memory, No, Path}
 abbrev pub Steps : Type 0
 Steps = List Step
 
--- the path is a text that spells these steps
+-- the path is UTF-8 and represents these steps
 abbrev pub IsPath : List ℕ → Steps → Type 0
 IsPath path steps = IsUtf8 path × SpellsPath path steps
 
--- the path is no text, or spells no steps; or memory ran out
+-- the path isn't UTF-8, or represents no steps; or memory ran out
 pub data RefusesPath (path : List ℕ) (a : Answer) : Type 0 where
   no_text : (IsUtf8 path → ⊥) → a ≡ refusal Path BadPath → RefusesPath path a
   no_path : SpellsNoPath path → a ≡ refusal Path BadPath → RefusesPath path a
   no_memory : a ≡ plain Memory → RefusesPath path a
 
--- the answer tells where the part stands, and how many bytes it has, which are the input's from there on; or there is no part
+-- the answer reports the part's place and its length, and the input has the part's bytes there; or there is no part
 abbrev pub Finds : Entries → List ℕ → Option Part → Answer → Type 0
 Finds registry b (Some x) a =
     (a ≡ placed x.place (length (bytes_of registry x.value x.content)))
@@ -36,12 +36,12 @@ Finds registry b (Some x) a =
 Finds registry b None a = a ≡ plain No
 
 module _ (registry : Entries) (limits : Bounds) (s : Shape) (b : List ℕ) where
-  -- a value stands at the front, and the part of it is found to which the steps lead; or the bytes stop being a value
+  -- the input starts with a value, and this is the answer for the part that the steps lead to; or it stops being a value
   pub data AnswersSteps (steps : Steps) (a : Answer) : Type 0 where
     found : (n : ℕ) (c : Tree) → Accepts registry limits s b n c → Finds registry b (part_at registry steps (of s) c) a → AnswersSteps steps a
     stopped : (e : Reason) (o : ℕ) → Stops registry limits s b e o → a ≡ stop_at e o → AnswersSteps steps a
 
-  -- the path is refused; or this is answered to the steps that it spells; or memory ran out
+  -- the path is refused; or this is the answer to its steps; or memory ran out
   pub data AnswersPart (path : List ℕ) (a : Answer) : Type 0 where
     refused : RefusesPath path a → AnswersPart path a
     stepped : (steps : Steps) → IsPath path steps → AnswersSteps steps a → AnswersPart path a

@@ -1,4 +1,4 @@
--- What is answered to the question where something is refused.
+-- The answers of calls that report where something is refused.
 use Rattle.std.specs.Prelude.{◌≡◌, ◌≢◌, Bool, ℕ, List, [], Some, None, false, true}
 use Rattle.bcs_registry_model.specs.Container.{Entries}
 use Rattle.bcs_registry_model.specs.Shape.{Shape}
@@ -19,7 +19,7 @@ use Rattle.bcs_c.specs.Registries.{IsRegistry}
 use Rattle.bcs_c.specs.declared.answer.Answer.{Answer}
 use Rattle.bcs_c.specs.declared.status.Status.TheVariants.{Memory, No}
 
--- a text with this fault is refused as a whole
+-- whether this fault refuses a document as a whole
 abbrev pub is_of_whole : JsonFault → Bool
 is_of_whole NotJson = true
 is_of_whole TooNested = true
@@ -29,25 +29,25 @@ is_of_whole RepeatedKey = true
 is_of_whole e = false
 
 module _ (registry : Entries) (limits : Bounds) (s : Shape) where
-  -- the bytes are the JSON Pointer to where the text is refused, which is empty where it is refused as a whole
+  -- the bytes are the JSON Pointer to where the document is refused, which is empty if it is refused as a whole
   pub data IsWhere (text b : List ℕ) : Type 0 where
     placed : (path : List PointerStep) (e : JsonFault) → MisspellsAt registry limits s text path e → b ≡ pointer path → IsWhere text b
     whole : (e : JsonFault) → RefusesText registry limits s text e → is_of_whole e ≡ true → b ≡ [] → IsWhere text b
 
-  -- the text is refused, and it is told where, or with 1 something else; or it denotes a value; or memory ran out
+  -- the document is refused, and the call returns where, or with 1 any bytes; or it represents a value; or memory ran out
   pub data AnswersTextPlace (what : ℕ) (text old new : List ℕ) (a : Answer) : Type 0 where
     told : (e : JsonFault) (b : List ℕ) → RefusesText registry limits s text e → (what ≢ 1 → IsWhere text b) → Puts b old new a
         → AnswersTextPlace what text old new a
     stands : (t : Tree) → Denotes registry limits s text t → a ≡ plain No → AnswersTextPlace what text old new a
     no_memory : a ≡ plain Memory → AnswersTextPlace what text old new a
 
-  -- the bytes stop being a value, of which something is told; or they are one; or memory ran out
+  -- the bytes stop being a value, and the call returns some bytes; or they are one; or memory ran out
   pub data AnswersStopPlace (bytes old new : List ℕ) (a : Answer) : Type 0 where
     told : (x : Stop) (b : List ℕ) → EndsAt registry limits s bytes (Some x) → Puts b old new a → AnswersStopPlace bytes old new a
     stands : EndsAt registry limits s bytes None → a ≡ plain No → AnswersStopPlace bytes old new a
     no_memory : a ≡ plain Memory → AnswersStopPlace bytes old new a
 
--- the text is no registry, of which something is told; or it is one; or memory ran out
+-- the JSON of a registry is refused, and the call returns some bytes; or it represents one; or memory ran out
 pub data AnswersRegistryPlace (text old new : List ℕ) (a : Answer) : Type 0 where
   told : (e : RegistryFault) (b : List ℕ) → IsLeastFault text e → Puts b old new a → AnswersRegistryPlace text old new a
   stands : (r : Entries) → IsRegistry text r → a ≡ plain No → AnswersRegistryPlace text old new a

@@ -1,4 +1,4 @@
--- What is answered to texts of registries and formats.
+-- The answers to the JSON of registries and formats.
 use Rattle.std.specs.Prelude.{◌≡◌, ℕ, List}
 use Rattle.bcs_registry_model.specs.Container.{Entries}
 use Rattle.bcs_registry_model.specs.Grows.{Grows, IsFirstGrowthFault}
@@ -14,33 +14,33 @@ use Rattle.bcs_c.specs.declared.fault.Fault.TheVariants as fault
 use Rattle.bcs_c.specs.declared.status.Status.{Status}
 use Rattle.bcs_c.specs.declared.status.Status.TheVariants.{Done, Format, Memory, Newer, Refused, Registry}
 
--- the text writes down this registry
+-- the JSON represents this registry, which is well-formed
 abbrev pub IsRegistry : List ℕ → Entries → Type 0
 IsRegistry text r = WritesRegistry text r × IsWellFormed r
 
--- the text writes down this format of the registry
+-- the JSON represents this format, which the registry admits
 abbrev pub IsFormat : Entries → List ℕ → Shape → Type 0
 IsFormat registry text s = WritesFormat text s × Admits registry s
 
--- a text is refused, with this status, for its least fault; or memory ran out
+-- JSON is refused, with this status, for its least fault; or memory ran out
 pub data RefusesFor (IsLeast : RegistryFault → Type 0) (status : Status) (a : Answer) : Type 0 where
   has_fault : (e : RegistryFault) → IsLeast e → a ≡ refusal status (fault.Registry e) → RefusesFor IsLeast status a
   no_memory : a ≡ plain Memory → RefusesFor IsLeast status a
 
--- the text is no registry
+-- the JSON of a registry is refused
 abbrev pub RefusesRegistry : List ℕ → Status → Answer → Type 0
 RefusesRegistry text = RefusesFor (IsLeastFault text)
 
--- the text is no format of the registry
+-- the JSON of a format is refused
 abbrev pub RefusesFormat : Entries → List ℕ → Answer → Type 0
 RefusesFormat registry text = RefusesFor (IsLeastFormatFault registry text) Format
 
--- the older registry grows to the newer one; or it doesn't, for this fault
+-- the older registry grows into the newer one; or it doesn't, and the answer reports the first fault
 pub data AnswersGrowth (older newer : Entries) (a : Answer) : Type 0 where
   grows : Grows older newer → a ≡ plain Done → AnswersGrowth older newer a
   breaks : (e : GrowthFault) → IsFirstGrowthFault older newer e → a ≡ refusal Refused (fault.Growth e) → AnswersGrowth older newer a
 
--- the texts write down two registries, to which this is answered; or the older is refused, or else the newer
+-- both represent registries, and this is the answer for them; or the older one is refused, or else the newer one
 pub data AnswersTwo (older newer : List ℕ) (a : Answer) : Type 0 where
   given : (r q : Entries) → IsRegistry older r → IsRegistry newer q → AnswersGrowth r q a → AnswersTwo older newer a
   no_older : RefusesRegistry older Registry a → AnswersTwo older newer a

@@ -1,4 +1,4 @@
--- What is answered to bytes that are validated.
+-- The answer of a call that validates bytes.
 use Rattle.std.specs.Prelude.{◌≡◌, ℕ, List}
 use Rattle.bcs_registry_model.specs.Container.{Entries}
 use Rattle.bcs_registry_model.specs.Shape.{Shape}
@@ -11,7 +11,7 @@ use Rattle.bcs_c.specs.Answers.{sized, stop_at}
 use Rattle.bcs_c.specs.declared.answer.Answer.{Answer}
 use Rattle.bcs_c.specs.declared.status.Status.TheVariants.{Done}
 
--- so many bytes at the front are a value's; or the bytes stop being one
+-- the first `n` bytes encode a value; or the bytes stop being one
 pub data AnswersScan (registry : Entries) (limits : Bounds) (s : Shape) (b : List ℕ) (a : Answer) : Type 0 where
   found : (n : ℕ) (c : Tree) → Accepts registry limits s b n c → a ≡ sized Done n → AnswersScan registry limits s b a
   stopped : (e : Reason) (o : ℕ) → Stops registry limits s b e o → a ≡ stop_at e o → AnswersScan registry limits s b a

@@ -1,4 +1,4 @@
--- What is answered to bytes of which the text is asked for.
+-- The answer of a call that turns bytes into JSON.
 use Rattle.std.specs.Prelude.{◌≡◌, ◌<◌, ℕ, List, length}
 use Rattle.serde_json.specs.Data.{depth}
 use Rattle.bcs_registry_model.specs.Container.{Entries}
@@ -19,12 +19,12 @@ use Rattle.bcs_c.specs.declared.fault.Fault.TheVariants.{ShownTooNested}
 use Rattle.bcs_c.specs.declared.status.Status.TheVariants.{Memory, Refused}
 
 module _ (registry : Entries) (limits : Bounds) (s : Shape) where
-  -- the bytes are a value's, whose text would nest too deep
+  -- the bytes encode a value whose JSON would nest too deep
   abbrev pub NestsTooDeep : List ℕ → Type 0
   NestsTooDeep b = (c : Tree) × Accepts registry limits s b (length b) c × (nesting_limit < depth (shown registry c (of s)))
 
-  -- the text of the bytes is handed out; or they stop being a value; or their text would nest too deep; or memory ran out,
-  -- though a value stands at their front
+  -- the call returns the JSON of the bytes; or they stop being a value; or their JSON would nest too deep; or memory ran
+  -- out, which only happens if they start with a value
   pub data AnswersBytes (b old new : List ℕ) (a : Answer) : Type 0 where
     put : (text : List ℕ) → ShowsBytes registry limits s b text → Puts text old new a → AnswersBytes b old new a
     stopped : (e : Reason) (o : ℕ) → StopsAll registry limits s b e o → a ≡ stop_at e o → AnswersBytes b old new a

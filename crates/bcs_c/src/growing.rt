@@ -13,7 +13,7 @@ use bcs_display_registry::{difference_lines, differences};
 use bcs_registry::Registry;
 use std::alloc::{AllocError, Global};
 
-/// All differences, a line each. If the older registry doesn't grow into the newer one, the answer reports the fault.
+/// All differences, one per line. If the older registry doesn't grow into the newer one, the answer reports the fault.
 #[unsafe(no_mangle)]
 pub extern "C" fn bcs_c_growth_list(
     alloc: Global,

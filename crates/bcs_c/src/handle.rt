@@ -41,7 +41,7 @@ impl Handle {
         }
     }
 
-    /// Parses a registry and stores it instead of the one that was open. After a refusal the handle is unchanged.
+    /// Parses a registry and stores it, replacing the one that was open. After a refusal the handle is unchanged.
     pub fn open(&mut self, alloc: Global, text: &[u8]) -> Result<(), RegistryFault>
         ensures opened { IfOk result (λ _. (r : Entries) × (self.new.registry ≡ Some r)
             × WritesRegistry text.now r × IsWellFormed r × IsOrderly r) }
@@ -68,7 +68,7 @@ impl Handle {
         replace(self, Handle::closed(alloc)).into_box()
     }
 
-    /// Stores a registry instead of the one that was open.
+    /// Stores a registry, replacing the one that was open.
     pub(crate) fn put(&mut self, opened: Box<OpenRegistry>)
         ensures { self.new.registry ≡ Some opened.value }
     {

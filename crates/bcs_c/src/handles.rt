@@ -34,7 +34,7 @@ use crate::status::Status;
 use crate::texts::{comparison, normal_text, text_bytes};
 use std::alloc::Global;
 
-/// Parses a registry and stores it in the handle, instead of the one that was open.
+/// Parses a registry and stores it in the handle, replacing the one that was open.
 #[unsafe(no_mangle)]
 pub extern "C" fn bcs_c_open(alloc: Global, handle: &mut Handle, registry: &[u8]) -> Answer
     ensures answers { AnswersOpening registry.now handle.old.registry handle.new.registry result }
@@ -180,7 +180,7 @@ pub extern "C" fn bcs_c_handle_scan(
     answer
 }
 
-/// Finds the part that the path leads to, of the value at the start of the input.
+/// Finds the part that the path leads to, within the value at the start of the input.
 #[unsafe(no_mangle)]
 pub extern "C" fn bcs_c_handle_part(
     alloc: Global,

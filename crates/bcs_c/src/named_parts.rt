@@ -26,7 +26,7 @@ enum PartName<'a> {
     Pointer(&'a str),
 }
 
-/// Finds the part that the name leads to, of the value at the start of the input.
+/// Finds the part that the name leads to, within the value at the start of the input.
 #[unsafe(no_mangle)]
 pub extern "C" fn bcs_c_handle_part_named(
     alloc: Global,
@@ -48,7 +48,7 @@ pub extern "C" fn bcs_c_handle_part_named(
     answer
 }
 
-/// Finds the part that the name leads to, of the value at the start of the input.
+/// Finds the part that the name leads to, within the value at the start of the input.
 fn named_place(alloc: Global, asked: &Asked, notation: u32, name: &[u8], bytes: &[u8]) -> Answer
     ensures { On asked.now (λ r l s. AnswersNamed r l s bytes.now notation name.now result) }
 {

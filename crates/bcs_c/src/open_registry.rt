@@ -15,7 +15,7 @@ use std::alloc::Global;
 use std::marker::Model;
 
 /// An open registry. It caches the format of the last call, so that the next call needn't parse it again. Contracts
-/// only speak about the registry.
+/// only mention the registry.
 #[derive(Drop)]
 pub struct OpenRegistry {
     registry: Registry,
@@ -95,7 +95,7 @@ impl OpenRegistry {
         None
     }
 
-    /// Caches a format, instead of the last one.
+    /// Caches a format, replacing the last one.
     pub(crate) fn keep(&mut self, known: Known)
         requires { Knows self.old known }
         ensures { self.new ≡ self.old }

@@ -23,7 +23,7 @@ use bcs_decode::{Step, part};
 use bcs_decode_parts::{PathFault, PathStep, read_path, steps_of};
 use std::alloc::Global;
 
-/// Finds the part that the path leads to, of the value at the start of the input.
+/// Finds the part that the path leads to, within the value at the start of the input.
 #[unsafe(no_mangle)]
 pub extern "C" fn bcs_c_part(alloc: Global, ask: &Ask, bytes: &[u8], path: &[u8]) -> Answer
     ensures answers { AnswersIfAsked (by_texts ask.now) result (λ r l s. AnswersPart r l s bytes.now path.now result) }
@@ -39,7 +39,7 @@ pub extern "C" fn bcs_c_part(alloc: Global, ask: &Ask, bytes: &[u8], path: &[u8]
     path_place(alloc, &lent.asked(), bytes, path)
 }
 
-/// Finds the part that the path leads to, of the value at the start of the input.
+/// Finds the part that the path leads to, within the value at the start of the input.
 pub(crate) fn path_place(alloc: Global, asked: &Asked, bytes: &[u8], path: &[u8]) -> Answer
     ensures answers { On asked.now (λ r l s. AnswersPart r l s bytes.now path.now result) }
     ensures only { On asked.now (λ r l s. (steps : Steps) (n : ℕ) (c : Tree) → IsPath path.now steps → Accepts r l s bytes.now n c
@@ -72,7 +72,7 @@ fn read_steps(alloc: Global, path: &[u8]) -> Result<Vec<PathStep>, Answer>
     }
 }
 
-/// Finds the part that the steps lead to, of the value at the start of the input.
+/// Finds the part that the steps lead to, within the value at the start of the input.
 pub(crate) fn step_place(asked: &Asked, bytes: &[u8], steps: &[Step]) -> Answer
     ensures { On asked.now (λ r l s. AnswersSteps r l s bytes.now (map step_of steps.now) result) }
 {

@@ -1,4 +1,4 @@
-//! The end of the value at the start of bytes, for C.
+//! The length of the value at the start of the input, for C.
 ghost use Rattle.std.specs.Prelude.{◌≡◌, ℕ};
 ghost use Rattle.bcs_value_model.specs.Tree.{Tree};
 ghost use Rattle.bcs_decode_spec.specs.Accepting.{Accepts};

@@ -70,7 +70,7 @@ pub extern "C" fn bcs_c_path_place(alloc: Global, path: &[u8], out: &mut [u8]) -
     }
 }
 
-/// `None`: the path is valid.
+/// The line, or `None` if the path is valid.
 fn line_of_path(alloc: Global, path: &[u8]) -> Result<Option<Vec<u8>>, AllocError> {
     let Ok(word) = from_utf8(path) else {
         return Ok(Some(Vec::new(alloc)));

@@ -143,8 +143,8 @@ fn put_text(alloc: Global, put: &[u8]) -> Result<String, RowFault> {
     }
 }
 
-// The status, output and standard error of a command line, of a usage error only the first word. Writes fail from calls
-// `puts` and `reports` on.
+// The status, output and standard error (for a usage error, only its first word) of a command line. Writes fail from
+// calls `puts` and `reports` on.
 fn responded<S: ByteSource>(
     rt: &HostRuntime,
     input: &mut S,

@@ -30,8 +30,8 @@ fn equals(alloc: Global, question: &Question, one: &[u8], texts: &[&str]) -> Res
     Ok(count)
 }
 
-// Whether two texts represent equal values. Checks that exactly then their bytes are equal and they are read as the
-// same value.
+// Whether two texts represent equal values. Checks that the bytes and the values read from the texts are equal in
+// exactly the same cases.
 fn is_equal(
     alloc: Global,
     question: &Question,

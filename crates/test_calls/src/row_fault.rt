@@ -59,7 +59,7 @@ impl From<PathFault> for RowFault {
     }
 }
 
-/// The result of a call, unless memory ran out; then the whole row answers with that.
+/// The result of a call. If memory ran out, that is the answer of the whole row.
 pub(crate) fn granted<T: Drop, F: Copy + Drop + PartialEq>(
     answer: Result<T, F>,
     no_memory: F,

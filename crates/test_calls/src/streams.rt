@@ -108,7 +108,7 @@ fn read(alloc: Global, text: &str, rooms: &[&str]) -> Result<String, RowFault> {
     nexts(alloc, &mut source, rooms)
 }
 
-/// A stream that reads or writes the given number of bytes in each call, and fails where none is given.
+/// A stream that reads or writes the given number of bytes in each call, and fails if none is given.
 #[derive(Drop)]
 struct Told {
     counts: [Option<usize>; 4],
@@ -257,7 +257,7 @@ fn push_lines<S: ByteSource>(
     Ok(())
 }
 
-// The next line, the end, or the fault. Of a line of more than 100 letters x, only the length is given.
+// The next line, the end, or the fault. A line of more than 100 letters x is replaced by its length.
 fn line<S: ByteSource>(
     alloc: Global,
     buffer: &mut LineBuffer,

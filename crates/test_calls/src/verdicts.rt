@@ -161,7 +161,7 @@ fn is_length(scanned: Result<u64, DecodeFault>, verdict: &Validated) -> bool {
 }
 
 // Checks that a source gives the same verdict, both for its prefix and for the whole. After a value, reading a prefix
-// takes no further byte, and reading the whole takes one if there is one.
+// consumes no further byte, and reading the whole consumes one if there is one.
 fn agree_in_pieces(
     alloc: Global,
     question: &Question,
