@@ -12,7 +12,7 @@ enum call {
 };
 
 /* What a call is handed. `second` is a second text, a path, the name of a part, or the newer registry, and `number` a form, a
-   notation, a fault, or what is told of a place. */
+   notation, a fault, or which part of a place is wanted. */
 struct job {
     enum call call;
     struct slice registry, format, input, second;
