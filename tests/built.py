@@ -19,8 +19,10 @@ NATIVE = ROOT / f"dist/{os.uname().machine}-linux"
 ROWS = [sys.executable, "tests/rows"]
 DESCRIPTION = """
 Tests the program that ./bcs runs and the libraries in dist/: the worked rows, the explained bytes and the examples of
-the documents. A part that needs something that isn't here, like a compiler, is skipped, and its line says what that is.
-With CI=true in the environment it fails. The last line is `N passed, M failed`, and the status is 0 if none failed.
+the documents. Before that it checks the files: dist/ has exactly those of SHA256SUMS, was built from these sources, and
+is signed if it has SIGNERS; and git tracks nothing that only a build may make. A part that needs something that isn't
+here, like a compiler, is skipped, and its line says what that is. With CI=true in the environment it fails. The last
+line is `N passed, M failed`, and the status is 0 if none failed.
 """
 # the last lines of parts
 PASSED = re.compile(r"[a-z]+: (\d+) passed, (\d+) failed")
@@ -67,6 +69,12 @@ def ran(command: list[str | pathlib.Path], env: dict[str, str] | None = None) ->
     return Outcome(0, 1, ended.stdout)
 
 
+def checked(*command: str) -> Outcome:
+    """Runs a check, which says what is wrong."""
+    ended = subprocess.run(command, cwd=ROOT, stdout=subprocess.PIPE, stderr=subprocess.STDOUT, text=True)
+    return Outcome(1, 0, ended.stdout) if ended.returncode == 0 else Outcome(0, 1, ended.stdout)
+
+
 def notable(log: str) -> list[str]:
     """The lines on what failed or was skipped, each with the two lines after it."""
     lines = log.splitlines(keepends=True)
@@ -97,6 +105,10 @@ class Tests:
             self.failed += 1
         else:
             print(f"test: {name}: skipped, since it needs {needed}")
+
+    def test_files(self) -> None:
+        self.part("what git tracks", lambda: checked("tools/check_tracked.sh"))
+        self.part("the files of dist/", lambda: checked("tools/check_dist.sh"))
 
     def test_program(self) -> None:
         folder = self.room / "bin"
@@ -173,6 +185,7 @@ def options() -> argparse.Namespace:
         "--program", metavar="FILE", help="test FILE and not the program of ./bcs, like the variable BCS"
     )
     parser.add_argument("--quick", action="store_true", help="only the program")
+    parser.add_argument("--dist", action="store_true", help="only check the files, in a second")
     parser.add_argument(
         "--self-test", action="store_true", help="check that this fails for programs with a wrong answer"
     )
@@ -182,16 +195,20 @@ def options() -> argparse.Namespace:
 def main() -> int:
     args = options()
     os.chdir(ROOT)
-    os.environ.update(LC_ALL="C", PYTHONDONTWRITEBYTECODE="1")
-    program = tested_program(args.program or os.environ.get("BCS"))
-    if args.self_test:
-        return subprocess.run([sys.executable, "tests/self_test.py", program]).returncode
     with tempfile.TemporaryDirectory() as folder:
-        version = subprocess.run([program, "--version"], stdout=subprocess.PIPE, text=True, check=True).stdout
-        print(f"test: the program: {version}", end="", flush=True)
+        # Compiled scripts in folders that git ignores could be somebody else's.
+        os.environ.update(LC_ALL="C", PYTHONPYCACHEPREFIX=f"{folder}/compiled")
+        program = "" if args.dist else tested_program(args.program or os.environ.get("BCS"))
+        if args.self_test:
+            return subprocess.run([sys.executable, "tests/self_test.py", program]).returncode
         tests = Tests(program, pathlib.Path(folder))
-        tests.test_program()
         if not args.quick:
+            tests.test_files()
+        if not args.dist:
+            version = subprocess.run([program, "--version"], stdout=subprocess.PIPE, text=True, check=True).stdout
+            print(f"test: the program: {version}", end="", flush=True)
+            tests.test_program()
+        if not (args.dist or args.quick):
             tests.test_languages()
     print(f"{tests.passed} passed, {tests.failed} failed")
     return 0 if tests.failed == 0 else 1

@@ -22,7 +22,8 @@ def install(needed: dict[str, str]) -> None:
     packages = missing(needed)
     if not packages:
         return
-    words = ["apt-get", "install", "-y", "--no-install-recommends", *packages]
+    # Another step of the gate may be installing something.
+    words = ["apt-get", "-o", "DPkg::Lock::Timeout=1200", "install", "-y", "--no-install-recommends", *packages]
     # At this runlevel the package of a server starts none.
     environment = os.environ | {"DEBIAN_FRONTEND": "noninteractive", "RUNLEVEL": "1"}
     if run(words, environment).returncode != 0:

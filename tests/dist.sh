@@ -1,19 +1,9 @@
 #!/bin/sh
-# Tests tools/take_dist.sh, tools/compare_dist.sh and ./bcs in a copy of the sources, with stand-ins for the toolchain and
-# for what it makes, and that no script obeys CDPATH.
+# Tests tools/take_dist.sh and tools/compare_dist.sh in a copy of the sources, and that no script obeys CDPATH.
 set -eu
 unset CDPATH
 cd "$(dirname "$0")/.."
-
-fail() {
-    echo "dist: FAILED: $1"
-    exit 1
-}
-
-room=$(mktemp -d)
-trap 'rm -rf "$room"' EXIT
-trap 'exit 1' HUP INT TERM
-hostile=$room/hostile
+. tests/dist_copy.sh
 
 # ---- CDPATH: every script that changes its folder has to drop it first, since it could lead the script to a folder of the
 # same name elsewhere.
@@ -52,114 +42,16 @@ test_cdpath() {
     echo "dist: $scripts scripts drop CDPATH before they change their folder"
 }
 
-# ---- The copy, with a history of its own.
-
-# sum FOLDER: writes its SHA256SUMS, for the files that are there.
-sum() (
-    cd "$1"
-    find LIBRARIES aarch64-linux vectors web x86_64-linux x86_64-windows ! -type d | LC_ALL=C sort | xargs sha256sum >SHA256SUMS
-)
-
-# script FILE LINE..: writes a program that runs these lines.
-script() {
-    local file="$1"
-    shift
-    printf '%s\n' '#!/bin/sh' "$@" >"$file"
-    chmod +x "$file"
-}
-
-# program FILE WORD: writes a program that prints the word and its arguments, and ends with status 3.
-program() {
-    script "$1" "echo \"$2 \$*\"" 'exit 3'
-}
-
-# label SOURCES [KIT]: prints what BUILT_FROM has for them.
-label() {
-    printf '%s\nsources %s\n' "${2:-kit one}" "$1"
-}
-
-# make_built: writes out/dist as the toolchain would make it.
-make_built() {
-    local name
-    for name in x86_64-linux aarch64-linux x86_64-windows web vectors; do
-        mkdir -p "out/dist/$name"
-    done
-    program out/dist/x86_64-linux/bcs taken
-    program out/dist/x86_64-linux/libbcs.so library
-    program out/dist/aarch64-linux/bcs arm
-    program out/dist/aarch64-linux/libbcs.so library
-    echo archive >out/dist/aarch64-linux/libbcs.a
-    echo module >out/dist/web/bcs.wasm
-    echo dll >out/dist/x86_64-windows/bcs.dll
-    echo line >out/dist/vectors/aptos.jsonl
-    echo 'std - -' >out/dist/LIBRARIES
-    sum out/dist
-    tools/dist_sources.sh --built-from >out/dist/BUILT_FROM
-}
-
-make_copy() {
-    tools/dist_sources.sh --list >"$room/sources"
-    xargs -d '\n' cp --parents -t "$room" <"$room/sources"
-    cp bcs .gitattributes .gitignore "$room"
-    cp tools/dist_sources.sh tools/take_dist.sh tools/compare_dist.sh "$room/tools"
-    cd "$room"
-    mkdir -p bin crates/bcs/out dist
-    export PATH="$room/bin:$PATH" KIT=one
-    # shellcheck disable=SC2016 # $KIT is for the script
-    script bin/rt 'echo "kit $KIT"'
-    script tools/build.py 'echo >>builds' 'cp bin/made crates/bcs/out/bcs'
-    make_built
-    CDPATH=$hostile tools/take_dist.sh >take.log
-    cp -a dist taken
-    diff -r before hostile || fail "tools/take_dist.sh obeys CDPATH"
-}
-
-# commit NAME: commits the sources and dist/ as they are.
-commit() {
-    git add -A -- crates crates.txt bindings tools dist examples bcs .gitattributes .gitignore
-    git commit -qm "$1"
-}
-
-# make_history: makes a repository, without the settings of this machine. `taken_in` is its first commit.
-make_history() {
-    local name names
-    names=$(git rev-parse --local-env-vars)
-    for name in $names; do
-        unset "$name"
-    done
-    export HOME="$room" GIT_CONFIG_NOSYSTEM=1 GIT_AUTHOR_NAME=test GIT_COMMITTER_NAME=test
-    export GIT_AUTHOR_EMAIL=test@test GIT_COMMITTER_EMAIL=test@test
-    git config --global core.fsync none
-    git init -q -b main .
-    commit "dist: rebuild"
-    taken_in=$(git rev-parse HEAD)
-}
-
-# edit_source: the sources change.
-edit_source() {
-    echo >>crates/bcs/src/main.rt
-}
-
-# plant: writes another program, with its checksum.
-plant() {
-    echo other >>dist/x86_64-linux/bcs
-    sum dist
-}
-
-# back: everything is as it was at the first commit.
-back() {
-    git checkout -qf main
-    git reset -q --hard "$taken_in"
-    git clean -qfd -- dist crates
-}
-
 # ---- tools/compare_dist.sh
+
+# what was done to dist/ last
+change=
 
 # refused TEXT [VARIABLE=VALUE..]: with these variables compare fails, and says the text.
 refused() {
     local text="$1"
     shift
-    ! env "$@" tools/compare_dist.sh >compare.log 2>&1 || fail "compare accepts what it has to refuse: $text"
+    ! env "$@" tools/compare_dist.sh >compare.log 2>&1 || fail "compare accepts $change: $text"
     grep -q "^dist: FAILED: .*$text" compare.log || {
         cat compare.log
         fail "compare doesn't say: $text"
@@ -168,6 +60,7 @@ refused() {
 
 # fails WHAT: compare refuses what was done to dist/, and says what to do. Then dist/ is restored.
 fails() {
+    change=$1
     refused 'run tools/take_dist.sh$'
     rm -rf dist
     cp -a taken dist
@@ -185,6 +78,7 @@ passes() {
 
 # test_changed_files STATE: whatever is changed in dist/ is found. STATE says whether the sources have changed since.
 test_changed_files() {
+    local name
     echo modulE >dist/web/bcs.wasm
     fails "a changed byte ($1)"
     rm dist/aarch64-linux/libbcs.a
@@ -196,6 +90,28 @@ test_changed_files() {
     ln -s bcs.wasm dist/web/more
     sum dist
     fails "an additional link, with its sum ($1)"
+    for name in more .more web/more; do
+        mkdir "dist/$name"
+        fails "an additional folder, $name ($1)"
+    done
+    for name in more .more web/more; do
+        mkfifo "dist/$name"
+        fails "an additional FIFO, $name ($1)"
+    done
+    for name in more .more README.txt BUILT_FROM.old web/README.md web/SIGNERS web/SHA256SUMS.sig x86_64-linux/BUILT_FROM; do
+        echo more >"dist/$name"
+        fails "an additional file, $name ($1)"
+    done
+    for name in more SIGNERS SHA256SUMS.sig; do
+        ln -s README.md "dist/$name"
+        fails "an additional link, $name ($1)"
+    done
+    for name in web README.md SHA256SUMS BUILT_FROM; do
+        mv "dist/$name" aside
+        ln -s "$room/aside" "dist/$name"
+        fails "a link in place of $name ($1)"
+        rm -r aside
+    done
     mv dist/web/bcs.wasm aside
     ln -s ../../aside dist/web/bcs.wasm
     fails "a link in place of a file ($1)"
@@ -207,6 +123,15 @@ test_changed_files() {
     rm dist/aarch64-linux/libbcs.a
     sum dist
     fails "a file that is left out, with its sum ($1)"
+    rm dist/README.md
+    fails "no README.md ($1)"
+    echo >>dist/README.md
+    refused "dist/README.md has changes that aren't committed"
+    rm -r dist
+    ln -s taken dist
+    refused "dist/ isn't a folder"
+    rm dist
+    cp -a taken dist
 }
 
 # test_changed_lists STATE: the same for a changed SHA256SUMS or BUILT_FROM.
@@ -264,7 +189,7 @@ test_older_sources() {
     mv out/dist aside
     passes "older, and nothing was built" '^dist: OLDER'
     mv aside out/dist
-    label "$(printf '%064d' 7)" >dist/BUILT_FROM
+    relabel "$(printf '%064d' 7)"
     refused "has changes that aren't committed"
     commit "edit BUILT_FROM"
     refused "names neither these sources nor those of $(git rev-parse HEAD)"
@@ -279,7 +204,7 @@ test_planted_program() {
     plant
     commit "a program, its sum and a source"
     refused "names neither these sources nor those of"
-    label "$(tools/dist_sources.sh)" >dist/BUILT_FROM
+    relabel "$(tools/dist_sources.sh)"
     git commit -qa --amend --no-edit
     refused "wasn't made from these sources"
     cp dist/BUILT_FROM out/dist
@@ -303,8 +228,7 @@ test_planted_program() {
 test_merge() {
     edit_source
     echo >>dist/LIBRARIES
-    sum dist
-    label "$(tools/dist_sources.sh)" >dist/BUILT_FROM
+    relabel "$(tools/dist_sources.sh)"
     commit "dist: rebuild"
     git checkout -qb side "$taken_in"
     echo >>dist/web/bcs.wasm
@@ -338,13 +262,25 @@ test_hidden_source() {
     echo "dist: compare refuses an edited BUILT_FROM, and compares bytes whatever the kit is called"
 }
 
-# make_tools: fills a folder with all that the scripts need, except git and rt.
-make_tools() {
-    local tool
-    mkdir few
-    for tool in awk cat cmp cut diff dirname env find grep mktemp paste readlink rm sed sha256sum sort wc; do
-        ln -s "$(command -v "$tool")" few
+# test_committed: without the toolchain, dist/ has to be current and as in the last commit, even if all checksums are right.
+test_committed() {
+    local change
+    for change in plant 'echo >>dist/README.md' 'touch dist/SIGNERS.old' edit_source 'chmod -x dist/x86_64-linux/bcs'; do
+        tools/compare_dist.sh --committed >compare.log || fail "compare --committed refuses dist/ as it was committed"
+        eval "$change"
+        ! tools/compare_dist.sh --committed >compare.log || fail "compare --committed accepts: $change"
+        back
     done
+    plant
+    ! tools/compare_dist.sh --committed >compare.log || fail "compare --committed accepts another program with its sum"
+    grep -q "^dist: FAILED: dist/ has changes that aren't committed" compare.log || fail "compare --committed doesn't say what is wrong"
+    mv .git aside
+    ! tools/compare_dist.sh --committed >compare.log || fail "compare --committed accepts an unsigned dist/ without a history"
+    grep -q "^dist: FAILED: dist/ is neither signed nor can it be compared with a commit" compare.log \
+        || fail "compare --committed doesn't say that there is no history"
+    mv aside .git
+    back
+    echo "dist: compare --committed refuses whatever isn't committed"
 }
 
 # test_history: without a history nobody can tell.
@@ -419,145 +355,9 @@ test_interrupted_take() {
     rm bin/mv
 }
 
-# ---- ./bcs
-
-older='bcs: the program in dist/ is older than these sources; ./bcs --build proves and builds them'
-
-# runs WHAT WORD TEXT: ./bcs, twice, runs the program with that word, and says the text.
-runs() {
-    local status time
-    for time in once again; do
-        status=0
-        ./bcs encode '{}' "a b" >output 2>errors || status=$?
-        { [ "$status" = 3 ] && [ "$(cat output)" = "$2 encode {} a b" ] && [ "$(cat errors)" = "$3" ]; } || {
-            cat output errors
-            fail "./bcs, $1, $time"
-        }
-    done
-}
-
-# ends STATUS TEXT ARGUMENT..: ./bcs ends with that status, and says the text.
-ends() {
-    local expected="$1" text="$2" status=0
-    shift 2
-    ./bcs "$@" >output 2>errors || status=$?
-    { [ "$status" = "$expected" ] && grep -q "$text" errors; } || {
-        cat output errors
-        fail "./bcs $* ends with $status"
-    }
-}
-
-test_edited_sources() {
-    runs "as taken" taken ''
-    sed -i 's/$/ /' crates/bcs_num/src/lib.rt
-    runs "with an edited source" taken "$older"
-    sed -i 's/ $//' crates/bcs_num/src/lib.rt
-    runs "with the source as it was" taken ''
-    mv crates/bcs_num/src/lib.rt aside
-    runs "with a source less" taken "$older"
-    mv aside crates/bcs_num/src/lib.rt
-    runs "with the source back" taken ''
-    echo >>tools/make_dist.sh
-    runs "with an edited script that makes dist/" taken "$older"
-    truncate -s -1 tools/make_dist.sh
-    runs "with the script as it was" taken ''
-    touch -d 2001-01-01 aside
-    mv aside crates/bcs_num/src/more.rt
-    runs "with a source more, of an old time" taken "$older"
-    rm crates/bcs_num/src/more.rt
-}
-
-test_no_checksum() {
-    rm -r out
-    echo >out
-    runs "where nothing can be cached" taken ''
-    rm out
-    mkdir out
-    script bin/sha256sum 'exit 1'
-    rm -r out
-    runs "where no checksum can be made" taken "$older"
-    rm bin/sha256sum
-    runs "where it can be made again" taken ''
-    script bin/find 'case "$*" in *-cnewer*) exit 1 ;; esac' "exec $(command -v find) \"\$@\""
-    edit_source
-    runs "where find can't tell what has changed" taken "$older"
-    truncate -s -1 crates/bcs/src/main.rt
-    rm bin/find
-    runs "where it can tell" taken ''
-}
-
-test_proved_program() {
-    mkdir -p crates/bcs/out
-    program crates/bcs/out/bcs proved
-    runs "with a program of which nothing is known" taken ''
-    tools/dist_sources.sh --built-from >out/proved
-    runs "with a program that is proved" proved ''
-    program crates/bcs/out/bcs other
-    touch -d '1 hour' crates/bcs/out/bcs
-    runs "with a program that was built later" taken ''
-    program crates/bcs/out/bcs proved
-    touch out/proved
-    echo >>crates.txt
-    runs "with a program that was proved from other sources" taken "$older"
-    truncate -s -1 crates.txt
-}
-
-# test_build: ./bcs --build, with the script that plays the building.
-test_build() {
-    local time
-    rm out/proved
-    program bin/made built
-    for time in once again; do
-        ./bcs --build 2>errors || fail "./bcs --build, $time"
-    done
-    { grep -q 'is proved and built from these sources' errors && [ "$(wc -l <builds)" = 1 ]; } || fail "./bcs --build builds again"
-    runs "with a program that was built" built ''
-    echo >>crates.txt
-    { ./bcs --build 2>errors && [ "$(wc -l <builds)" = 2 ]; } || fail "./bcs --build with a changed source"
-    runs "with a program that was built anew" built ''
-    truncate -s -1 crates.txt
-    runs "with a program that was built from other sources" taken ''
-    mv bin/made aside
-    ends 4 'could not be built' --build
-    (export PATH="$room/few" && ends 4 'command not found: rt' --build)
-    mv aside bin/made
-    cp bin/made crates/bcs/out/bcs
-    tools/dist_sources.sh --built-from >out/proved
-}
-
-# finds_itself FOLDER COMMAND..: in that folder, the command prints the path of the program.
-finds_itself() (
-    cd "$1"
-    shift
-    [ "$("$@" --where)" = "$room/crates/bcs/out/bcs" ] || fail "$* --where"
-)
-
-test_where() {
-    mkdir elsewhere
-    ln -s ../bcs elsewhere/link
-    finds_itself elsewhere ./link
-    finds_itself bin sh ../bcs
-    finds_itself . sh bcs
-    rm crates/bcs/out/bcs
-}
-
-# test_machines: each kind of machine is one by the name that a `uname` of its own gives it, and arm64 by a loader in this
-# folder.
-test_machines() {
-    local machine
-    sed -i "s,/lib/ld-linux-aarch64.so.1,$room/loader," bcs
-    for machine in "Darwin x86_64" "Linux riscv64" "Linux aarch64"; do
-        script bin/uname "echo $machine"
-        ends 4 'node dist/web/bcs.mjs' check
-    done
-    touch loader
-    runs "on arm64" arm ''
-    rm loader bin/uname dist/x86_64-linux/bcs
-    ends 4 'no program in dist/' check
-}
-
 test_cdpath
 make_copy
+diff -r before hostile || fail "tools/take_dist.sh obeys CDPATH"
 make_history
 make_tools
 test_changes
@@ -566,12 +366,6 @@ test_older_sources
 test_planted_program
 test_merge
 test_hidden_source
+test_committed
 test_history
 test_take
-test_edited_sources
-test_no_checksum
-test_proved_program
-test_build
-test_where
-test_machines
-echo "dist: ./bcs runs what was proved from these sources, or else the program in dist/, and says where that is older; ./bcs --build builds; each kind of machine runs its own"

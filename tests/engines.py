@@ -12,6 +12,7 @@ from __future__ import annotations
 import json
 import os
 import pathlib
+import resource
 import select
 import subprocess
 import sys
@@ -29,6 +30,8 @@ DECODE = ["decode", "--lines", *REFUSALS, "examples/aptos_registry.json", "RawTr
 # More than a pipe holds.
 ROWS = 2000
 BLOCKS = 3
+# At which a file ends within an answer.
+FILE_SIZE = 1000
 # How long a program may take for a line.
 SECONDS = 20
 # Commands with their arguments, and lines of which the second is refused.
@@ -163,6 +166,26 @@ def check_file(command: list[str], engine: str) -> None:
     passed(engine)
 
 
+def limit_file_size() -> None:
+    resource.setrlimit(resource.RLIMIT_FSIZE, (FILE_SIZE, FILE_SIZE))
+
+
+def check_cut_output(program: str, file: pathlib.Path) -> None:
+    """At a file size limit, all answers that end with a line feed are complete, and the last one is cut off. (Python
+    ignores the signal for that, and so does the program.)"""
+    words = [program, "decode", "--lines", "--quiet", "{}", '"I16"']
+    with file.open("wb") as output:
+        ended = subprocess.run(
+            words, input=b"cced\n" * ROWS, stdout=output, restore_signals=False, preexec_fn=limit_file_size
+        )
+    *answers, cut = file.read_text(encoding="ascii").split("\n")
+    if ended.returncode != 4 or not answers or not cut:
+        fail(f"a file size limit: status {ended.returncode}, {len(answers)} answers, and then {cut!r}")
+    if {*answers} != {"-4660"} or not "-4660".startswith(cut):
+        fail(f"a file size limit: it answers {cut!r}, or another complete line is wrong")
+    passed("a file size limit: only the last answer is cut off")
+
+
 def check_line_by_line(program: str, words: list[str], lines: list[str]) -> None:
     """Each line is answered by one line before the next one is written, whether or not it is refused."""
     process = Process(program, words)
@@ -192,6 +215,7 @@ def main(folder: str) -> None:
         check_file([*parallel, program, *DECODE], "GNU parallel")
         pairs = pathlib.Path(room) / "pairs"
         pairs.write_text("7\n7\n7\n", encoding="utf-8")
+        check_cut_output(program, pathlib.Path(room) / "limited")
         jobs = LINE_BY_LINE | {"same": (["{}", '"U8"', str(pairs)], ["7", "x", "8"])}
         for command, (arguments, lines) in jobs.items():
             for refusals in NO_REFUSALS, REFUSALS:

@@ -1,9 +1,11 @@
 #!/usr/bin/env python3
 """The merge gate: everything that has to hold before a change lands. It needs the toolchain's command rt, and Debian.
 
-First come the checks that take seconds: scripts are formatted and have no warning, and what the documents name is
-there. Then `rt ci` proves every crate and its tests, tries the must-fail edits, and builds the programs. The steps
-after it test what was built. The last line is the closing line of `rt ci`, `N passed, M failed`.
+First come the checks that take seconds: git tracks nothing that only a build may make, scripts are formatted and have
+no warning, what the documents name is there, and docs/DECISIONS.md lists what the public API has beyond the specified
+one. Then `rt ci` proves every crate and its tests, tries the must-fail edits, and builds the programs. The steps after
+it test what was built. All of them run, side by side, and a line for each says what it took. The last line is the
+closing line of `rt ci`, `N passed, M failed`.
 """
 
 from __future__ import annotations
@@ -18,7 +20,10 @@ import sys
 import tempfile
 from collections.abc import Iterator
 
+import bindings
 import debian
+import side_by_side
+from side_by_side import Step, python
 
 ROOT = pathlib.Path(__file__).resolve().parent.parent
 
@@ -86,8 +91,8 @@ def prove(log: pathlib.Path) -> tuple[bool, str]:
 
 
 def note_what_was_proved(built_from: str) -> None:
-    """Writes the sources that the crates were built from to out/proved, for tools/make_dist.sh and ./bcs. Not if `rt
-    lib` had built a library before: `rt` restores that one, and it may be older."""
+    """Writes the sources that the crates were built from to out/proved, for tools/make_dist.sh and ./bcs --build. Not
+    if `rt lib` had built a library before: `rt` restores that one, and it may be older."""
     if not any(ROOT.glob("crates/*/out/rlib/stamp")):
         (ROOT / "out").mkdir(exist_ok=True)
         (ROOT / "out/proved").write_text(built_from, encoding="utf-8")
@@ -97,39 +102,25 @@ def passes(*words: str) -> bool:
     return subprocess.run(words).returncode == 0
 
 
-def bindings_and_memory(room: pathlib.Path) -> bool:
-    """The tests of bindings mostly run one compiler at a time, so those of failing allocations run beside them."""
-    with (room / "memory").open("w+", encoding="utf-8") as file:
-        words = ["sh", "-c", "tests/memory.py && tests/give_up.py"]
-        memory = subprocess.Popen(words, stdout=file, stderr=subprocess.STDOUT)
-        have_passed = passes("tests/bindings.py")
-        have_passed = memory.wait() == 0 and have_passed
-    print((room / "memory").read_text(encoding="utf-8"), end="", flush=True)
-    return have_passed
-
-
-def dist_is_current(room: pathlib.Path) -> bool:
-    """Compares dist/ with what was built. The result is kept, to be printed last."""
-    with (room / "dist").open("w", encoding="utf-8") as file:
-        return subprocess.run(["tools/compare_dist.sh"], stdout=file).returncode == 0
-
-
-def steps_pass(room: pathlib.Path) -> bool:
-    """The steps over what `rt ci` built."""
+def steps(log: pathlib.Path) -> list[Step]:
+    """The steps over what `rt ci` built, the longest first. Those that measure time count that of the processor."""
     program = "crates/bcs/out/bcs"
-    return (
-        passes("tests/edits.py", str(room / "log"))
-        and passes("tests/program.py")
-        and passes("tests/engines.py")
-        and passes("tests/schema.sh")
-        and passes("tests/explain.py")
-        and passes("tests/program_heap.sh")
-        and bindings_and_memory(room)
-        and dist_is_current(room)
-        and passes("tools/trust.py", "--check")
-        and passes("tests/newcomer.py", program)
-        and passes("tests/packages.py")
-    )
+    return [
+        *bindings.steps(),
+        Step("packages", ["tests/packages.py"], (bindings.MADE,)),
+        Step("newcomer", python("tests/newcomer.py", program), (bindings.MADE,)),
+        Step("failing memory", ["tests/memory.py"]),
+        Step("give up", ["tests/give_up.py"]),
+        Step("program by rt", ["tests/program.py"]),
+        Step("building", ["tests/building.py"]),
+        Step("engines", ["tests/engines.py"]),
+        Step("schema", ["tests/schema.sh"]),
+        Step("explain", ["tests/explain.py"]),
+        Step("heap", ["tests/program_heap.sh"]),
+        Step("trust", python("tools/trust.py", "--check")),
+        Step("edits", python("tests/edits.py", str(log))),
+        Step("dist is current", ["tools/compare_dist.sh"], (bindings.MADE,)),
+    ]
 
 
 def main() -> int:
@@ -138,7 +129,8 @@ def main() -> int:
     debian.install(LINTERS)
     # So that the huge pages are put back, too.
     signal.signal(signal.SIGTERM, lambda *_: sys.exit(143))
-    if not (passes("tests/lint.sh") and passes("tests/names.py")):
+    first = (["tools/check_tracked.sh"], ["tests/lint.sh"], ["tests/names.py"], ["tools/api.py", "--check"])
+    if not all([passes(*words) for words in first]):
         print("0 passed, 1 failed")
         return 1
     built_from = subprocess.run(
@@ -151,10 +143,11 @@ def main() -> int:
             has_passed, closing = prove(room / "log")
         if has_passed:
             note_what_was_proved(built_from)
-            if not steps_pass(room):
-                has_passed, closing = False, f"{closing.partition(',')[0]}, 1 failed"
-        if (room / "dist").exists():
-            print((room / "dist").read_text(encoding="utf-8"), end="")
+            bindings.set_variables()
+            debian.install(bindings.NEEDED)
+            if failed := side_by_side.run_all(steps(room / "log"), side_by_side.lanes()):
+                has_passed, closing = False, f"{closing.partition(',')[0]}, {len(failed)} failed"
+                print(f"gate: FAILED: {', '.join(failed)}")
     print(closing)
     return 0 if has_passed else 1
 

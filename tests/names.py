@@ -1,7 +1,6 @@
 #!/usr/bin/env python3
 """tests/names.py [FILE..]: whether what the documents name in `crates/` is there. Without a word: README.md,
-CONTRIBUTING.md, CHANGELOG.md, docs/ and the READMEs of the crates; and whether the crates have the `unsafe impl`s
-listed here and no others, since the prover takes those on trust.
+CONTRIBUTING.md, CHANGELOG.md, docs/ and the READMEs of the crates.
 
 It looks at each path `crates/..`, and between backticks at each crate's name, at the file of definitions of a name
 `CRATE/File`, at "the files `a` and `b` of `CRATE`", and at `src/..`, `specs/..`, `proofs/..` and `must-fail/..` of the
@@ -19,9 +18,6 @@ CRATES = ROOT / "crates"
 OTHERS = {"bcs_app", "bcs_program", "bcs_command", "bcs_handle_scan", "bcs_proved"}
 HEADERS = ("bindings/c/include/bcs.h", "bindings/c/proved.h")
 CALLS = {name for file in HEADERS for name in re.findall(r"\bbcs_\w+", (ROOT / file).read_text(encoding="utf-8"))}
-
-# What is unsafe in the crates besides blocks, which are proved, and attributes.
-UNSAFE = ["crates/bcs_c/src/handle.rt: unsafe impl Send for Handle"]
 
 PATH = re.compile(r"(?<!\w/)\bcrates/[\w./*-]*[\w*]")
 NAME = re.compile(r"\b(?:(?:bcs|test|bench)_\w+|example_library\b)")
@@ -111,15 +107,6 @@ def missing_in(file: pathlib.Path) -> list[str]:
     return missing
 
 
-def unsafe_items() -> list[str]:
-    """Each word `unsafe` with the words behind it up to a brace, by its file, but for blocks and attributes."""
-    found = []
-    for file in sorted(CRATES.glob("*/src/**/*.rt")):
-        items = re.findall(r"\bunsafe\b(?!\(|\s*\{)[^{]*", file.read_text(encoding="utf-8"))
-        found += [f"{file.relative_to(ROOT)}: {' '.join(words.split())}" for words in items]
-    return found
-
-
 files = [pathlib.Path(word).resolve() for word in sys.argv[1:]]
 documents = ["README.md", "CONTRIBUTING.md", "CHANGELOG.md", "docs/*.md", "crates/*/README.md"]
 files = files or [file for document in documents for file in sorted(ROOT.glob(document))]
@@ -129,7 +116,4 @@ for place in wrong:
 print(
     f"names: what {len(files)} documents name in crates/ is there" if not wrong else f"names: {len(wrong)} aren't there"
 )
-items = UNSAFE if sys.argv[1:] else unsafe_items()
-if items != UNSAFE:
-    print("names: FAILED: tests/names.py lists other `unsafe` items than the crates have:", *items, sep="\n    ")
-sys.exit(1 if wrong or items != UNSAFE else 0)
+sys.exit(1 if wrong else 0)

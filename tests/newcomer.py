@@ -13,6 +13,7 @@ from __future__ import annotations
 import os
 import pathlib
 import re
+import shutil
 import subprocess
 import sys
 import tempfile
@@ -64,6 +65,11 @@ def tree_of_dist(room: pathlib.Path) -> pathlib.Path:
     tree = room / "then"
     git("clone", "--quiet", "--shared", "--no-checkout", ".", str(tree))
     git("-C", str(tree), "checkout", "--quiet", "--detach", older[1])
+    # It may have been signed in a later commit.
+    for name in ["SIGNERS", "SHA256SUMS.sig"]:
+        (tree / "dist" / name).unlink(missing_ok=True)
+        if (ROOT / "dist" / name).exists():
+            shutil.copy(ROOT / "dist" / name, tree / "dist")
     return tree
 
 
@@ -81,7 +87,7 @@ def main() -> None:
     with tempfile.TemporaryDirectory() as room:
         test(tree_of_dist(pathlib.Path(room)), "--program", str(ROOT / "dist/x86_64-linux/bcs"))
     test(ROOT, "--quick", "--program", program)
-    print(run(["./test", "--self-test"]), end="")
+    print(run(["./test", "--self-test", "--program", program]), end="")
     print(run(["tests/packaging.py", "--all", program]), end="")
 
 

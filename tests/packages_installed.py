@@ -90,7 +90,9 @@ def install_program(rooms: Rooms) -> str:
 
 
 def clone(rooms: Rooms, debian: pathlib.Path) -> None:
-    shutil.copytree(rooms.tree, debian / "root/clone", dirs_exist_ok=True)
+    """Without the signature, since a bare Debian has no ssh-keygen, and without git's files, since it has no git."""
+    without = shutil.ignore_patterns(".git", "SIGNERS", "SHA256SUMS.sig")
+    shutil.copytree(rooms.tree, debian / "root/clone", dirs_exist_ok=True, ignore=without)
 
 
 def answer_in_clone(rooms: Rooms) -> str:

@@ -2,13 +2,14 @@
 
 from __future__ import annotations
 
+import hashlib
 import pathlib
 import re
 import shutil
 import sys
 from typing import NamedTuple
 
-from trials import ROOT, Failed, Word, ran, refused, run
+from trials import ROOT, Failed, Variables, Word, ran, refused, run
 
 # The list of licences of Debian's package node-spdx-license-ids.
 SPDX_LICENCES = "/usr/share/nodejs/spdx-license-ids/index.json"
@@ -55,12 +56,26 @@ def copy_repository(rooms: Rooms) -> str:
             shutil.copy2(ROOT / name, rooms.tree / name)
     sources = "sources " + run(rooms.tree / "tools/dist_sources.sh").strip()
     if last_line(ROOT / "dist/BUILT_FROM") == sources:
+        commit_all(rooms.tree)
         return "packages are made of dist/"
     if last_line(ROOT / "out/dist/BUILT_FROM") != sources:
         raise Failed("dist/ and out/dist are older than the sources: run tools/make_dist.sh out/dist")
-    refused(rooms.tree / "tools/packages.py", rooms.made, reason="older than these sources")
+    refused(rooms.tree / "tools/packages.py", rooms.made, reason="was built from other sources than these")
     run(rooms.tree / "tools/take_dist.sh", ROOT / "out/dist")
+    # Nobody has signed these files yet.
+    (rooms.tree / "dist/SIGNERS").unlink(missing_ok=True)
+    commit_all(rooms.tree)
     return "packages are made of out/dist"
+
+
+def commit_all(tree: pathlib.Path) -> None:
+    """Makes a repository of a folder, with one commit."""
+    variables: Variables = {name: None for name in run("git", "rev-parse", "--local-env-vars").split()}
+    variables |= {"GIT_CONFIG_NOSYSTEM": "1", "GIT_CONFIG_GLOBAL": "/dev/null"}
+    person = ["-c", "user.name=test", "-c", "user.email=test@test"]
+    run("git", "init", "-q", ".", folder=tree, variables=variables)
+    run("git", "add", "--all", "--force", folder=tree, variables=variables)
+    run("git", *person, "commit", "-q", "-m", "all", folder=tree, variables=variables)
 
 
 def agree_on_licence_and_version(rooms: Rooms) -> str:
@@ -89,7 +104,8 @@ def make_twice(rooms: Rooms) -> str:
 
 
 def refuse_damage(rooms: Rooms) -> str:
-    """A changed byte, an additional file and newer sources are found before anything is made."""
+    """Whatever has changed in dist/ is found before anything is made, even if its checksum is right; and so are newer
+    sources, and a dist/ without a history."""
     damaged = rooms.top / "damaged"
     shutil.copytree(rooms.tree, damaged)
     program, more, source = (
@@ -98,17 +114,38 @@ def refuse_damage(rooms: Rooms) -> str:
     command: list[Word] = [damaged / "tools/packages.py", damaged / "made"]
     whole = program.read_bytes()
     program.write_bytes(whole + b"x")
-    refused(*command, reason="isn't the file that dist/SHA256SUMS has")
-    program.write_bytes(whole)
+    refused(*command, reason="doesn't have exactly the files that SHA256SUMS lists")
+    fix_checksum(program)
+    refused(*command, reason="has changes that aren't committed")
+    run("git", "checkout", "-q", "dist", folder=damaged)
     more.touch()
-    refused(*command, reason=r"dist/SHA256SUMS doesn't list dist/web/more\.mjs")
+    refused(*command, reason="doesn't have exactly the files that SHA256SUMS lists")
     more.unlink()
+    (damaged / "dist/README.md").write_text("other\n", encoding="utf-8")
+    refused(*command, reason="has changes that aren't committed")
+    run("git", "checkout", "-q", "dist", folder=damaged)
+    (damaged / "dist").rename(damaged / "elsewhere")
+    (damaged / "dist").symlink_to("elsewhere")
+    refused(*command, reason="dist/ isn't a folder")
+    (damaged / "dist").unlink()
+    (damaged / "elsewhere").rename(damaged / "dist")
+    (damaged / ".git").rename(damaged / "history")
+    refused(*command, reason="neither signed nor can it be compared with a commit")
     source.write_bytes(source.read_bytes() + b"\n")
-    refused(*command, reason="dist/ is older than these sources")
+    refused(*command, reason="was built from other sources than these")
     if (damaged / "made").exists():
         raise Failed("packages were made of damaged files")
     shutil.rmtree(damaged)
-    return "dist/ with a changed byte, an additional file or newer sources is rejected"
+    return "dist/ with a changed byte, another checksum, an additional file, newer sources or no history is rejected"
+
+
+def fix_checksum(file: pathlib.Path) -> None:
+    """Writes its checksum to SHA256SUMS."""
+    dist = file.parent.parent
+    name, checksum = file.relative_to(dist).as_posix(), hashlib.sha256(file.read_bytes()).hexdigest()
+    sums = dist / "SHA256SUMS"
+    text = sums.read_text(encoding="ascii")
+    sums.write_text(re.sub(rf"(?m)^\w+(?=  {name}$)", checksum, text), encoding="ascii")
 
 
 def check_bill(rooms: Rooms) -> str:

@@ -18,6 +18,7 @@ import tempfile
 from collections.abc import Callable
 
 import packaging_install
+import packaging_prefixes
 from packaging_install import ROOT, Wrong, require
 
 # A line, and what is offered at its end.
@@ -143,6 +144,12 @@ class Packaging:
         print(f"packaging: skipped: there is no {program}")
         return False
 
+    def require_root(self) -> None:
+        """Only root can make folders of others. With --all it has to be root who tries them."""
+        if os.geteuid() != 0:
+            require(not self.needs_all, "folders of others can only be tried by root")
+            print("packaging: skipped: folders of others, which only root can make")
+
     def help_lines(self) -> list[tuple[str, str]]:
         """The lines of the help, each with its command. Headings and indentation aren't in the manual."""
         whole = output([self.program, "--help"])
@@ -264,8 +271,11 @@ def main() -> int:
             packaging.test_completions("zsh", packaging.offered_by_zsh)
             packaging.test_completions("fish", packaging.offered_by_fish)
             packaging_install.test(program, room, manual)
+            packaging.require_root()
+            packaging_prefixes.test(program, room)
             if packaging.has("busybox", "busybox-static"):
-                packaging_install.test_busybox(program, room)
+                tools = packaging_install.test_busybox(program, room)
+                packaging_prefixes.test(program, room, str(tools / "sh"), variables={"PATH": str(tools)})
         except (Wrong, subprocess.TimeoutExpired) as error:
             print(f"packaging: FAILED: {error}")
             return 1

@@ -106,7 +106,7 @@ def test_installing(program: pathlib.Path, room: pathlib.Path, manual: bytes) ->
         file.write("changed\n")
     installer.succeeds(*to_place, "--uninstall")
     require(files(place) == ["share/other", "share/zsh/site-functions/_bcs"], "--uninstall of a changed file")
-    installer.fails("didn't install it", *to_place)
+    installer.fails("no record says that this script installed it", *to_place)
     installer.succeeds("--prefix", "/usr", "--no-record", variables={"DESTDIR": str(room / "staged")})
     require(len(files(room / "staged")) == 6, "install with DESTDIR")
 
@@ -333,8 +333,8 @@ def test(program: pathlib.Path, room: pathlib.Path, manual: bytes) -> None:
     test_hostile_record(program, room)
 
 
-def test_busybox(program: pathlib.Path, room: pathlib.Path) -> None:
-    """The shell and the tools of Alpine install and remove the same."""
+def test_busybox(program: pathlib.Path, room: pathlib.Path) -> pathlib.Path:
+    """The shell and the tools of Alpine install and remove the same. Returns the folder with them."""
     tools, busybox = room / "busybox", shutil.which("busybox")
     tools.mkdir()
     for name in subprocess.run(["busybox", "--list"], capture_output=True, text=True, check=True).stdout.split():
@@ -351,3 +351,4 @@ def test_busybox(program: pathlib.Path, room: pathlib.Path) -> None:
     installer.succeeds("--library", "--prefix", str(place), "--uninstall", variables={"PATH": str(tools)})
     require(not place.exists(), "--uninstall by busybox leaves something")
     print("packaging: install and --uninstall by busybox")
+    return tools

@@ -41,6 +41,29 @@ REGISTRIES = {
 }
 
 
+# It makes the lines, and then prints the modules of the package that it read.
+MODULES = """\
+import contextlib, io, runpy, sys
+with contextlib.redirect_stdout(io.StringIO()), contextlib.suppress(SystemExit):
+    runpy.run_module("bcs_proved.vectors", run_name="__main__")
+print(*sorted(module.__file__ for name, module in sys.modules.items() if name.startswith("bcs_proved")), sep="\\n")
+"""
+
+
+def compare_sources() -> str:
+    """The Python files among the sources of dist/ are those that make the lines."""
+    package = ROOT / "bindings/python/bcs_proved"
+    read = {package / "vectors/__main__.py"}
+    for registry in REGISTRIES.values():
+        read |= {pathlib.Path(name) for name in run(sys.executable, "-c", MODULES, registry).splitlines()}
+    listed = [ROOT / name for name in run("tools/dist_sources.sh", "--list").splitlines()]
+    sources = {path for path in listed if path.is_relative_to(package) and path.suffix == ".py"}
+    if sources != read:
+        names = sorted(path.name for path in sources ^ read)
+        raise Failed(f"tools/dist_sources.sh lists other Python files than those that make the lines: {names}")
+    return f"{len(sources)} Python files are sources of dist/, and make the lines"
+
+
 class Test:
     """The parts, over lines that are made once."""
 
@@ -84,6 +107,11 @@ class Test:
             raise Failed(f"only {shown} registries were changed")
         return f"{shown} changed registries are shown, and {same} have the same bytes and JSON"
 
+    def shorten_keys(self) -> str:
+        import vectors_keys
+
+        return vectors_keys.require_all_shown()
+
     def make_for_400(self) -> str:
         before = processor_seconds()
         self.make(ROOT / "examples/many_containers.json", self.room / "400.jsonl")
@@ -117,9 +145,11 @@ def consume(test: Test) -> None:
 
 
 def run_all(test: Test) -> None:
+    part("the sources", compare_sources)
     part("the lines", test.make_all)
     part("a registry of 400 containers", test.make_for_400)
     spent = part("planted bugs", test.plant) + part("changed registries", test.change_registries)
+    spent += part("parts of keys", test.shorten_keys)
     if spent > MOST_SECONDS:
         sys.exit(f"vectors: FAILED: the bugs and the registries take {spent:.0f} processor seconds, and may take 120")
     part("the example of docs/VECTORS.md", consumers.require_example)

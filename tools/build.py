@@ -1,17 +1,23 @@
 #!/usr/bin/env python3
-"""Proves and builds the libraries of `bcs` and `bcs_c`, and the program: tools/build.py.
+"""Proves and builds the libraries of `bcs` and `bcs_c`, and the program.
+
+    tools/build.py                      proves and builds what has changed
+    tools/build.py --check CRATE..      proves these crates, over the libraries that are built already
+    tools/build.py --unproved FOLDER    builds the program and the library of C in FOLDER, without proofs, for trials
 
 Several crates are proved side by side, as far as there are processors and memory. A crate that is built already isn't
 built again, so a build that was broken off continues where it was.
 
 Like in `rt ci`, a crate is proved over what the crates below it state, and not over their proofs. `rt lib` reads
 these too, and keeps its work for the next check: `bcs_registry_model` took 210 processor seconds with it, and 188
-here. A crate is proved in one job, even when no other crate is ready, since each further job reads all libraries
+here. `rt check` and `rt lib` can't use these libraries (docs/DECISIONS.md), and remove them: `--check` keeps them.
+A crate is proved in one job, even when no other crate is ready, since each further job reads all libraries
 below once more: with four jobs `bcs_tool_answers` took 430 processor seconds, and 220 with one.
 """
 
 from __future__ import annotations
 
+import argparse
 import os
 import pathlib
 import shutil
@@ -115,14 +121,13 @@ def make_all(builds: dict[str, Build]) -> None:
             print(f"bcs: {len(made)} of {len(builds)}: {name} is proved", file=sys.stderr, flush=True)
 
 
-def main() -> None:
+def prove(crates: dict[str, toolchain.Crate], checked: list[toolchain.Crate]) -> None:
+    """Makes all these crates, and keeps other commands out of them and of those that will be checked."""
     # The prover's allocator then keeps its memory, which saves page faults.
     os.environ["MIMALLOC_PURGE_DELAY"] = "-1"
     # (the first call has to be in this thread)
     toolchain.guarded()
-    program, library = toolchain.crates(toolchain.PROGRAM, toolchain.LIBRARY)
-    crates = {it.name: it for it in [*program.below(), *library.below(), program]}
-    toolchain.lock(crates.values())
+    toolchain.lock({**crates, **{it.name: it for it in checked}}.values())
     # The checksums are those of the sources at the start, so what is saved later counts as not built.
     for crate in crates.values():
         crate.stamp()
@@ -135,5 +140,43 @@ def main() -> None:
         os._exit(1)
 
 
+def build() -> None:
+    """Proves and builds the program, and the libraries below it and below the library of C."""
+    program, library = toolchain.crates(toolchain.PROGRAM, toolchain.LIBRARY)
+    prove({it.name: it for it in [*program.below(), *library.below(), program]}, [])
+
+
+def check(names: list[str]) -> int:
+    """Proves these crates, over libraries that are built first if they aren't current. Returns the first status that
+    isn't 0, if there is one."""
+    crates = toolchain.crates(*(toolchain.ROOT / "crates" / name for name in names))
+    prove({it.name: it for crate in crates for it in crate.below()}, crates)
+    command = [str(toolchain.folder() / "bin/rattle"), "check", "--progress", "--incremental", "out/incremental"]
+    ended = [subprocess.run([*command, *it.words(["--jobs", "1"])], cwd=it.folder).returncode for it in crates]
+    return next((status for status in ended if status), 0)
+
+
+def main() -> int:
+    parser = argparse.ArgumentParser(description="Proves and builds the libraries and the program.")
+    parser.add_argument("--check", nargs="+", metavar="CRATE", help="prove these crates, with only the libraries below")
+    parser.add_argument("--unproved", type=pathlib.Path, metavar="FOLDER", help="build in FOLDER without proofs")
+    parser.add_argument("--only", choices=["program", "libraries"], help="with --unproved: build only these")
+    given = parser.parse_args()
+    if given.only and not given.unproved:
+        parser.error("--only needs --unproved")
+    if given.check and given.unproved:
+        parser.error("--check proves, and --unproved doesn't")
+    if given.check:
+        return check(given.check)
+    if given.unproved:
+        # (no source of dist/, so it may be missing)
+        import unproved
+
+        unproved.build(given.unproved, given.only)
+    else:
+        build()
+    return 0
+
+
 if __name__ == "__main__":
-    main()
+    sys.exit(main())

@@ -1,8 +1,12 @@
 #!/bin/sh
-# Checks the files in dist/: `tools/compare_dist.sh [FOLDER]`. If dist/ was built from these sources, each file must be
-# byte for byte the one that tools/make_dist.sh made in FOLDER (default: out/dist), whichever toolchain built it. If the
-# sources have changed since, the last commit that changed these files must have had the sources that BUILT_FROM names,
-# and the last line reports that dist/ is older.
+# Compares the whole of dist/: `tools/compare_dist.sh [FOLDER | --committed]`. If dist/ was built from these sources, each
+# file must be byte for byte the one that tools/make_dist.sh made in FOLDER (default: out/dist), whichever toolchain built
+# it. If the sources have changed since, the last commit that changed these files must have had the sources that BUILT_FROM
+# names, and the last line reports that dist/ is older. README.md must be as in the last commit. The signature isn't compared,
+# since only maintainers can make it.
+#
+# With --committed, for machines without the toolchain, dist/ has to be current and as in the last commit. Without a history,
+# it has to be signed.
 set -eu
 unset CDPATH
 export LC_ALL=C GIT_NO_REPLACE_OBJECTS=1
@@ -24,27 +28,6 @@ read_label() {
         || fail "$1 doesn't name a kit and a checksum: run tools/take_dist.sh"
 }
 
-# list_files: prints type and name of everything that isn't a folder, since only regular files are allowed. A dist/ of an
-# older commit may lack some of the names.
-list_files() {
-    local name
-    for name in $built; do
-        [ ! -e "dist/$name" ] || (cd dist && find "$name" ! -type d -printf '%y %p\n') || return
-    done
-}
-
-check_sums() {
-    local program
-    (cd dist && sha256sum --check --quiet --strict SHA256SUMS) \
-        || fail "a file differs from its checksum in SHA256SUMS: run tools/take_dist.sh"
-    { list_files >"$room/files" && sort -k 2 -o "$room/files" "$room/files" \
-        && sed 's/^[0-9a-f]*  /f /' dist/SHA256SUMS | diff - "$room/files"; } \
-        || fail "SHA256SUMS doesn't list exactly the files of dist/: run tools/take_dist.sh"
-    for program in x86_64-linux/bcs x86_64-linux/libbcs.so aarch64-linux/bcs aarch64-linux/libbcs.so; do
-        [ -x "dist/$program" ] || fail "$program isn't executable: run tools/take_dist.sh"
-    done
-}
-
 # list_differences FOLDER NAME..: prints a line for each file of these names that isn't the same in the folder and in dist/.
 # If diff can't compare them, its message is such a line.
 list_differences() {
@@ -56,6 +39,12 @@ list_differences() {
     done
 }
 
+# same_sums FOLDER: whether its SHA256SUMS is that of dist/, except for the checksum of BUILT_FROM, which names the toolchain.
+same_sums() {
+    sed 's/^[0-9a-f]*  BUILT_FROM$/-  BUILT_FROM/' "$1/SHA256SUMS" >"$room/built_sums"
+    sed 's/^[0-9a-f]*  BUILT_FROM$/-  BUILT_FROM/' dist/SHA256SUMS | cmp -s - "$room/built_sums"
+}
+
 # compare_builds: dist/ and the folder come from the same sources, so nothing may differ.
 compare_builds() {
     local found dist_kit="$kit" built_from
@@ -64,12 +53,14 @@ compare_builds() {
         || fail "$folder wasn't made from these sources by this kit: run tools/make_dist.sh $folder"
     read_label "$folder/BUILT_FROM"
     # shellcheck disable=SC2086 # these are several names
-    found=$(list_differences "$folder" SHA256SUMS $built)
+    found=$(list_differences "$folder" $built)
+    same_sums "$folder" || found="$found
+Files $folder/SHA256SUMS and dist/SHA256SUMS differ"
     if [ -n "$found" ]; then
         echo "$found"
         fail "dist/ ($dist_kit) isn't what $kit builds from the same sources: run tools/take_dist.sh"
     fi
-    echo "dist: $(wc -l <dist/SHA256SUMS) files are byte for byte what $kit builds from these sources (dist/ was built by $dist_kit)"
+    echo "dist: $(grep -vc '^-' "$room/built_sums") files are byte for byte what $kit builds from these sources (dist/ was built by $dist_kit)"
 }
 
 # check_out COMMIT FOLDER: makes a fresh clone with the commit's files. (`git archive` would obey attributes that leave
@@ -87,13 +78,49 @@ forget_git_variables() {
     done
 }
 
+# find_history: sets `why` to why git has no history of this folder, or to nothing.
+find_history() {
+    local top
+    why="that needs git"
+    command -v git >/dev/null || return 0
+    forget_git_variables
+    why="git finds no history of this folder"
+    top=$(git rev-parse --show-toplevel 2>&1) || {
+        why="$why: $top"
+        return 0
+    }
+    [ "$(cd "$top" && pwd -P)" != "$(pwd -P)" ] || why=
+}
+
+# check_readme: nothing builds README.md, so it is compared with the last commit.
+check_readme() {
+    find_history
+    [ -z "$why" ] || fail "dist/README.md can't be compared: $why"
+    git cat-file blob HEAD:dist/README.md >"$room/README.md" 2>/dev/null || fail "the last commit has no dist/README.md"
+    cmp -s "$room/README.md" dist/README.md || fail "dist/README.md has changes that aren't committed"
+}
+
+# check_committed: dist/ is that of the last commit, or at least signed.
+check_committed() {
+    local found
+    tools/check_dist.sh || exit
+    find_history
+    if [ -n "$why" ]; then
+        [ -e dist/SIGNERS ] || fail "dist/ is neither signed nor can it be compared with a commit: $why"
+        return
+    fi
+    check_out HEAD "$room/then" || fail "the last commit can't be checked out"
+    found=$(diff --recursive --brief --no-dereference "$room/then/dist" dist 2>&1) \
+        || fail "dist/ has changes that aren't committed:
+$(echo "$found" | sed "s,$room/then,HEAD,g")"
+    echo "dist: as in the last commit"
+}
+
 # check_history: dist/ is that of its last commit, and that commit has the sources that BUILT_FROM names.
 check_history() {
-    local older="dist/ is older than these sources" name top commit tag found
-    command -v git >/dev/null || fail "$older, and checking its last commit needs git"
-    forget_git_variables
-    { top=$(git rev-parse --show-toplevel 2>&1) && [ "$(cd "$top" && pwd -P)" = "$(pwd -P)" ]; } \
-        || fail "$older, and git finds no history of this folder: $top"
+    local older="dist/ is older than these sources" name commit tag found
+    find_history
+    [ -z "$why" ] || fail "$older, and its last commit can't be checked: $why"
     [ "$(git rev-parse --is-shallow-repository)" = false ] || fail "$older, and this clone is shallow: run git fetch --unshallow"
     set -- BUILT_FROM SHA256SUMS
     for name in $built; do
@@ -115,7 +142,12 @@ $(echo "$found" | sed "s,$room/then,$commit,g")"
 room=$(mktemp -d)
 trap 'rm -rf "$room"' EXIT
 trap 'exit 1' HUP INT TERM
-check_sums
+[ "$folder" != --committed ] || {
+    check_committed
+    exit
+}
+tools/check_dist.sh --files || exit
+check_readme
 read_label dist/BUILT_FROM
 { now=$(tools/dist_sources.sh) && [ -n "$now" ]; } || fail "the checksum of the sources can't be computed"
 if [ "$now" = "$sources" ]; then compare_builds; else check_history; fi

@@ -1,7 +1,7 @@
 #!/bin/sh
 # Prints a checksum over all sources that dist/ is built from: crates.txt; the code, definitions and proofs of `bcs`,
 # `bcs_c` and the crates that they use; and the files of bindings/, examples/ and tools/ that dist/ is made from, or made
-# with. It doesn't depend on where the repository is. It needs coreutils, findutils and awk, or those of busybox.
+# with. A link counts as what it leads to. It doesn't depend on where the repository is. It needs coreutils, findutils and awk, or those of busybox.
 #
 #     tools/dist_sources.sh --list          prints the names of the files
 #     tools/dist_sources.sh --built-from    prints the toolchain and the checksum, in the form of dist/BUILT_FROM
@@ -37,8 +37,9 @@ each_source() {
         bindings/c/include bindings/hosts bindings/web bindings/arm64 bindings/windows \
         bindings/python/bcs_proved bindings/python/make_vectors.sh examples/*.json examples/*.hex \
         \( -name tests -o -name test.sh -o -name test.py -o -name out -o -name __pycache__ -o -name .mypy_cache -o -name package.json \
-        -o -name '*.md' -o -name '*.png' \) -prune -o -type f "$@" || return
-    set -- -name out -prune -o -type f \( -path '*/src/*' -o -path '*/specs/*' -o -path '*/proofs/*' \) "$@"
+        -o -name '*.md' -o -name '*.png' -o -path bindings/python/bcs_proved/registries.py -o -path bindings/python/bcs_proved/types.py \) \
+        -prune -o \( -type f -o -type l \) "$@" || return
+    set -- -name out -prune -o \( -type f -o -type l \) \( -path '*/src/*' -o -path '*/specs/*' -o -path '*/proofs/*' \) "$@"
     for crate in $crates; do
         set -- "crates/$crate" "$@"
     done

@@ -16,9 +16,9 @@
     bcs-VERSION.spdx.json           the components of all that, with their licences
     SHA256SUMS                      the checksums of these
 
-It refuses a dist/ that is older than the sources. A second run makes the same bytes. The files in the packages have the
-time SOURCE_DATE_EPOCH, if that is set. Nothing is published. It needs Linux on x86-64, Python 3.11, and wasm2c 1.0.32,
-which is in Debian 12's package wabt.
+It refuses a dist/ that is damaged, older than the sources, or neither signed nor as in the last commit. A second run
+makes the same bytes. The files in the packages have the time SOURCE_DATE_EPOCH, if that is set. Nothing is published.
+It needs Linux on x86-64, Python 3.11, and wasm2c 1.0.32, which is in Debian 12's package wabt.
 """
 
 from __future__ import annotations
@@ -54,8 +54,7 @@ def made() -> dict[str, bytes]:
 def main() -> None:
     if len(sys.argv) != 2 or sys.argv[1].startswith("-"):
         sys.exit(__doc__)
-    facts.require_whole()
-    facts.require_current()
+    facts.require_dist()
     folder = pathlib.Path(sys.argv[1])
     folder.mkdir(parents=True, exist_ok=True)
     for name, data in made().items():

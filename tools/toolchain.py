@@ -30,11 +30,16 @@ class Crate(Protocol):
     name: str
     folder: str
     is_program: bool
+    # the toolchain's libraries that it uses
+    of_kit: list[str]
     # where its library is built
     rlib: str
 
     def below(self) -> list[Crate]:
         """The libraries of this repository that it uses, each after those that it uses itself."""
+
+    def sources_below(self) -> list[str]:
+        """The arguments that name the sources of the libraries below it."""
 
     def words(self, flags: list[str]) -> list[str]:
         """The arguments that `rattle` needs to prove or build it, beside these flags."""
@@ -70,6 +75,12 @@ def crates(*folders: pathlib.Path) -> list[Crate]:
     """The crates in these folders. Those that they share below them are the same objects."""
     known: dict[str, Crate] = {}
     return [cast(Crate, rtlib().Crate(str(it), str(ROOT), known, name=None)) for it in folders]
+
+
+def sources_below(crate: Crate) -> list[str]:
+    """The arguments that name the sources of all libraries below the crate, also the toolchain's."""
+    used = [name for it in [crate, *crate.below()] for name in it.of_kit]
+    return [*crate.sources_below(), *cast(list[str], rtlib().kit_sources(used))]
 
 
 def lock(crates_to_hold: Iterable[Crate]) -> None:

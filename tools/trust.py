@@ -252,6 +252,17 @@ def libraries_table() -> list[str]:
     return rows
 
 
+def unsafe_table() -> list[str]:
+    """The lines of the crates with `unsafe`, but for the attributes that export functions to C."""
+    rows = ["| File | Unsafe code |", "|---|---|"]
+    for file in sorted(CRATES.glob("*/src/**/*.rt")):
+        for line in file.read_text(encoding="utf-8").splitlines():
+            code = line.partition("//")[0].strip()
+            if re.search(r"\bunsafe\b(?!\()", code):
+                rows.append(f"| `{file.relative_to(ROOT)}` | `{code}` |")
+    return rows
+
+
 # What isn't Rattle and runs with the proved code, or makes it.
 GLUE = {
     "start of the program, its test of the processor, and its heap": ["tools/link/*.c"],
@@ -277,6 +288,7 @@ GLUE = {
     "what builds `dist/`": [
         "tools/build.py",
         "tools/make_dist.sh",
+        "tools/link/link.sh",
         "tools/libraries.py",
         "tools/proved_code.py",
         "tools/toolchain.py",
@@ -302,7 +314,13 @@ def glue_table() -> list[str]:
     return rows
 
 
-TABLES = {"definitions": definitions_table, "system": system_table, "libraries": libraries_table, "glue": glue_table}
+TABLES = {
+    "definitions": definitions_table,
+    "unsafe": unsafe_table,
+    "system": system_table,
+    "libraries": libraries_table,
+    "glue": glue_table,
+}
 
 
 def check() -> None:

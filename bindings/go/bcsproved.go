@@ -1,8 +1,8 @@
 // Package bcsproved encodes and decodes Binary Canonical Serialization (BCS), driven by serde-reflection registries. It calls
 // proved code by cgo. The README says what is proved, and which systems the package runs on.
 //
-// Values are passed and returned as JSON. A format is the name of a container, such as Payment; or, if it begins with { or ", it
-// is JSON, such as {"SEQ":"U8"} or "U8".
+// Encode takes Go values, and Decode and Unmarshal return them. EncodeJSON and DecodeJSON take and return JSON. A format is the
+// name of a container, such as Payment; or, if it begins with { or ", it is JSON, such as {"SEQ":"U8"} or "U8".
 //
 // If a call refuses its input, its error is an *Error, which says why and where. Other errors are ErrMemory, ErrClosed and
 // ErrUnsupported.
@@ -63,8 +63,11 @@ type Registry struct {
 // shared is what a Registry has in common with those that WithLimits makes of it. Calls hold the lock for reading, so close
 // waits for them. The handle is nil if the registry is closed.
 type shared struct {
-	lock   sync.RWMutex
-	handle *C.bcs_handle
+	lock       sync.RWMutex
+	handle     *C.bcs_handle
+	names      Names
+	valuesLock sync.Mutex
+	codec      *codec // nil until the first value
 }
 
 func (s *shared) close() {
@@ -76,8 +79,8 @@ func (s *shared) close() {
 
 var isSupported = C.bcs_is_supported() != 0
 
-// Open reads the JSON of a registry.
-func Open(registry []byte) (*Registry, error) {
+// Open reads the JSON of a registry. Names, of which at most one may be given, are containers with a Go form of their own.
+func Open(registry []byte, names ...Names) (*Registry, error) {
 	if !isSupported {
 		return nil, ErrUnsupported
 	}
@@ -86,7 +89,7 @@ func Open(registry []byte) (*Registry, error) {
 	if answer.status != C.BCS_DONE {
 		return nil, refusalOfRegistry(answer, KindRegistry, registry)
 	}
-	s := &shared{handle: handle}
+	s := &shared{handle: handle, names: append(names, Names{})[0].orDefault()}
 	runtime.SetFinalizer(s, (*shared).close)
 	return &Registry{shared: s}, nil
 }
@@ -114,8 +117,8 @@ func (r *Registry) Check(format string) error {
 	return q.refusal(C.bcs_handle_check(q.handle, at(q.format), size(q.format), q.depth, q.nodes), KindFormat, nil)
 }
 
-// Encode returns the bytes of the value that a JSON document represents.
-func (r *Registry) Encode(format string, json []byte) ([]byte, error) {
+// EncodeJSON returns the bytes of the value that a JSON document represents.
+func (r *Registry) EncodeJSON(format string, json []byte) ([]byte, error) {
 	q, err := r.ask(format, StandardLimits())
 	if err != nil {
 		return nil, err
@@ -127,8 +130,8 @@ func (r *Registry) Encode(format string, json []byte) ([]byte, error) {
 	return out, q.refusal(answer, KindJSON, json)
 }
 
-// Decode returns the one normal JSON document of the value that the whole of data encodes.
-func (r *Registry) Decode(format string, data []byte) ([]byte, error) {
+// DecodeJSON returns the one normal JSON document of the value that the whole of data encodes.
+func (r *Registry) DecodeJSON(format string, data []byte) ([]byte, error) {
 	q, err := r.ask(format, limitsFor(data))
 	if err != nil {
 		return nil, err
@@ -140,23 +143,28 @@ func (r *Registry) Decode(format string, data []byte) ([]byte, error) {
 	return out, q.refusal(answer, KindBytes, data)
 }
 
-// DecodePrefix returns the normal JSON document of the value at the beginning of data, and how many bytes it has. What follows
-// isn't read.
-func (r *Registry) DecodePrefix(format string, data []byte) ([]byte, int, error) {
-	length, err := r.Scan(format, data)
+// DecodePrefixJSON returns the normal JSON document of the value at the beginning of data, and how many bytes it has. What
+// follows isn't read.
+func (r *Registry) DecodePrefixJSON(format string, data []byte) ([]byte, int, error) {
+	length, limited, err := r.prefix(format, data)
 	if err != nil {
 		return nil, 0, err
 	}
-	limits := limitsFor(data) // the default depends on all of data, so both steps get the same one
-	if r.limits != nil {
-		limits = *r.limits
-	}
-	json, err := r.WithLimits(limits).Decode(format, data[:length])
+	json, err := limited.DecodeJSON(format, data[:length])
 	return json, length, err
 }
 
-// Normalise returns the one normal JSON document of the value that a JSON document represents.
-func (r *Registry) Normalise(format string, json []byte) ([]byte, error) {
+// prefix returns the length of the value at the beginning of data, and the registry with the limits for data.
+func (r *Registry) prefix(format string, data []byte) (int, *Registry, error) {
+	length, err := r.Scan(format, data)
+	if err != nil || r.limits != nil {
+		return length, r, err
+	}
+	return length, r.WithLimits(limitsFor(data)), nil // the default depends on all of data, so both steps get the same one
+}
+
+// NormaliseJSON returns the one normal JSON document of the value that a JSON document represents.
+func (r *Registry) NormaliseJSON(format string, json []byte) ([]byte, error) {
 	q, err := r.ask(format, StandardLimits())
 	if err != nil {
 		return nil, err
@@ -168,8 +176,8 @@ func (r *Registry) Normalise(format string, json []byte) ([]byte, error) {
 	return out, q.refusal(answer, KindJSON, json)
 }
 
-// Equal reports whether two JSON documents represent equal values.
-func (r *Registry) Equal(format string, first, second []byte) (bool, error) {
+// EqualJSON reports whether two JSON documents represent equal values.
+func (r *Registry) EqualJSON(format string, first, second []byte) (bool, error) {
 	q, err := r.ask(format, StandardLimits())
 	if err != nil {
 		return false, err
@@ -374,7 +382,7 @@ func (r *Registry) Show(name string, form Form) (string, error) {
 		return C.bcs_handle_show(q.handle, C.uint32_t(form), at(word), size(word), out, length)
 	})
 	if answer.status == C.BCS_FORMAT {
-		return "", &Error{Kind: KindFormat, Reason: reason(answer.fault), Place: -1, Expected: "no container is called " + name}
+		return "", &Error{Kind: KindFormat, Reason: reason(answer.fault), Place: -1, Message: "no container is called " + name}
 	}
 	return string(out), q.refusal(answer, KindFormat, nil)
 }

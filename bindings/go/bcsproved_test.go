@@ -57,15 +57,15 @@ func TestValues(t *testing.T) {
 		{`{"TUPLE":[]}`, `[]`, "", `[]`},
 		{`{"TUPLEARRAY":{"CONTENT":"UNIT","SIZE":0}}`, `[]`, "", `[]`},
 	} {
-		data, err := registry.Encode(row.format, []byte(row.json))
+		data, err := registry.EncodeJSON(row.format, []byte(row.json))
 		if err != nil || hex.EncodeToString(data) != row.bytes {
 			t.Errorf("%s of %s: %x, %v", row.json, row.format, data, err)
 		}
-		json, err := registry.Decode(row.format, data)
+		json, err := registry.DecodeJSON(row.format, data)
 		if err != nil || string(json) != row.normal {
 			t.Errorf("%s of %s: %s, %v", row.bytes, row.format, json, err)
 		}
-		again, err := registry.Normalise(row.format, []byte(row.json))
+		again, err := registry.NormaliseJSON(row.format, []byte(row.json))
 		if err != nil || !bytes.Equal(again, json) {
 			t.Errorf("normal: %s, %v", again, err)
 		}
@@ -73,11 +73,11 @@ func TestValues(t *testing.T) {
 		if err != nil || length != len(data) {
 			t.Errorf("scan: %d, %v", length, err)
 		}
-		if equal, err := registry.Equal(row.format, []byte(row.json), json); err != nil || !equal {
+		if equal, err := registry.EqualJSON(row.format, []byte(row.json), json); err != nil || !equal {
 			t.Errorf("equal: %v, %v", equal, err)
 		}
 	}
-	if equal, err := registry.Equal("Shape", []byte(`"Dot"`), []byte(`{"Circle":1}`)); equal || err != nil {
+	if equal, err := registry.EqualJSON("Shape", []byte(`"Dot"`), []byte(`{"Circle":1}`)); equal || err != nil {
 		t.Errorf("different values: %v, %v", equal, err)
 	}
 }
@@ -87,7 +87,7 @@ func TestNames(t *testing.T) {
 		{"a\"b\\c\x00\x1fé", `a\"b\\c\u0000\u001fé`}, {"", ""}, {" {", " {"}, {strings.Repeat("\x01", 1000), strings.Repeat(`\u0001`, 1000)},
 	} {
 		registry := open(t, `{"`+row.key+`":{"STRUCT":[{"x":"U8"}]}}`)
-		if data, err := registry.Encode(row.name, []byte(`{"x":1}`)); err != nil || !bytes.Equal(data, []byte{1}) {
+		if data, err := registry.EncodeJSON(row.name, []byte(`{"x":1}`)); err != nil || !bytes.Equal(data, []byte{1}) {
 			t.Errorf("%q: %x, %v", row.name, data, err)
 		}
 	}
@@ -160,16 +160,16 @@ func TestRefusals(t *testing.T) {
 	registry := open(t, shapes)
 	closed := open(t, shapes)
 	closed.Close()
-	encode := func(format, json string) error { _, err := registry.Encode(format, []byte(json)); return err }
-	decode := func(format, digits string) error { _, err := registry.Decode(format, unhex(t, digits)); return err }
+	encode := func(format, json string) error { _, err := registry.EncodeJSON(format, []byte(json)); return err }
+	decode := func(format, digits string) error { _, err := registry.DecodeJSON(format, unhex(t, digits)); return err }
 	equal := func(first, second string) error {
-		_, err := registry.Equal("Point", []byte(first), []byte(second))
+		_, err := registry.EqualJSON("Point", []byte(first), []byte(second))
 		return err
 	}
 	_, badScan := registry.Scan("Shape", []byte{1})
 	_, badPart := registry.Part(`{"SEQ":"BOOL"}`, []byte{1, 2}, ".")
 	_, badPath := registry.Part("Point", []byte{7, 0}, "x//")
-	_, tooNested := open(t, deep).Decode("C", deepData)
+	_, tooNested := open(t, deep).DecodeJSON("C", deepData)
 	_, badRegistry := Open([]byte(`{"A":{"STRUCT":[{"x":{"TYPENAME":"B"}}]}}`))
 	wanted := "wanted a whole number from 0 to 255 (U8)"
 	number, text := "found 256, "+wanted, "found \"\", "+wanted
@@ -204,17 +204,17 @@ func TestRefusals(t *testing.T) {
 			t.Errorf("%v instead of %v", row.err, &row.wanted)
 			continue
 		}
-		if row.wanted.Expected == "" && row.wanted.Pointer == "" { // not tested here
-			row.wanted.Pointer, row.wanted.Expected = refused.Pointer, refused.Expected
+		if row.wanted.Message == "" && row.wanted.At == "" { // not tested here
+			row.wanted.At, row.wanted.Message = refused.At, refused.Message
 		}
 		if row.wanted.Kind == KindRegistry {
-			row.wanted.Expected = refused.Expected
+			row.wanted.Message = refused.Message
 		}
 		if *refused != row.wanted {
 			t.Errorf("%#v instead of %#v", *refused, row.wanted)
 		}
 	}
-	if err := decode("Point", "07010205"); err.Error() != "bcs: bytes refused: EndOfInput at 4, .~/[0]: wanted 2 bytes of BYTES" {
+	if err := decode("Point", "07010205"); err.Error() != "refused: EndOfInput at 4, .~/[0]: wanted 2 bytes of BYTES" {
 		t.Error(err)
 	}
 	if err := closed.Check("Point"); err != ErrClosed {
@@ -246,7 +246,7 @@ func TestExplanations(t *testing.T) {
 		if explained.Text != wanted {
 			t.Errorf("%s: %s", name, explained.Text)
 		}
-		_, err = registry.Decode("RawTransaction", data)
+		_, err = registry.DecodeJSON("RawTransaction", data)
 		if isDamaged := strings.HasSuffix(name, "damaged"); isDamaged != (explained.Damage != nil) || isDamaged != (err != nil) ||
 			isDamaged && *err.(*Error) != *explained.Damage {
 			t.Errorf("%s: %v, %v", name, err, explained.Damage)
@@ -262,7 +262,7 @@ func TestDefaultLimits(t *testing.T) {
 	for _, call := range []func() error{
 		func() error { _, err := registry.Scan(format, units); return err },
 		func() error { _, err := registry.Part(format, units, "."); return err },
-		func() error { _, err := registry.Decode(format, units); return err },
+		func() error { _, err := registry.DecodeJSON(format, units); return err },
 	} {
 		var refused *Error
 		if err := call(); !errors.As(err, &refused) || refused.Reason != "TooManyNodes" || refused.Kind != KindBytes {
@@ -279,8 +279,8 @@ func TestDefaultLimits(t *testing.T) {
 	if StandardLimits() != (Limits{500, 4294967295}) {
 		t.Error(StandardLimits())
 	}
-	_, err = registry.WithLimits(Limits{0, 3}).Encode(format, []byte("[null,null,null]"))
-	if !strings.HasPrefix(fmt.Sprint(err), "bcs: JSON refused: TooManyNodes") {
+	_, err = registry.WithLimits(Limits{0, 3}).EncodeJSON(format, []byte("[null,null,null]"))
+	if !strings.HasPrefix(fmt.Sprint(err), "refused: TooManyNodes") {
 		t.Error(err)
 	}
 }

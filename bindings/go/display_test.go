@@ -24,8 +24,8 @@ func TestWhereFormatsPathsAndGrowthAreRefused(t *testing.T) {
 	registry := opened(t, ring)
 	_, badPath := registry.Part("Shape", []byte{0}, "1/x: BadPath: y")
 	_, badSchema := registry.Schema(`{"SEQ":"U7"}`)
-	_, unknown := registry.Encode("Nope", []byte("1"))
-	_, hostile := registry.Decode(`{"SEQ":{"TYPENAME":"x: UnknownName: y"}}`, nil)
+	_, unknown := registry.EncodeJSON("Nope", []byte("1"))
+	_, hostile := registry.DecodeJSON(`{"SEQ":{"TYPENAME":"x: UnknownName: y"}}`, nil)
 	_, noContainer := registry.Show("Nope", FormWays)
 	_, noVariant := registry.Example("Shape", ExampleOptions{Variant: "Oval"})
 	_, noValue := registry.Example(`"F32"`, ExampleOptions{})
@@ -50,7 +50,7 @@ func TestWhereFormatsPathsAndGrowthAreRefused(t *testing.T) {
 			t.Errorf("row %d: %v", i, row.err)
 			continue
 		}
-		refused.Expected, _, _ = strings.Cut(refused.Expected, "; ")
+		refused.Message, _, _ = strings.Cut(refused.Message, "; ")
 		if *refused != row.wanted {
 			t.Errorf("row %d: %#v", i, refused)
 		}
@@ -77,7 +77,7 @@ func TestDocuments(t *testing.T) {
 	if err != nil {
 		t.Fatal(err)
 	}
-	if _, err := aptos.Encode("RawTransaction", example); err != nil {
+	if _, err := aptos.EncodeJSON("RawTransaction", example); err != nil {
 		t.Error(err)
 	}
 	registry := opened(t, ring)
@@ -98,11 +98,11 @@ func TestDocuments(t *testing.T) {
 
 func TestPrefix(t *testing.T) {
 	registry := opened(t, "{}")
-	json, length, err := registry.DecodePrefix(`"U16"`, []byte{1, 2, 255})
+	json, length, err := registry.DecodePrefixJSON(`"U16"`, []byte{1, 2, 255})
 	if err != nil || string(json) != "513" || length != 2 {
 		t.Errorf("%s %d %v", json, length, err)
 	}
-	_, _, err = registry.DecodePrefix(`{"SEQ":"UNIT"}`, []byte{255, 255, 255, 255, 7})
+	_, _, err = registry.DecodePrefixJSON(`{"SEQ":"UNIT"}`, []byte{255, 255, 255, 255, 7})
 	var refused *Error
 	if !errors.As(err, &refused) || refused.Reason != "TooManyNodes" {
 		t.Error(err)

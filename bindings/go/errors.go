@@ -32,6 +32,8 @@ const (
 	KindBytes    Kind = "bytes"
 	KindPath     Kind = "path"
 	KindExample  Kind = "example" // the format has no such example
+	KindValue    Kind = "value"   // a Go value isn't one of the format
+	KindType     Kind = "type"    // values of the format don't fit a Go type
 )
 
 // Error is a refusal.
@@ -45,34 +47,35 @@ type Error struct {
 	// would nest too deep.
 	Place int
 
-	// Pointer says where the fault is. Of JSON it is a JSON Pointer (RFC 6901) such as /payload/args/1, which is empty if the
+	// At says where the fault is. Of JSON it is a JSON Pointer (RFC 6901) such as /payload/args/1, which is empty if the
 	// document is refused as a whole; of bytes the names that lead there, such as .payload.args[1]; of a format a JSON Pointer; of
 	// a registry, a path or growth the place as the program bcs prints it.
-	Pointer string
+	At string
 
-	// Expected says what was expected there, or what is wrong. The text is for people, and may change.
-	Expected string
+	// Message says what was expected there, or what is wrong. The text is for people, and may change.
+	Message string
 }
 
+// Error returns the line of the refusal, which begins like that of the program bcs: refused: BadNumber at /amount: ...
 func (e *Error) Error() string {
-	if e.Kind == KindLimits {
-		return "bcs: limits refused: the depth is above 500"
+	line := "refused"
+	if e.Reason != "" {
+		line += ": " + e.Reason
 	}
 	var where []string
 	if e.Place >= 0 {
 		where = append(where, fmt.Sprint(e.Place))
 	}
-	if e.Pointer != "" {
-		where = append(where, e.Pointer)
+	if e.At != "" {
+		where = append(where, e.At)
 	}
-	message := fmt.Sprintf("bcs: %s refused: %s", e.Kind, e.Reason)
 	if len(where) > 0 {
-		message += " at " + strings.Join(where, ", ")
+		line += " at " + strings.Join(where, ", ")
 	}
-	if e.Expected != "" {
-		message += ": " + e.Expected
+	if e.Message != "" {
+		line += ": " + e.Message
 	}
-	return message
+	return line
 }
 
 func reason(fault C.uint32_t) string {
@@ -94,7 +97,7 @@ func (q *question) refusal(answer C.bcs_answer, kind Kind, input []byte) error {
 			return C.bcs_handle_format_place(q.handle, at(q.format), size(q.format), out, length)
 		})
 	case C.BCS_LIMITS:
-		return &Error{Kind: KindLimits, Place: -1}
+		return &Error{Kind: KindLimits, Place: -1, Message: "the depth is above 500"}
 	case C.BCS_REFUSED:
 		refused, err := q.refused(answer, kind, input)
 		if err != nil {
@@ -118,7 +121,7 @@ func (q *question) refused(answer C.bcs_answer, kind Kind, input []byte) (*Error
 	}
 	// A pointer may contain a NUL. The one before the words is the last.
 	if end := bytes.LastIndexByte(told, 0); end >= 0 {
-		refused.Pointer, refused.Expected = string(told[:end]), string(told[end+1:])
+		refused.At, refused.Message = string(told[:end]), string(told[end+1:])
 	}
 	return refused, nil
 }
@@ -137,8 +140,8 @@ func refusalInLine(kind Kind, prefix string, answer C.bcs_answer, ask func(out *
 		end = strings.Index(line, middle)
 	}
 	if end >= 0 {
-		refused.Pointer = strings.TrimPrefix(strings.TrimPrefix(line[:end], prefix), ", ")
-		refused.Expected = strings.TrimPrefix(line[end+len(middle):], ": ")
+		refused.At = strings.TrimPrefix(strings.TrimPrefix(line[:end], prefix), ", ")
+		refused.Message = strings.TrimPrefix(line[end+len(middle):], ": ")
 	}
 	return refused
 }
@@ -184,6 +187,6 @@ func addPlace(refused *Error, ask func(what C.uint32_t, out *C.uint8_t, length C
 	if answer.status == C.BCS_MEMORY {
 		return ErrMemory
 	}
-	refused.Pointer, refused.Expected = string(where), string(expected)
+	refused.At, refused.Message = string(where), string(expected)
 	return nil
 }

@@ -36,7 +36,7 @@ func TestSharing(t *testing.T) {
 		go func() {
 			defer group.Done()
 			for round := 0; round < 50; round++ {
-				coded, err := registry.Encode("RawTransaction", json)
+				coded, err := registry.EncodeJSON("RawTransaction", json)
 				if err != nil || !bytes.Equal(coded, data) {
 					t.Errorf("%x, %v", coded, err)
 					return
@@ -45,7 +45,7 @@ func TestSharing(t *testing.T) {
 					t.Errorf("%d, %v", length, err)
 					return
 				}
-				if _, err := registry.Decode("RawTransaction", data[:100]); err == nil || err.(*Error).Reason != "EndOfInput" {
+				if _, err := registry.DecodeJSON("RawTransaction", data[:100]); err == nil || err.(*Error).Reason != "EndOfInput" {
 					t.Error(err)
 					return
 				}
@@ -68,7 +68,7 @@ func TestClosingDuringCalls(t *testing.T) {
 					if closes {
 						registry.Close()
 					}
-					if _, err = registry.Encode("Shape", []byte(`"Dot"`)); err != nil && err != ErrClosed {
+					if _, err = registry.EncodeJSON("Shape", []byte(`"Dot"`)); err != nil && err != ErrClosed {
 						t.Error(err)
 						return
 					}
@@ -115,7 +115,7 @@ func TestLongInputs(t *testing.T) {
 	}
 	var refused *Error
 	_, err = registry.Scan(`{"TUPLE":[`+array+`,"U32"]}`, data)
-	if !errors.As(err, &refused) || refused.Place != length+2 || refused.Pointer != "[1]" || refused.Reason != "EndOfInput" {
+	if !errors.As(err, &refused) || refused.Place != length+2 || refused.At != "[1]" || refused.Reason != "EndOfInput" {
 		t.Error(err)
 	}
 }
@@ -142,7 +142,7 @@ func TestMemory(t *testing.T) {
 		t.Fatal(err)
 	}
 	units := []byte{0xfe, 0xff, 0xff, 0xff, 0x07}
-	if out, err := registry.Decode(`{"SEQ":"UNIT"}`, units); err != ErrMemory {
+	if out, err := registry.DecodeJSON(`{"SEQ":"UNIT"}`, units); err != ErrMemory {
 		t.Fatal(len(out), err)
 	}
 	if !hasMemory(1<<20) || hasMemory(1<<30) || hasMemory(1<<63) {

@@ -2,6 +2,35 @@
 -- name in this file has its schema, and every argument its type: nothing that is planted matches as well as what is meant.
 \echo Use "CREATE EXTENSION bcs" to load this file. \quit
 
+-- The owner of a schema can rename it and create another one with its name and functions, and anyone who may create functions in
+-- it can add overloads. They would run with the rights of the superusers who call bcs. So the schema must be a superuser's, nobody
+-- else may create objects in it, and no function with such a name may be left from before.
+DO LANGUAGE plpgsql $$
+DECLARE
+    superusers pg_catalog.oid[] := ARRAY(SELECT oid FROM pg_catalog.pg_authid WHERE rolsuper);
+    target pg_catalog.pg_namespace;
+    reason pg_catalog.text;
+BEGIN
+    SELECT n.* INTO STRICT target FROM pg_catalog.pg_namespace AS n, pg_catalog.pg_extension AS e
+        WHERE e.extname OPERATOR(pg_catalog.=) 'bcs'::pg_catalog.name AND n.oid OPERATOR(pg_catalog.=) e.extnamespace;
+    IF target.nspowner OPERATOR(pg_catalog.<>) ALL (superusers) THEN
+        reason := 'its owner isn''t a superuser';
+    ELSIF EXISTS (SELECT FROM pg_catalog.aclexplode(target.nspacl) AS granted
+            WHERE granted.privilege_type OPERATOR(pg_catalog.=) 'CREATE'::pg_catalog.text
+            AND granted.grantee OPERATOR(pg_catalog.<>) ALL (superusers)) THEN
+        reason := 'others than superusers may create objects in it';
+    ELSIF EXISTS (SELECT FROM pg_catalog.pg_proc AS f WHERE f.pronamespace OPERATOR(pg_catalog.=) target.oid
+            AND pg_catalog.starts_with(f.proname::pg_catalog.text, 'bcs_'::pg_catalog.text)) THEN
+        reason := 'it has functions whose names start with bcs_';
+    END IF;
+    IF reason IS NOT NULL THEN
+        RAISE EXCEPTION 'bcs: the schema % isn''t safe: %', target.nspname, reason
+            USING ERRCODE = 'invalid_schema_definition',
+            HINT = 'As a superuser, create a new schema, here with the name bcs: '
+                'create schema bcs; create extension bcs schema bcs';
+    END IF;
+END $$;
+
 -- With the text of a registry, which is of the type json. The arguments alone decide the answer.
 CREATE FUNCTION @extschema@.bcs_decode(registry pg_catalog.json, format pg_catalog.text, bytes pg_catalog.bytea,
     nodes pg_catalog.int8 DEFAULT 50000, depth pg_catalog.int4 DEFAULT 100)

@@ -30,7 +30,7 @@ typedef struct Question
 } Question;
 
 /* question.c: the arguments. `inputs` is how many there are between the format and the limits. */
-extern void define_settings(void);
+extern void define_nodes(void);
 extern Question question_of_bytes(FunctionCallInfo fcinfo, int inputs);
 extern Question question_of_text(FunctionCallInfo fcinfo, int inputs);
 extern Question question_of_jsonb(FunctionCallInfo fcinfo, int inputs);
@@ -42,6 +42,15 @@ extern struct piece argument(FunctionCallInfo fcinfo, int place);
 extern const Registry *registry_of_call(FunctionCallInfo fcinfo);
 extern bool is_registry_name(struct piece text);
 extern void watch_names(void);
+
+/* cache.c: the open registries. bound_cache closes those that weren't used for longest, until the others are within the setting.
+ * It spares the one that a call uses, if that isn't NULL, and the end of the statement closes this one if it is too large. */
+extern void define_cache(void);
+extern Registry *find_registry(struct piece text, bool is_name);
+extern Registry *cache_registry(Registry opened);
+extern void use_registry(Registry *registry);
+extern void bound_cache(const Registry *spared);
+extern void close_names(void);
 
 /* refusal.c: raises the error for what an answer refuses of a question, or of the text of a registry in UTF-8. And the JSON that
  * says why and where bytes stop being a value. */

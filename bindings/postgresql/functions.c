@@ -4,6 +4,7 @@
 #include "mb/pg_wchar.h"
 #include "miscadmin.h"
 #include "utils/builtins.h"
+#include "utils/guc.h"
 #include "utils/jsonb.h"
 #include "utils/memutils.h"
 
@@ -17,7 +18,9 @@ _PG_init(void)
 	if (!bcs_is_supported())
 		ereport(ERROR,
 				(errcode(ERRCODE_FEATURE_NOT_SUPPORTED), errmsg("bcs needs a processor of the level x86-64-v2")));
-	define_settings();
+	define_nodes();
+	define_cache();
+	MarkGUCPrefixReserved("bcs");
 	watch_names();
 }
 

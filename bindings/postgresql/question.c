@@ -15,12 +15,11 @@
 static int	max_nodes = STANDARD_MAX_NODES;
 
 void
-define_settings(void)
+define_nodes(void)
 {
 	DefineCustomIntVariable("bcs.max_nodes", "Limits the argument nodes of the functions of the extension bcs.",
 							"-1 allows the whole range.", &max_nodes, STANDARD_MAX_NODES, -1, INT_MAX, PGC_SUSET, 0,
 							NULL, NULL, NULL);
-	MarkGUCPrefixReserved("bcs");
 }
 
 /* How much of the stack a call takes at most, and in addition each container that is open: 73 kB were measured for reading a
@@ -95,14 +94,16 @@ cap_nodes(Question *question, int weight)
 }
 
 /* A handle keeps the format of its last call, which has to outlive the query. So the handle reads it here, with its own
- * memory, and the call itself finds it. A format that is refused isn't kept, and the call refuses it again. */
+ * memory, and the call itself finds it. A format that is refused isn't kept, and the call refuses it again. Then the registry has
+ * all the memory that the call leaves to it. */
 static void
-keep_format(const struct ask *ask, MemoryContext context)
+keep_format(const struct ask *ask, const Registry *registry)
 {
-	MemoryContext outer = MemoryContextSwitchTo(context);
+	MemoryContext outer = MemoryContextSwitchTo(registry->context);
 	bcs_answer	answer = bcs_handle_check(ASK(ask));
 
 	MemoryContextSwitchTo(outer);
+	bound_cache(registry);
 	if (answer.status == BCS_MEMORY)
 		raise_memory();
 }
@@ -125,7 +126,7 @@ question_of_call(FunctionCallInfo fcinfo, int inputs)
 	question.ask.format = format_of(argument(fcinfo, 1));
 	registry = registry_of_call(fcinfo);
 	question.ask.handle = registry->handle;
-	keep_format(&question.ask, registry->context);
+	keep_format(&question.ask, registry);
 	return question;
 }
 

@@ -1,6 +1,6 @@
-/* Registries that are open in this process: each is read once, and then found by its text, or by its name in the table
- * bcs_registries. A function whose first argument is of the type text takes both, and one of the type json only the text of a
- * registry: no change of the table changes its answers. Nothing here names an object by a search path, and no SQL is run. */
+/* The registry of a call: its text, or its name in the table bcs_registries. A function whose first argument is of the type text
+ * accepts both, and one of the type json only the text of a registry: no change of the table changes its answers. Nothing here
+ * names an object by a search path, and no SQL is run. */
 #include "bcs_pg.h"
 
 #include "access/genam.h"
@@ -17,9 +17,6 @@
 #include "utils/lsyscache.h"
 #include "utils/memutils.h"
 #include "utils/rel.h"
-
-static Registry registries[MOST_OPEN];
-static uint64 uses = 0;
 
 /* The table of names as it was found last, and whether it has changed since. */
 static Oid	names_table = InvalidOid;
@@ -39,14 +36,6 @@ bool
 is_registry_name(struct piece text)
 {
 	return text.length > 0 && (isalpha(text.at[0]) || text.at[0] == '_') && !IS_HIGHBIT_SET(text.at[0]);
-}
-
-static void
-close_registry(Registry *registry)
-{
-	bcs_close(registry->handle);
-	MemoryContextDelete(registry->context);
-	*registry = (Registry) {0};
 }
 
 /* A call may be using a registry when this comes, so this only takes a note. */
@@ -69,11 +58,7 @@ close_changed_names(void)
 	if (!have_names_changed)
 		return;
 	have_names_changed = false;
-	for (int place = 0; place < MOST_OPEN; place++)
-	{
-		if (registries[place].number != 0 && registries[place].is_name)
-			close_registry(&registries[place]);
-	}
+	close_names();
 }
 
 /* All processes learn of a change of the table when its transaction commits, and this one also if it is rolled back. It is called
@@ -158,42 +143,15 @@ open_registry(FunctionCallInfo fcinfo, struct piece text, bool is_name)
 	return registry;
 }
 
-static bool
-is_open(const Registry *registry, struct piece text, bool is_name)
-{
-	return registry->number != 0 && registry->is_name == is_name && registry->text.length == text.length &&
-		memcmp(registry->text.at, text.at, text.length) == 0;
-}
-
-/* The place of a registry that is open, or else the place for it: an empty one, or that of the one not used for longest. */
-static Registry *
-place_of(struct piece text, bool is_name)
-{
-	Registry   *oldest = &registries[0];
-
-	for (int place = 0; place < MOST_OPEN; place++)
-	{
-		if (is_open(&registries[place], text, is_name))
-			return &registries[place];
-		if (registries[place].used < oldest->used)
-			oldest = &registries[place];
-	}
-	return oldest;
-}
-
 static Registry *
 registry_of(FunctionCallInfo fcinfo, struct piece text, bool is_name)
 {
-	Registry   *registry = place_of(text, is_name);
+	Registry   *registry = find_registry(text, is_name);
 
-	if (!is_open(registry, text, is_name))
+	if (registry == NULL)
 	{
-		const Registry opened = open_registry(fcinfo, text, is_name);
-
-		if (registry->number != 0)
-			close_registry(registry);
-		*registry = opened;
-		registry->number = ++uses;
+		bound_cache(NULL);
+		registry = cache_registry(open_registry(fcinfo, text, is_name));
 	}
 	return registry;
 }
@@ -243,6 +201,6 @@ registry_of_call(FunctionCallInfo fcinfo)
 		kept->registry = registry_of(fcinfo, text, kept->takes_names && is_registry_name(text));
 		kept->number = kept->registry->number;
 	}
-	kept->registry->used = ++uses;
+	use_registry(kept->registry);
 	return kept->registry;
 }

@@ -97,7 +97,8 @@ for tests in sessions rights hostile sql_types; do
     (cd "$room" && as_server /usr/bin/python3 "src/postgresql/tests/$tests.py") || fail "tests/$tests.py"
 done
 createdb rows
-psql --quiet --command "create extension bcs" rows
+psql --quiet --command "create schema bcs" --command "create extension bcs schema bcs" \
+    --command "alter database rows set search_path = public, bcs" rows
 /usr/bin/python3 "$root/bindings/sql/examples.py" postgresql dbname=rows "$here/README.md" || fail "the examples"
 python3 "$root/tests/rows" --without changes postgresql \
     /usr/bin/python3 "$root/bindings/sql/driver.py" postgresql dbname=rows || fail "the rows"

@@ -3,7 +3,8 @@
     /usr/bin/python3 bindings/sql/driver.py sqlite EXTENSION
     /usr/bin/python3 bindings/sql/driver.py postgresql CONNECTION
 
-EXTENSION is the loadable file, and CONNECTION is a connection string of libpq, for a database with the extension `bcs`.
+EXTENSION is the loadable file, and CONNECTION is a connection string of libpq, for a database with the extension `bcs`
+on the search path.
 """
 
 from __future__ import annotations

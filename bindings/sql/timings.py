@@ -3,7 +3,7 @@ them.
 
     /usr/bin/python3 bindings/sql/timings.py pipe PROGRAM
     /usr/bin/python3 bindings/sql/timings.py sqlite EXTENSION
-    /usr/bin/python3 bindings/sql/timings.py postgresql CONNECTION      a database with the extension `bcs`
+    /usr/bin/python3 bindings/sql/timings.py postgresql CONNECTION      a database with `bcs` on the search path
     /usr/bin/python3 bindings/sql/timings.py dask LIBRARY               the module `bcs_proved` on the path
 """
 

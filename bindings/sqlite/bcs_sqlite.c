@@ -30,8 +30,13 @@ static bcs_answer write_pieces(const struct question *question, uint8_t *out, si
    no memory, or that. */
 static uint8_t *written(const struct question *question, writing *call, size_t room, size_t most, bcs_answer *answer) {
     for (room = room < most ? room : most;; room = answer->length) {
-        uint8_t *out = sqlite3_malloc64(room);
-        *answer = out != NULL ? call(question, out, room) : (bcs_answer){.status = BCS_MEMORY};
+        uint8_t *out = NULL;
+        *answer = (bcs_answer){.status = BCS_MEMORY};
+        if (count_output(room)) {
+            out = sqlite3_malloc64(room);
+            *answer = out != NULL ? call(question, out, room) : *answer;
+            forget_output(room);
+        }
         if (answer->status != BCS_SHORT) {
             return out;
         }
@@ -234,6 +239,18 @@ static void is(sqlite3_context *context, int count, sqlite3_value **values) {
     }
 }
 
+static void registry_cache(sqlite3_context *context, int count, sqlite3_value **values) {
+    struct connection *connection = sqlite3_user_data(context);
+    if (count == 1) {
+        if (sqlite3_value_type(values[0]) != SQLITE_INTEGER || sqlite3_value_int64(values[0]) < 0) {
+            sqlite3_result_error(context, "bcs: the bytes of a cache are an INTEGER, at least 0", -1);
+            return;
+        }
+        limit_cache(connection, sqlite3_value_int64(values[0]));
+    }
+    sqlite3_result_int64(context, connection->most_cached);
+}
+
 /* A name, the number of inputs after the registry and the format, whether the default limits bound the cost, and the function. */
 static const struct {
     const char *name;
@@ -265,6 +282,11 @@ static int create_functions(sqlite3 *database, struct connection *connection) {
                                                 flags | innocuous, connection, functions[number].function, NULL, NULL,
                                                 leave_connection);
         }
+    }
+    for (int count = 0; count <= 1 && status == SQLITE_OK; count++) {
+        connection->functions++;
+        status = sqlite3_create_function_v2(database, "bcs_registry_cache", count, SQLITE_UTF8 | SQLITE_DIRECTONLY, connection,
+                                            registry_cache, NULL, NULL, leave_connection);
     }
     return status;
 }

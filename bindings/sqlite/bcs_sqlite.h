@@ -12,10 +12,14 @@
 #define STANDARD_DEPTH 100
 
 /* The memory of a call without limits, which the schema of a hostile file can make: what the default nodes need, several times,
-   and what long inputs do. The names of a registry come again in each element of an answer, so nodes alone don't bound it. */
+   and what long inputs do. It includes the open registry. Its names come again in each element of an answer, and reading it takes
+   up to a hundred times its length, so nodes alone don't bound it. */
 #define STANDARD_MEMORY ((sqlite3_int64)256 << 20)
 #define MEMORY_OF_BYTE 32
 #define NO_LIMIT (INT64_MAX / 2)
+
+/* How many bytes of registries stay open after a statement, unless bcs_registry_cache sets another limit. */
+#define STANDARD_CACHE ((sqlite3_int64)32 << 20)
 
 /* A registry that is open, by its text; none if `text` is null. */
 struct registry {
@@ -23,18 +27,23 @@ struct registry {
     size_t length;
     uint64_t used; /* when it was used last */
     bcs_handle *handle;
+    sqlite3_int64 bytes; /* all its memory, also of the format that the handle caches */
 };
 
 /* What a connection keeps, as long as it has one of the functions. */
 struct connection {
     unsigned functions;
     uint64_t uses;
+    sqlite3_int64 most_cached;
     struct registry open[MOST_OPEN];
 };
 
 /* The arguments of a function. */
 struct question {
+    sqlite3_context *context;
     struct ask ask;
+    struct registry *registry;
+    sqlite3_int64 memory; /* of the call and its registry */
     char *format; /* its JSON, in memory of SQLite */
     struct piece input, second;
     uint32_t form; /* of pieces */
@@ -48,10 +57,16 @@ static const struct piece no_bytes = {(const uint8_t *)"", 0};
 struct connection *new_connection(void);
 /* For each function that is removed. The last one frees the connection with its registries. */
 void leave_connection(void *connection);
-/* How many bytes the proved code may take on this thread from now on, in addition to what it has. */
-void limit_heap(sqlite3_int64 bytes);
-/* The handle of a registry, opened if it isn't yet; null if it is refused, which is reported. */
-bcs_handle *registry_of(sqlite3_context *context, struct piece text);
+/* A registry for a call of the function, opened if it isn't yet; null if it is refused, which is reported. Together with the call
+   it may take `memory` bytes. At the end of the call it is given back. If it is too large for the cache, it stays open to the end
+   of the statement if its argument is constant, and no longer otherwise. */
+struct registry *take_registry(sqlite3_context *context, struct piece text, sqlite3_int64 memory);
+void give_registry_back(sqlite3_context *context, struct registry *registry, sqlite3_int64 memory);
+/* Counts memory for an answer as that of the call, as long as the call runs. False: that is beyond its limit. */
+bool count_output(size_t length);
+void forget_output(size_t length);
+/* Limits the registries that stay open after a statement. */
+void limit_cache(struct connection *connection, sqlite3_int64 bytes);
 
 /* question.c */
 

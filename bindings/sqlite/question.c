@@ -72,17 +72,24 @@ static bool take_ask(sqlite3_context *context, struct question *question, sqlite
         return refuse_argument(context, NULL);
     }
     question->ask.format = (struct piece){(const uint8_t *)question->format, write_format(format, question->format)};
-    question->ask.handle = registry_of(context, registry);
-    if (question->ask.handle == NULL) {
-        drop_question(question);
+    question->registry = take_registry(context, registry, question->memory);
+    if (question->registry == NULL) {
+        sqlite3_free(question->format);
+        return false;
     }
-    return question->ask.handle != NULL;
+    question->ask.handle = question->registry->handle;
+    return true;
+}
+
+static sqlite3_int64 memory_of_call(const struct question *question, int inputs, bool has_limits) {
+    const size_t length = question->input.length + (inputs == 2 ? question->second.length : 0);
+    return has_limits ? NO_LIMIT : STANDARD_MEMORY + MEMORY_OF_BYTE * (sqlite3_int64)length;
 }
 
 /* `types` are those of the first input. A second one is a text, which with bytes is a path or a form. */
 static bool take_inputs(sqlite3_context *context, struct question *question, int inputs, int types, const char *message,
                         int count, sqlite3_value **values) {
-    *question = (struct question){.format = NULL};
+    *question = (struct question){.context = context};
     if (are_some_null(count, values) || !take_limits(context, &question->ask, 2 + inputs, count, values) ||
         !take_piece(context, values[2], types, message, &question->input)) {
         return false;
@@ -92,14 +99,11 @@ static bool take_inputs(sqlite3_context *context, struct question *question, int
         types = TEXT;
         message = "bcs: the path or the form isn't TEXT";
     }
-    if ((inputs == 2 && !take_piece(context, values[3], types, message, &question->second)) ||
-        !take_ask(context, question, values)) {
+    if (inputs == 2 && !take_piece(context, values[3], types, message, &question->second)) {
         return false;
     }
-    if (count == 2 + inputs) {
-        limit_heap(STANDARD_MEMORY + MEMORY_OF_BYTE * (sqlite3_int64)(question->input.length + question->second.length));
-    }
-    return true;
+    question->memory = memory_of_call(question, inputs, count > 2 + inputs);
+    return take_ask(context, question, values);
 }
 
 bool take_question(sqlite3_context *context, struct question *question, int inputs, int count, sqlite3_value **values) {
@@ -112,6 +116,6 @@ bool take_question_of_bytes(sqlite3_context *context, struct question *question,
 }
 
 void drop_question(struct question *question) {
-    limit_heap(NO_LIMIT);
     sqlite3_free(question->format);
+    give_registry_back(question->context, question->registry, question->memory);
 }

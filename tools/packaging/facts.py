@@ -2,7 +2,6 @@
 
 from __future__ import annotations
 
-import hashlib
 import os
 import pathlib
 import re
@@ -98,31 +97,11 @@ def glibc_needed(binary: pathlib.Path) -> tuple[int, ...]:
     return max(tuple(int(part) for part in version.split(b".")) for version in named)
 
 
-def require_whole() -> None:
-    """Ends unless the files of dist/ are exactly those that SHA256SUMS lists."""
-    listed = set()
-    for line in (DIST / "SHA256SUMS").read_text(encoding="utf-8").splitlines():
-        checksum, name = line.split(maxsplit=1)
-        path = DIST / name.lstrip("*")
-        if path.is_symlink() or not path.is_file() or hashlib.sha256(path.read_bytes()).hexdigest() != checksum:
-            sys.exit(f"packages: dist/{name} isn't the file that dist/SHA256SUMS has")
-        listed.add(path)
-    for folder in [NATIVE, ARM, WINDOWS, WEB, VECTORS]:
-        for path in sorted(folder.rglob("*")):
-            if not path.is_dir() and path not in listed:
-                sys.exit(f"packages: dist/SHA256SUMS doesn't list {path.relative_to(ROOT)}")
-
-
-def require_current() -> None:
-    """Ends if dist/ was built from other sources than those that are here."""
-    command = [ROOT / "tools/dist_sources.sh"]
-    sources = subprocess.run(command, stdout=subprocess.PIPE, text=True, check=True).stdout.strip()
-    labels = (DIST / "BUILT_FROM").read_text(encoding="utf-8").splitlines()
-    if not sources or labels[1:] != [f"sources {sources}"]:
-        sys.exit(
-            "packages: dist/ is older than these sources: run tools/take_dist.sh, "
-            "or check out the commit that it was built in"
-        )
+def require_dist() -> None:
+    """Ends unless dist/ was built from these sources and is whole, and is as in the last commit or signed."""
+    checked = subprocess.run([ROOT / "tools/compare_dist.sh", "--committed"], stdout=subprocess.PIPE, text=True)
+    if checked.returncode != 0:
+        sys.exit(f"{checked.stdout}packages: nothing is made of such a dist/")
 
 
 def readme(folder: str) -> str:

@@ -81,13 +81,13 @@ func told(err error, what string) string {
 	if refused.Kind != bcs.KindJSON && refused.Kind != bcs.KindBytes && refused.Kind != bcs.KindRegistry {
 		return failed(err, no)
 	}
-	if refused.Expected == "" {
+	if refused.Message == "" {
 		return no
 	}
 	if what == "where" {
-		return output([]byte(refused.Pointer), nil)
+		return output([]byte(refused.At), nil)
 	}
-	return output([]byte(refused.Expected), nil)
+	return output([]byte(refused.Message), nil)
 }
 
 // alike fails unless all calls that refuse an input say the same.
@@ -100,16 +100,16 @@ func alike(first error, others ...error) {
 }
 
 func textPlace(r *bcs.Registry, format string, json []byte, what string) string {
-	_, encoded := r.Encode(format, json)
-	_, normalised := r.Normalise(format, json)
-	_, compared := r.Equal(format, json, json)
+	_, encoded := r.EncodeJSON(format, json)
+	_, normalised := r.NormaliseJSON(format, json)
+	_, compared := r.EqualJSON(format, json, json)
 	alike(encoded, normalised, compared)
 	return told(encoded, what)
 }
 
 // stopPlace asks three calls. Scan accepts bytes behind the value.
 func stopPlace(r *bcs.Registry, format string, data []byte, what string) string {
-	_, decoded := r.Decode(format, data)
+	_, decoded := r.DecodeJSON(format, data)
 	if _, scanned := r.Scan(format, data); scanned != nil {
 		alike(decoded, scanned)
 	}
@@ -173,13 +173,13 @@ func answerOn(r *bcs.Registry, format string, words []string) string {
 	case "check":
 		return failed(r.Check(format), done(0, 0))
 	case "to_bcs":
-		return output(r.Encode(format, first))
+		return output(r.EncodeJSON(format, first))
 	case "from_bcs":
-		return output(r.Decode(format, first))
+		return output(r.DecodeJSON(format, first))
 	case "normalise":
-		return output(r.Normalise(format, first))
+		return output(r.NormaliseJSON(format, first))
 	case "compare":
-		equal, err := r.Equal(format, first, unhex(words[6]))
+		equal, err := r.EqualJSON(format, first, unhex(words[6]))
 		return failed(err, map[bool]string{true: done(0, 0), false: no}[equal])
 	case "scan":
 		length, err := r.Scan(format, first)

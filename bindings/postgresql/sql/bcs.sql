@@ -1,4 +1,8 @@
-CREATE EXTENSION bcs;
+-- As README.md installs it.
+CREATE SCHEMA bcs;
+GRANT USAGE ON SCHEMA bcs TO public;
+CREATE EXTENSION bcs SCHEMA bcs;
+SET search_path = public, bcs;
 -- What a statement answers: a value, or the SQLSTATE and the message of its error.
 CREATE FUNCTION told(statement text) RETURNS text LANGUAGE plpgsql AS $$
 DECLARE

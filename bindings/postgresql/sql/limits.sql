@@ -1,3 +1,4 @@
+SET search_path = public, bcs;
 -- Nodes: five bytes can announce two billion of them.
 SELECT told($$bcs_decode('{}', '{"SEQ":"UNIT"}', '\xffffffff07')$$);
 SELECT told($$bcs_decode('{}', '{"SEQ":"UNIT"}', '\xffffffff07', 1000)$$);

@@ -1,3 +1,4 @@
+SET search_path = public, bcs;
 INSERT INTO bcs_registries VALUES ('payments', payments());
 SELECT bcs_decode('payments', 'Payment', '\x03626f620700000000000000');
 SELECT bcs_decode(name, 'Payment', '\x03626f620700000000000000') FROM bcs_registries;

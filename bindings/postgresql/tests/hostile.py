@@ -1,4 +1,5 @@
-"""Tests what hostile input costs: the time of a call, the time until a query is cancelled, and the memory of a fault.
+"""Tests what hostile input costs: the time of a call, the time until a query is cancelled, and the memory of a fault
+and of registries that stay open.
 
 PGHOST and PGUSER name the server.
 """
@@ -58,6 +59,20 @@ CALLS = [
     "length(bcs_explain(%s, %s, %s, 'json', {}))",
     "length(bcs_explain(%s, %s, %s, 'ways', {}))",
 ]
+
+
+MEGABYTE = 1 << 20
+LARGE = 94 * MEGABYTE  # what large() takes while it is open
+
+
+def large(number: int, elements: int = 40_000) -> str:
+    """A registry of a megabyte. Each number has another text."""
+    return '{"A":{"TUPLESTRUCT":[%s]}}' % ",".join(['{"SEQ":{"OPTION":"U8"}}'] * elements) + " " * number
+
+
+def medium(number: int) -> str:
+    """A registry of 36 kB, which takes 4 MB while it is open."""
+    return large(number, 1500)
 
 
 class Measured(Database):
@@ -197,6 +212,183 @@ class Faults(Measured):
             with address_space(self.pid, process_memory(self.pid, "VmSize") + (16 << 20)):
                 fault = value(self.session, "select bcs_fault(%s, %s, %s, 1000000)", registry, format, data)
             self.assertEqual(fault["refused"], "BadBool")
+
+
+class Open(Measured):
+    """Registries that are open after a statement take at most bcs.registry_cache, whoever opened them."""
+
+    is_unit = "select bcs_is(%s, '\"UNIT\"', '')"
+
+    def setUp(self) -> None:
+        super().setUp()
+        run(self.session, "drop role if exists stranger")
+        run(self.session, "create role stranger in role pg_read_all_stats")
+        self.addCleanup(run, self.session, "drop role stranger")
+        self.addCleanup(run, self.session, "reset role")
+        self.assertIs(value(self.session, self.is_unit, "{}"), True)
+        run(self.session, "discard all")
+        self.before = process_memory(self.pid, "RssAnon")
+
+    def kept(self) -> tuple[int, int]:
+        """How many registries are open, and their bytes."""
+        kept = "from pg_backend_memory_contexts where name = 'bcs registry'"
+        with self.session.cursor() as cursor:
+            cursor.execute(f"select count(*), coalesce(sum(total_bytes), 0)::bigint {kept}")
+            count, length = cursor.fetchone()
+        return count, length
+
+    def grown(self, name: str = "RssAnon") -> int:
+        return process_memory(self.pid, name) - self.before
+
+    def test_stranger(self) -> None:
+        """Eight calls, each with another registry. One of them alone takes more than the bound."""
+        run(self.session, "set role stranger")
+        for number in range(8):
+            self.assertIs(value(self.session, self.is_unit, large(number)), True)
+            self.assertEqual(self.kept(), (0, 0))
+        grown = self.grown()
+        print(f"hostile: eight large registries left {grown // 1000} kB")
+        self.assertLess(grown, 32 * MEGABYTE)
+        self.assertEqual(refusal(self.session, "set bcs.registry_cache = '1GB'")[0], "42501")
+
+    def test_within_a_statement(self) -> None:
+        """At most one of them is open in addition to the bound, also while two take turns."""
+        turns = "select count(*) from generate_series(1, %s) as n where bcs_is(%s || repeat(' ', {}), '\"UNIT\"', '')"
+        for which in "n", "n %% 2":
+            self.assertEqual(value(self.session, turns.format(which), 4, large(0)), 4)
+            self.assertEqual(self.kept(), (0, 0))
+        self.assertLess(self.grown("VmHWM"), 2 * LARGE)
+
+    def test_serving(self) -> None:
+        """Registries within the bound are opened once, and so is a larger one within a statement."""
+        statement = "select bcs_is(%s, '\"UNIT\"', '')"
+        texts = [medium(number) for number in range(4)]
+        first = [self.cost_of(statement, text) for text in texts]
+        again = [self.cost_of(statement, text) for text in texts * 5]
+        print(f"hostile: opening took {min(first):.1f} ms, and a call later {max(again):.1f}")
+        self.assertLess(sorted(again)[10], min(first) / 4)
+        count, kept = self.kept()
+        self.assertEqual(count, 4)
+        self.assertLess(kept, 24 * MEGABYTE)
+        once = self.cost_of(self.is_unit, large(0))
+        calls = (
+            "select count(bcs_is(%s, '\"UNIT\"', set_byte('\\x00', 0, n %% 256))) from generate_series(1, 1000) as n"
+        )
+        self.assertLess(self.cost_of(calls, large(1)), 3 * once)
+
+    def cost_of(self, statement: str, *arguments: object) -> float:
+        before = self.spent()
+        value(self.session, statement, *arguments)
+        return self.spent() - before
+
+    def test_setting(self) -> None:
+        """In bytes, of all open registries together. The next call closes what exceeds a lower one."""
+        run(self.session, "set bcs.registry_cache = '200MB'")
+        for number, count in (0, 1), (1, 2), (0, 2), (2, 2):
+            value(self.session, self.is_unit, large(number))
+            self.assertEqual(self.kept()[0], count)
+        run(self.session, "set bcs.registry_cache = '1MB'")
+        for number in range(20):
+            value(self.session, self.is_unit, "{}" + " " * number)
+        self.assertEqual(self.kept()[0], 16)
+        run(self.session, "set bcs.registry_cache = 0")
+        self.assertIs(value(self.session, self.is_unit, "{}"), True)
+        self.assertEqual(self.kept(), (0, 0))
+        for wrong in "-1", "'much'", "'9999GB'":
+            self.assertEqual(refusal(self.session, f"set bcs.registry_cache = {wrong}")[0], "22023")
+
+    def test_discard(self) -> None:
+        value(self.session, self.is_unit, medium(0))
+        self.assertEqual(self.kept()[0], 1)
+        run(self.session, "discard plans")
+        self.assertEqual(self.kept()[0], 1)
+        run(self.session, "discard all")
+        self.assertEqual(self.kept(), (0, 0))
+        self.assertIs(value(self.session, self.is_unit, medium(0)), True)
+
+    def test_format(self) -> None:
+        """A handle caches the last format, which a small registry's bytes include."""
+        format = '{"TUPLE":[%s]}' % ",".join(['"U8"'] * 400_000)
+        self.assertIs(value(self.session, "select bcs_is('{}', %s, '')", format), False)
+        self.assertEqual(self.kept(), (0, 0))
+
+    def test_names(self) -> None:
+        run(self.session, "insert into bcs_registries values ('large', %s)", large(0))
+        self.assertEqual(self.kept(), (0, 0))
+        self.assertIs(value(self.session, self.is_unit, "large"), True)
+        self.assertEqual(self.kept(), (0, 0))
+
+    def test_transactions(self) -> None:
+        """The registry leaves with its statement, also in a transaction, after an error, and between fetches."""
+        large_call = f"bcs_is('{large(0)}', '\"UNIT\"', '')"
+        run(self.session, "begin")
+        self.assertIs(value(self.session, f"select {large_call}"), True)
+        self.assertEqual(self.kept(), (0, 0))
+        run(self.session, "savepoint before")
+        failing = f"select 1 / (not {large_call})::int"
+        self.assertEqual(refusal(self.session, failing)[0], "22012")
+        run(self.session, "rollback to before")
+        self.assertEqual(self.kept(), (0, 0))
+        run(self.session, f"declare calls cursor for select {large_call}, n from generate_series(1, 5) as n")
+        for _ in range(3):
+            self.assertIs(value(self.session, "fetch calls"), True)
+            self.assertEqual(self.kept(), (0, 0))
+        run(self.session, "commit")
+        body = f"""begin
+            for n in 1 .. 3 loop
+                begin
+                    perform {large_call};
+                    perform 1 / (n - n);
+                exception when division_by_zero then
+                    commit;
+                end;
+            end loop;
+        end"""
+        run(self.session, f"do $$ {body.replace('commit', 'null')} $$")
+        self.assertEqual(self.kept(), (0, 0))
+
+    def test_workers(self) -> None:
+        """Each process has its own registries, and those of parallel workers end with them."""
+        run(self.session, "create table units as select ''::bytea as bytes from generate_series(1, 20000)")
+        run(self.session, "analyze units")
+        for setting in "parallel_setup_cost", "parallel_tuple_cost", "min_parallel_table_scan_size":
+            run(self.session, f"set {setting} = 0")
+        statement = "select count(*) from units where bcs_is(%s, '\"UNIT\"', bytes)"
+        plan = json.dumps(value(self.session, "explain (format json) " + statement, large(0)))
+        self.assertIn("Workers Planned", plan)
+        self.assertEqual(value(self.session, statement, large(0)), 20000)
+        self.assertEqual(self.kept(), (0, 0))
+
+    def test_nested(self) -> None:
+        """A call whose argument makes another call, which closes the registry of the one around it."""
+        body = "begin perform bcs_is(registry || ' ', '\"UNIT\"', ''); return registry; end"
+        run(self.session, f"create function other(registry text) returns text language plpgsql as $$ {body} $$")
+        nested = "select count(*) from generate_series(1, 2) where bcs_is(other(%s), '\"UNIT\"', '')"
+        self.assertEqual(value(self.session, nested, large(0)), 2)
+        self.assertEqual(self.kept(), (0, 0))
+
+    def test_cancelled(self) -> None:
+        """While it is read, while its format is read, and between calls."""
+        statements = [
+            ("select bcs_is(%s, '\"UNIT\"', ''), pg_sleep(10)", large(0)),
+            ("select bcs_is(%s, '\"UNIT\"', '')", large(0) + " " * 60_000_000),
+            ("select bcs_is('{}', %s, '')", '{"TUPLE":[%s]}' % ",".join(['{"SEQ":{"OPTION":"U8"}}'] * 400_000)),
+        ]
+        run(self.session, "set statement_timeout = '700ms'")
+        for statement, argument in statements:
+            self.assertEqual(refusal(self.session, statement, argument)[0], "57014")
+            self.assertEqual(self.kept(), (0, 0))
+
+    def test_out_of_memory(self) -> None:
+        """While a registry is opened. The ones that are open stay right."""
+        value(self.session, self.is_unit, medium(0))
+        for room in range(0, 120, 10):
+            with address_space(self.pid, process_memory(self.pid, "VmSize") + room * MEGABYTE):
+                state = refusal(self.session, self.is_unit, large(room))[0]
+            self.assertIn(state, ["", "53200"])
+            self.assertLessEqual(self.kept()[1], 32 * MEGABYTE)
+            self.assertIs(value(self.session, self.is_unit, medium(0)), True)
+        self.assertEqual(state, "")
 
 
 if __name__ == "__main__":

@@ -1,7 +1,8 @@
 """Tests that the owner of a database can't gain rights through the extension.
 
 The owner plants functions, operators and types that the extension might call by mistake, and a superuser then uses the
-extension. Nothing that was planted may run. PGHOST and PGUSER name the server.
+extension. Nothing that was planted may run, and the extension refuses schemas in which others could plant overloads.
+PGHOST and PGUSER name the server.
 """
 
 from __future__ import annotations
@@ -10,7 +11,7 @@ import unittest
 from typing import Any
 
 import psycopg2
-from sessions import PAYMENT, PAYMENTS, connect, refusal, run, value
+from sessions import PAYMENT, PAYMENTS, connect, install, refusal, run, value
 
 # Types of the arguments of planted functions: each fits a call of the extension's functions in some way.
 SIGNATURES = [
@@ -43,6 +44,7 @@ SIGNATURES = [
     "text",
     "regclass",
     "internal",
+    "aclitem[]",
 ]
 OPERATORS = ["~", "=", "<>", "->>", "||", "~~", "<", "@>"]
 OPERANDS = [
@@ -75,6 +77,19 @@ create function evil.gain(what pg_catalog.text) returns boolean language plpgsql
     return true;
 end $$;
 """
+
+
+# Why the extension refuses a schema.
+OWNER = "its owner isn't a superuser"
+CREATORS = "others than superusers may create objects in it"
+FUNCTIONS = "it has functions whose names start with bcs_"
+ARGUMENTS = "registry text, format text, bytes bytea, nodes int8 default 1, depth int4 default 1"
+GAIN = "$$ begin alter role mallory superuser; return true; end $$"
+DROPPING = """do $$ declare planted regprocedure; begin
+    for planted in select oid from pg_proc where pronamespace = '{}'::regnamespace and proname like 'bcs\\_%%' loop
+        execute format('drop function %%s', planted);
+    end loop;
+end $$"""
 
 
 def planted(session: Any, statement: str) -> bool:
@@ -123,7 +138,7 @@ class Rights(unittest.TestCase):
         run(self.server, "create database attacked owner mallory")
         run(self.server, "create database rights")
         before = connect("rights")
-        run(before, "create extension bcs")
+        install(before)
         names = (
             "select array_agg(distinct proname::text) from pg_proc, pg_depend where objid = pg_proc.oid "
             "and deptype = 'e' and classid = 'pg_proc'::regclass "
@@ -137,13 +152,15 @@ class Rights(unittest.TestCase):
             "bytea",
             "json",
             "textregexeq",
+            "starts_with",
+            "aclexplode",
         ]
         before.close()
 
     def forget(self) -> None:
         for name in ["attacked", "rights"]:
             run(self.server, f"drop database if exists {name}")
-        run(self.server, "drop role if exists mallory")
+        run(self.server, "drop role if exists mallory, keepers, boss")
 
     def mallory(self) -> Any:
         session = psycopg2.connect(dbname="attacked", user="mallory")
@@ -187,7 +204,10 @@ class Rights(unittest.TestCase):
         self.assertEqual(value(owner, "select coalesce(array_agg(distinct what), '{}') from evil.ran"), [])
 
     def test_planted_objects(self) -> None:
-        """Created where the search path leads (mallory's schema), in `public`, and in a schema of the superuser's."""
+        """Where the search path leads (mallory's schema), and in `public`.
+
+        A superuser who takes such a schema over has to remove all that the extension names, and the rest is harmless.
+        """
         owner = self.mallory()
         run(owner, "alter database attacked set search_path = evil, public, pg_catalog")
         count = plant(owner, self.names)
@@ -195,35 +215,94 @@ class Rights(unittest.TestCase):
         self.assertGreater(count, 500)
         owner = self.mallory()
         run(owner, "set search_path = pg_catalog")
-        for schema, clause in [("evil", ""), ("public", "schema public"), ("own", "schema own")]:
+        self.check_refused("create extension bcs", "evil", OWNER)
+        for schema in ["evil", "public"]:
             with self.subTest(schema=schema):
-                run(self.superuser(), "create schema if not exists own")
-                run(self.superuser(), f"create extension bcs {clause}")
+                create = f"create extension bcs schema {schema}"
+                self.check_refused(create, schema, OWNER)
+                run(self.superuser(), f"alter schema {schema} owner to current_user")
+                run(self.superuser(), f"grant create on schema {schema} to public")
+                self.check_refused(create, schema, CREATORS)
+                run(self.superuser(), f"revoke create on schema {schema} from public")
+                self.check_refused(create, schema, FUNCTIONS)
+                run(owner, DROPPING.format(schema))
+                run(self.superuser(), create)
                 self.check_harmless(owner)
                 self.use(schema, owner)
+        run(self.superuser(), "create schema own")
+        run(self.superuser(), "create extension bcs schema own")
+        self.use("own", owner)
         self.assertIs(value(self.superuser(), "select evil.gain('the test itself'::pg_catalog.text)"), True)
         self.assertIs(value(self.server, "select rolsuper from pg_roles where rolname = 'mallory'"), True)
 
-    def test_one_overload(self) -> None:
-        """An overload that fits untyped literals better than the extension's function does."""
-        owner = self.mallory()
-        run(owner, PLANTING)
-        head = "create function public.bcs_is(text, text, text) returns boolean"
-        run(owner, f"{head} language sql as $$ select evil.gain('is') $$")
-        run(self.superuser(), "create extension bcs")
-        self.use("public", owner)
+    def check_refused(self, create: str, schema: str, reason: str) -> None:
+        session = self.superuser()
+        self.assertEqual(refusal(session, create), ("42P15", f"bcs: the schema {schema} isn't safe: {reason}"))
+        self.assertEqual(
+            value(session, "select pg_catalog.count(*) from pg_catalog.pg_extension where extname = 'bcs'"), 0
+        )
+
+    def test_owner_of_the_schema(self) -> None:
+        """Renames it, creates another one with its name, and the superuser's next call runs a planted function."""
+        for schema, made in [("bcs", "create schema bcs"), ("public", "select 7")]:
+            with self.subTest(schema=schema):
+                owner, session = self.mallory(), self.superuser()
+                run(owner, made)
+                told = refusal(session, f"create extension bcs schema {schema}")
+                run(owner, f"alter schema {schema} rename to renamed_{schema}")
+                run(owner, f"create schema {schema}")
+                run(owner, f"create function {schema}.bcs_is({ARGUMENTS}) returns boolean language plpgsql as {GAIN}")
+                if told == ("", ""):
+                    value(session, f"select {schema}.bcs_is('{{}}'::text, '\"U8\"'::text, ''::bytea, 1::int8, 1)")
+                self.assertIs(value(self.server, "select rolsuper from pg_roles where rolname = 'mallory'"), False)
+                self.assertEqual(told, ("42P15", f"bcs: the schema {schema} isn't safe: {OWNER}"))
+
+    def test_schemas(self) -> None:
+        """Of a role without login, with rights for others, and with functions from before. Superusers may share one."""
+        session = self.superuser()
+        run(session, "create role keepers")
+        run(session, "create role boss superuser")
+        for made, reason in [
+            ("create schema {} authorization keepers", OWNER),
+            ("create schema {}; grant all on schema {0} to mallory", CREATORS),
+            ("create schema {}; grant create on schema {0} to keepers", CREATORS),
+            ("create schema {}; grant create on schema {0} to public", CREATORS),
+            ("create schema {}; grant create on schema {0} to boss, pg_database_owner", CREATORS),
+            (f"create schema {{}}; create function {{0}}.bcs_is({ARGUMENTS}) returns boolean return true", FUNCTIONS),
+            ("create schema {}; create function {0}.bcs_other() returns boolean return true", FUNCTIONS),
+        ]:
+            run(session, made.replace("{}", "{0}").format("tried"))
+            self.check_refused("create extension bcs schema tried", "tried", reason)
+            run(session, "drop schema tried cascade")
+        run(session, "create schema shared authorization boss")
+        run(session, "grant create on schema shared to postgres")
+        run(session, "grant usage on schema shared to public")
+        run(session, "create extension bcs schema shared")
+        self.assertIs(value(self.mallory(), "select shared.bcs_is('{}', '\"U8\"', '\\x07')"), True)
+        run(session, "drop extension bcs")
+        run(session, "drop schema shared")
 
     def test_objects_of_the_extension(self) -> None:
-        """The owner of the schema can neither replace them, nor drop them alone, nor write to the table."""
-        owner, session = self.mallory(), self.superuser()
-        run(session, "create extension bcs")
+        """The owner of the database can neither replace them, nor drop or move them, nor write to the table."""
+        session = self.superuser()
+        install(session)
         run(session, "insert into bcs_registries values ('payments', %s)", PAYMENTS)
-        words = "registry text, format text, bytes bytea, nodes int8 default 1, depth int4 default 1"
-        head = f"create or replace function bcs_is({words})"
+        owner = self.mallory()
         for statement, state in [
-            (head + " returns boolean language sql as 'select true'", "42501"),
-            ("drop function bcs_is(text, text, bytea, int8, int4)", "2BP01"),
+            (
+                f"create or replace function bcs.bcs_is({ARGUMENTS}) returns boolean language sql as 'select true'",
+                "42501",
+            ),
+            ("create function bcs.bcs_is(text, text, text) returns boolean language sql as 'select true'", "42501"),
+            ("create table bcs.mine ()", "42501"),
+            ("alter schema bcs rename to other", "42501"),
+            ("alter schema bcs owner to mallory", "42501"),
+            ("drop schema bcs cascade", "42501"),
+            ("alter extension bcs set schema public", "42501"),
+            ("drop extension bcs", "42501"),
+            ("drop function bcs_is(text, text, bytea, int8, int4)", "42501"),
             ("alter function bcs_is(text, text, bytea, int8, int4) rename to other", "42501"),
+            ("alter function bcs_is(text, text, bytea, int8, int4) set schema public", "42501"),
             ("alter function bcs_is(text, text, bytea, int8, int4) immutable", "42501"),
             ("insert into bcs_registries values ('other', '{}')", "42501"),
             ("update bcs_registries set registry = '{}'", "42501"),
@@ -232,10 +311,11 @@ class Rights(unittest.TestCase):
             ("alter table bcs_registries disable trigger changed", "42501"),
         ]:
             self.assertEqual((statement, refusal(owner, statement)[0]), (statement, state))
+        self.assertEqual(refusal(session, "alter extension bcs set schema public")[0], "0A000")
 
     def test_setting(self) -> None:
-        """Only a superuser can raise bcs.max_nodes, also before the library is loaded, and for a role or a database."""
-        run(self.superuser(), "create extension bcs")
+        """Only a superuser can raise a setting, also before the library is loaded, and for a role or a database."""
+        install(self.superuser())
         bomb = """select bcs_scan('{}', '{"SEQ":"UNIT"}', '\\xffffff07', 4294967295)"""
         for statement in [
             "set bcs.max_nodes = -1",
@@ -249,6 +329,16 @@ class Rights(unittest.TestCase):
             self.assertEqual((statement, refusal(session, statement)[0]), (statement, "42501"))
             again = self.mallory()
             self.assertEqual((statement, refusal(again, bomb)[0]), (statement, "54000"))
+        for statement in [
+            "set bcs.registry_cache = '1GB'",
+            "alter role mallory set bcs.registry_cache = '1GB'",
+            "alter database attacked set bcs.registry_cache = '1GB'",
+        ]:
+            session = self.mallory()
+            refusal(session, statement)
+            refusal(session, bomb)
+            self.assertEqual((statement, value(session, "show bcs.registry_cache")), (statement, "32MB"))
+            self.assertEqual((statement, refusal(session, statement)[0]), (statement, "42501"))
         session = self.superuser()
         run(session, "set bcs.max_nodes = -1")
         self.assertEqual(value(session, bomb), 4)

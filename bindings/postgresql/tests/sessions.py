@@ -55,6 +55,15 @@ def refusal(connection: Any, statement: str, *arguments: object) -> tuple[str, s
     return "", ""
 
 
+def install(session: Any) -> None:
+    """As README.md does it, with the schema on the search path of later sessions, and of this one."""
+    run(session, "create schema bcs")
+    run(session, "grant usage on schema bcs to public")
+    run(session, "create extension bcs schema bcs")
+    run(session, f"alter database {session.info.dbname} set search_path = public, bcs")
+    run(session, "set search_path = public, bcs")
+
+
 def process_memory(pid: int, name: str) -> int:
     """A line of the process's status, in bytes."""
     status = pathlib.Path(f"/proc/{pid}/status").read_text()
@@ -84,8 +93,8 @@ class Database(unittest.TestCase):
         run(server, f"drop database if exists {self.name}")
         run(server, f"create database {self.name} {self.options}")
         server.close()
+        install(self.opened())
         self.session = self.opened()
-        run(self.session, "create extension bcs")
 
     def opened(self) -> Any:
         session = connect(self.name)
@@ -139,8 +148,9 @@ class Names(Database):
         self.addCleanup(server.close)
         run(server, "drop database if exists replica")
         run(server, "create database replica")
-        replica, reader = connect("replica"), connect("replica")
-        run(replica, "create extension bcs")
+        replica = connect("replica")
+        install(replica)
+        reader = connect("replica")
         run(replica, "insert into bcs_registries values ('payments', %s)", PAYMENTS)
         self.assertEqual(value(reader, self.decoded), '{"amount":"7","to":"bob"}')
         run(self.session, "create publication names for table bcs_registries")
@@ -174,7 +184,7 @@ class Names(Database):
     def test_new_extension(self) -> None:
         value(self.other, self.decoded)
         run(self.session, "drop extension bcs")
-        run(self.session, "create extension bcs")
+        run(self.session, "create extension bcs schema bcs")
         self.assertEqual(refusal(self.other, self.decoded), ("22023", "bcs: no registry is called payments"))
 
     def test_dump(self) -> None:
@@ -195,6 +205,7 @@ class Names(Database):
         subprocess.run(words, check=True, input=dump, stdout=subprocess.DEVNULL)
         restored = connect("restored")
         self.addCleanup(restored.close)
+        run(restored, "set search_path = public, bcs")
         run(restored, "set enable_seqscan = off")
         found = "select count(*) from transfers where bcs_decode(%s, 'Payment', bytes) ->> 'to' = 'bob'"
         plan = json.dumps(value(restored, "explain (format json) " + found, PAYMENTS))

@@ -46,14 +46,16 @@ static void take_heap(void) {
     CHECK(sqlite3_config(SQLITE_CONFIG_MALLOC, &mine) == SQLITE_OK);
 }
 
-/* The encoding of a database: in another one than UTF-8 SQLite makes room for each text that is handed over. */
-static const char *encoding;
+/* The encoding of a database: in another one than UTF-8 SQLite makes room for each text that is passed. And the limit on cached
+   registries: with 0, each is closed at the end of its statement. */
+static const char *encoding, *cache;
 
 static sqlite3 *opened(void) {
     sqlite3 *database;
     CHECK(sqlite3_open(":memory:", &database) == SQLITE_OK);
     CHECK(sqlite3_exec(database, encoding, NULL, NULL, NULL) == SQLITE_OK);
     CHECK(sqlite3_bcssqlite_init(database, NULL, NULL) == SQLITE_OK);
+    CHECK(sqlite3_exec(database, cache, NULL, NULL, NULL) == SQLITE_OK);
     return database;
 }
 
@@ -210,6 +212,9 @@ static bool runs_out(size_t row) {
         status = sqlite3_bcssqlite_init(database, NULL, NULL);
     }
     if (status == SQLITE_OK) {
+        status = sqlite3_exec(database, cache, NULL, NULL, NULL);
+    }
+    if (status == SQLITE_OK) {
         status = sqlite3_prepare_v2(database, questions[row].sql, -1, &statement, NULL);
     }
     if (status == SQLITE_OK && (status = sqlite3_step(statement)) == SQLITE_ROW) {
@@ -307,18 +312,57 @@ static void many_calls(long count) {
     CHECK(sqlite3_memory_used() == 0);
 }
 
+/* Between statements, only the registries that the cache may have are open. */
+static void cache_is_kept(void) {
+    sqlite3 *database = opened();
+    sqlite3_int64 before, after;
+    is_answered(database, "select bcs_is('{}','\"U8\"',x'07')", "1");
+    before = sqlite3_memory_used();
+    is_answered(database, "select bcs_is(" REGISTRY ",'A',x'0701036F6E65')", "1");
+    after = sqlite3_memory_used();
+    is_answered(database, "select bcs_registry_cache() = 0", after > before ? "0" : "1");
+    closed(database);
+}
+
+/* The statement ends after its connection was closed, and after the functions were replaced. */
+static void late_end(void) {
+    static const char sql[] = "select bcs_is(" REGISTRY ",'A',x'0701036F6E65') from (select 1 union all select 2)";
+    sqlite3 *database = opened();
+    sqlite3_stmt *statement = prepared(database, sql);
+    CHECK(sqlite3_step(statement) == SQLITE_ROW);
+    CHECK(sqlite3_bcssqlite_init(database, NULL, NULL) == SQLITE_BUSY);
+    CHECK(sqlite3_step(statement) == SQLITE_ROW);
+    CHECK(sqlite3_reset(statement) == SQLITE_OK);
+    CHECK(sqlite3_bcssqlite_init(database, NULL, NULL) == SQLITE_OK);
+    CHECK(sqlite3_step(statement) == SQLITE_ROW);
+    CHECK(sqlite3_close_v2(database) == SQLITE_OK);
+    CHECK(sqlite3_step(statement) == SQLITE_ROW);
+    CHECK(sqlite3_step(statement) == SQLITE_DONE);
+    CHECK(sqlite3_finalize(statement) == SQLITE_OK);
+    CHECK(sqlite3_memory_used() == 0);
+}
+
 int main(int count, char **words) {
-    static const char *const encodings[] = {"pragma encoding = 'UTF-8'", "pragma encoding = 'UTF-16'"};
+    static const struct {
+        const char *encoding, *cache;
+    } settings[] = {
+        {"pragma encoding = 'UTF-8'", "select bcs_registry_cache()"},
+        {"pragma encoding = 'UTF-16'", "select bcs_registry_cache()"},
+        {"pragma encoding = 'UTF-8'", "select bcs_registry_cache(0)"},
+    };
     take_heap();
-    for (size_t number = 0; number < COUNT(encodings); number++) {
-        encoding = encodings[number];
+    for (size_t number = 0; number < COUNT(settings); number++) {
+        encoding = settings[number].encoding;
+        cache = settings[number].cache;
         answers();
         memory_refused();
+        registries_take_turns();
+        cache_is_kept();
+        late_end();
     }
-    encoding = encodings[0];
+    cache = settings[0].cache;
     hostile();
     places();
-    registries_take_turns();
     indexes();
     many_calls(count > 1 ? atol(words[1]) : 1000000);
     return 0;

@@ -1,4 +1,5 @@
-"""Tests what hostile input costs: a stranger's schema, values longer than the connection allows, and faults.
+"""Tests what hostile input costs: a stranger's schema, registries that stay open, values longer than the connection
+allows, and faults.
 
     /usr/bin/python3 bindings/sqlite/tests/hostile.py EXTENSION
 """
@@ -56,6 +57,13 @@ def length(number: int) -> bytes:
     return bytes(data) + bytes([number])
 
 
+def used() -> int:
+    """The memory that SQLite has now."""
+    memory_used = ctypes.CDLL("libsqlite3.so.0").sqlite3_memory_used
+    memory_used.argtypes, memory_used.restype = [], ctypes.c_int64
+    return int(memory_used())
+
+
 def taken(is_reset: bool = False) -> int:
     """The most memory that SQLite had at a time."""
     highwater = ctypes.CDLL("libsqlite3.so.0").sqlite3_memory_highwater
@@ -76,7 +84,7 @@ def heap(megabytes: int) -> Iterator[None]:
 
 
 def opened(path: str | pathlib.Path = ":memory:") -> sqlite3.Connection:
-    database = sqlite3.connect(path)
+    database = sqlite3.connect(path, cached_statements=0)  # which would keep their arguments
     database.enable_load_extension(True)
     database.load_extension(EXTENSION)
     return database
@@ -153,15 +161,16 @@ class Hostile(unittest.TestCase):
     def test_long_names(self) -> None:
         """An answer has a registry's names for each element. Only long inputs make it allocate more, not long names."""
         named = '{"A":{"STRUCT":[{"%s":"UNIT"}]}}' % ("x" * 100_000)
+        shorter = named.replace("x" * 20_000, "", 1)
         decoded = 'select length(bcs_decode(?, \'{"SEQ":{"TYPENAME":"A"}}\', ?))'
         element = len('{"":null},') + 100_000
         with contextlib.closing(opened()) as database:
             self.assertEqual(database.execute(decoded, [named, length(500)]).fetchone(), (500 * element + 1,))
-            for count in 10_000, 300_000:
+            for text, count in (named, 10_000), (named, 300_000), (shorter, 2000):
                 taken(is_reset=True)
                 with self.assertRaises(MemoryError):
-                    database.execute(decoded, [named, length(count)])
-                self.assertLess(taken(), 300_000_000)
+                    database.execute(decoded, [text, length(count)])
+                self.assertLess(taken(), 270_000_000)
         with contextlib.closing(opened()) as database:
             data = length(100_000_000) + bytes(100_000_000)
             self.assertEqual(
@@ -181,6 +190,170 @@ class Hostile(unittest.TestCase):
         with self.assertRaisesRegex(sqlite3.DataError, "too big"):
             explained = "select bcs_explain('{}', '{\"SEQ\":\"BOOL\"}', ?, 'ways')"
             database.execute(explained, [length(5000) + bytes(5000)])
+
+
+BOUND = 32 << 20  # the default of bcs_registry_cache
+IS_BYTE = "bcs_is({}, '\"U8\"', x'07')"
+# Twelve registries of 2 MB, one after the other, each of which takes 21 MB while it is open. Reading one of 12 MB takes
+# 1 GB.
+MANY = """with recursive n (n) as (select 1 union all select n + 1 from n where n < 12)
+    select sum(bcs_is('{"A":{"TUPLESTRUCT":[' || replace(hex(zeroblob(100000)), '00', '{"SEQ":{"OPTION":"U8"}},')
+    || printf('%.*c', n, ' ') || '"U8"]}}', '"U8"', x'07')) from n"""
+LARGEST = MANY.replace("n < 12", "n < 1").replace("100000", "500000")
+
+
+def registry(number: int) -> str:
+    """Takes 6 MB while it is open. Each number has another text."""
+    return json.dumps({f"{number}_{name}": {"TUPLESTRUCT": ["U8"]} for name in range(15_000)})
+
+
+class Open(unittest.TestCase):
+    """Registries that are open after a statement take at most 32 MB, or what bcs_registry_cache sets."""
+
+    def setUp(self) -> None:
+        self.database = opened()
+        self.addCleanup(self.database.close)
+        self.database.execute("create table small (n)")
+        self.database.executemany("insert into small values (?)", [[n] for n in range(1000)])
+        self.before = used()
+
+    def lower(self) -> None:
+        """Sets a limit that each registry exceeds."""
+        self.assertEqual(self.value("bcs_registry_cache(4000000)"), 4_000_000)
+        self.before = used()
+
+    def value(self, statement: str, *arguments: object) -> object:
+        return self.database.execute("select " + statement, arguments).fetchall()[0][0]
+
+    def kept(self) -> int:
+        return used() - self.before
+
+    def spent(self, statement: str, *arguments: object) -> float:
+        start = time.process_time()
+        self.value(statement, *arguments)
+        return time.process_time() - start
+
+    def test_view(self) -> None:
+        """Of a hostile file, in a connection that doesn't trust its schema."""
+        with tempfile.TemporaryDirectory() as folder:
+            path = pathlib.Path(folder) / "hostile.db"
+            with contextlib.closing(opened(path)) as stranger:
+                stranger.executescript(f"create view many as {MANY}; create view largest as {LARGEST}")
+            with contextlib.closing(opened(path)) as database:
+                database.execute("pragma trusted_schema = off")
+                before = used()
+                taken(is_reset=True)
+                self.assertEqual(database.execute("select * from many").fetchall(), [(12,)])
+                left, most = used() - before, taken() - before
+                with self.assertRaises(MemoryError):
+                    database.execute("select * from largest").fetchall()
+                print(f"hostile: a view left {left >> 20} MB, with at most {most >> 20} MB at a time")
+                self.assertLess(left, BOUND)
+                self.assertLess(max(most, taken() - before), (256 << 20) + 2 * BOUND)
+
+    def test_refused(self) -> None:
+        """The place in a registry is found with the same memory."""
+        taken(is_reset=True)
+        with self.assertRaises(MemoryError):
+            self.database.execute(LARGEST.replace("]}}", "]}]")).fetchall()
+        with self.assertRaisesRegex(sqlite3.OperationalError, "no registry: NotJson at line 1, column"):
+            self.database.execute(MANY.replace("]}}", "]}]")).fetchall()
+        self.assertLess(taken() - self.before, (256 << 20) + BOUND)
+        self.assertLess(self.kept(), 100_000)
+
+    def test_serving(self) -> None:
+        """Registries within the limit are opened once, and so is a larger constant one within a statement."""
+        texts = [registry(number) for number in range(4)]
+        first = [self.spent(IS_BYTE.format("?"), text) for text in texts]
+        again = [self.spent(IS_BYTE.format("?"), text) for text in texts * 5]
+        print(f"hostile: opening took {min(first) * 1000:.1f} ms, and a call later {max(again) * 1000:.1f}")
+        self.assertLess(sorted(again)[10], min(first) / 4)
+        self.assertLess(self.kept(), BOUND)
+        self.lower()
+        once = self.spent(IS_BYTE.format("?"), registry(0))
+        calls = "sum(bcs_is(?, '\"U16\"', cast(n as blob))) from small where n < 100"
+        self.assertLess(self.spent(calls, registry(1)), 4 * once)
+        self.assertLess(self.kept(), 100_000)
+
+    def test_statement(self) -> None:
+        """A larger one is open as long as the statement, and only one of them is at a time."""
+        self.lower()
+        texts = [registry(number) for number in range(4)]
+        one = 6_500_000
+        taken(is_reset=True)
+        calls = ", ".join([IS_BYTE.format("?")] * 4)
+        self.assertEqual(self.database.execute(f"select {calls} from small limit 3", texts).fetchall(), [(1,) * 4] * 3)
+        self.assertLess(taken() - self.before, 2 * one)
+        self.assertLess(self.kept(), 100_000)
+        cursor = self.database.execute(f"select n, {IS_BYTE.format('?')} from small", texts[:1])
+        self.assertEqual(cursor.fetchone(), (0, 1))
+        self.assertGreater(self.kept(), 4_000_000)
+        other = self.database.execute(f"select n, {IS_BYTE.format('?')} from small", texts[1:2])
+        self.assertEqual([cursor.fetchone(), other.fetchone(), cursor.fetchone()], [(1, 1), (0, 1), (2, 1)])
+        self.assertLess(self.kept(), 2 * one)
+        cursor.close()
+        other.close()
+        self.assertLess(self.kept(), 100_000)
+
+    def test_column(self) -> None:
+        """Each row can have another one."""
+        self.lower()
+        self.database.execute("create table registries (registry)")
+        self.database.executemany("insert into registries values (?)", [[registry(n % 2)] for n in range(4)])
+        self.before = used()
+        self.assertEqual(self.value(f"sum({IS_BYTE.format('registry')}) from registries"), 4)
+        self.assertLess(self.kept(), 1_500_000)  # SQLite's cache of pages
+
+    def test_errors(self) -> None:
+        """After an error in the statement, in the call, and after an interruption."""
+        self.lower()
+        failing = [
+            "abs(-9223372036854775807 - bcs_is(?, '\"U8\"', x'07'))",
+            "bcs_scan(?, '\"U16\"', x'07')",
+            "bcs_scan(?, '\"U15\"', x'07')",
+            "bcs_is(?, 'nobody', x'07')",
+            "bcs_explain(?, '\"U8\"', x'07', 'xml')",
+        ]
+        for statement in failing:
+            with self.assertRaises((sqlite3.OperationalError, sqlite3.IntegrityError)):
+                self.value(statement, registry(0))
+            self.assertLess(self.kept(), 100_000)
+        self.database.set_progress_handler(lambda: 1, 2000)
+        with self.assertRaisesRegex(sqlite3.OperationalError, "interrupted"):
+            self.value("sum(bcs_is(?, '\"U8\"', cast(n as blob))) from small", registry(0))
+        self.database.set_progress_handler(None, 0)
+        self.assertLess(self.kept(), 100_000)
+
+    def test_format(self) -> None:
+        """A handle caches the last format, which counts as well."""
+        self.lower()
+        for count, is_kept in (50_000, True), (500_000, False):
+            format = '{"TUPLE":[%s]}' % ",".join(['"U8"'] * count)
+            self.assertEqual(self.value("bcs_is('{}', ?, x'')", format), 0)
+            self.assertEqual(self.kept() > 100_000, is_kept)
+
+    def test_setting(self) -> None:
+        self.assertEqual(self.value("bcs_registry_cache()"), BOUND)
+        for number in range(8):
+            self.assertEqual(self.value("bcs_registry_cache(100000000)"), 100000000)
+            self.assertEqual(self.value(IS_BYTE.format("?"), registry(number)), 1)
+        self.assertGreater(self.kept(), BOUND)
+        self.assertEqual(self.value("bcs_registry_cache(20000000)"), 20000000)
+        self.assertLess(self.kept(), 20000000)
+        self.assertEqual(self.value("bcs_registry_cache(0)"), 0)
+        self.assertEqual(self.value(IS_BYTE.format("'{}'")), 1)
+        self.assertLess(self.kept(), 100_000)
+        for wrong in "-1", "1.0", "'7'", "null", "x'07'":
+            with self.assertRaisesRegex(
+                sqlite3.OperationalError, "bcs: the bytes of a cache are an INTEGER, at least 0"
+            ):
+                self.value(f"bcs_registry_cache({wrong})")
+        self.assertEqual(self.value("bcs_registry_cache()"), 0)
+        for call in "bcs_registry_cache()", "bcs_registry_cache(1000000000)":
+            self.database.execute(f"create view v as select {call}")
+            with self.assertRaisesRegex(sqlite3.OperationalError, r"unsafe use of bcs_registry_cache\(\)"):
+                self.database.execute("select * from v")
+            self.database.execute("drop view v")
 
 
 class Faults(unittest.TestCase):

@@ -1,11 +1,11 @@
 """Changes of a value's bytes after which they should be refused, each by one rule alone: a decoder that lacks the rule
-accepts all of the bytes."""
+accepts all of the bytes. And pairs of keys that differ in one byte, in order and swapped."""
 
 from __future__ import annotations
 
-from typing import Iterator, NamedTuple
+from typing import Iterator, NamedTuple, Optional
 
-from .tables import BAD_UTF8, MAX_LENGTH
+from .tables import BAD_UTF8, BEHIND_WORDS, MAX_LENGTH
 from .trees import Candidate, Piece, uleb
 
 Key = tuple[object, ...]
@@ -13,10 +13,10 @@ Key = tuple[object, ...]
 
 class Change(NamedTuple):
     """The bytes from `start` to `end` become others. One change for each key is enough, if it is refused for the reason
-    that is meant."""
+    that is meant. Without a reason the bytes are still a value."""
 
     key: Key
-    reason: str
+    reason: Optional[str]
     start: int
     end: int
     new: bytes
@@ -148,3 +148,22 @@ def _of_map(data: bytes, piece: Piece) -> Iterator[Change]:
     if len(keys) >= 3:
         yield with_key("first key again", "KeyOrder", 2, 0)
         yield with_key("last key again", "KeyRepeated", 2, 1)
+    yield from _of_keys(piece, keys, entries)
+
+
+def _of_keys(piece: Piece, keys: list[bytes], entries: list[bytes]) -> Iterator[Change]:
+    """Two entries in place of all, whose keys differ in one byte. A decoder that compares less of them rejects them in
+    order, or accepts them swapped."""
+    format, start, end = piece.shape.parts[0].format, piece.start, piece.marks[-1]
+    longest = max(keys, key=lambda key: (len(key), key), default=b"")
+    last = len(longest) - 1
+    # (an empty list or string has only its length)
+    for place in [*(place for place in BEHIND_WORDS if place < last), last] if longest.strip(b"\0") else []:
+        key = longest if place == last else min((key for key in keys if len(key) > place + 1), key=len)
+        rest = key[place + 1 :] + entries[keys.index(key)][len(key) :]
+        name = ("keys", format, "last" if place == last else place)
+        # (with another bit the byte may be none that a key can have there)
+        for bit in (1, 2):
+            low, high = (key[:place] + bytes([byte]) + rest for byte in (key[place] & ~bit, key[place] | bit))
+            yield Change(name, None, start, end, uleb(2) + low + high)
+            yield Change((*name, "swapped"), "KeyOrder", start, end, uleb(2) + high + low)

@@ -7,7 +7,7 @@ from typing import Callable, Iterator
 
 from .scalars import Scalars
 from .shapes import Shape
-from .tables import WIDTHS, range_of
+from .tables import BEHIND_WORDS, WIDTHS, range_of
 from .trees import Candidate, Data, Tree
 
 # Makes a value that opens at most so many containers.
@@ -77,11 +77,23 @@ class Maps:
         else:
             special = {"STR": _STRINGS, "BYTES": _BYTES}.get(base.kind, [])
         wrapped = [_wrapped(shape, base, data) for data in special] if count > 1 else []
-        longer = self._longer_but_lower(shape, room) if count in (2, 7) and not wrapped else []
-        return chain(longer, wrapped, self._keys(shape, room, small=8))
+        if count in (2, 7) and not wrapped:
+            wrapped = self._longer_but_lower(shape, room)
+        elif count == 3 and not wrapped:
+            wrapped = self._long_key(shape, room)
+        return chain(wrapped, self._keys(shape, room, small=8))
+
+    def _pool(self, shape: Shape, room: int) -> dict[bytes, Tree]:
+        return {Candidate(key).data: key for key in (self._any(shape, room) for _ in range(_MOST_TRIES))}
 
     def _longer_but_lower(self, shape: Shape, room: int) -> list[Tree]:
         """Two keys of which the longer one has the lower bytes, if there are such keys."""
-        pool = {Candidate(key).data: key for key in (self._any(shape, room) for _ in range(_MOST_TRIES))}
+        pool = self._pool(shape, room)
         pairs = [(len(one) + len(two), one, two) for one in pool for two in pool if len(one) > len(two) and one < two]
         return [pool[data] for data in min(pairs)[1:]] if pairs else []
+
+    def _long_key(self, shape: Shape, room: int) -> list[Tree]:
+        """A key that is longer than what a decoder may compare at once, if there is one."""
+        pool = self._pool(shape, room)
+        long = [data for data in pool if len(data) > BEHIND_WORDS[-1] + 1]
+        return [pool[min(long, key=len)]] if long else []

@@ -41,6 +41,13 @@ class Shape:
             return self.parts if all(part.is_possible for part in self.parts) else []
         return [] if self.kind == "TUPLEARRAY" and not self.size else [part for part in self.parts if part.is_possible]
 
+    @property
+    def format(self) -> object:
+        """Equal for two places with the same format."""
+        if self.kind == "TYPENAME":
+            return (self.kind, *self.names)
+        return (self.kind, self.size, *(part.format for part in self.parts))
+
 
 def only(thing: Mapping[str, Any]) -> tuple[str, Any]:
     (member,) = thing.items()

@@ -17,6 +17,8 @@ LENGTHS = {
     "SEQ of containers": (501,),
     "MAP": (127, 128, 300),
 }
+# Where two keys of a map differ, besides in their last byte: right behind what a decoder may compare at once.
+BEHIND_WORDS = (8, 16, 24, 32)
 MAX_LENGTH = (1 << 31) - 1
 MAX_CONTAINERS = 500
 

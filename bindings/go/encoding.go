@@ -1,0 +1,404 @@
+package bcsproved
+
+import (
+	"encoding/hex"
+	"math/big"
+	"reflect"
+	"strconv"
+	"strings"
+	"unicode/utf8"
+)
+
+// writer writes a value as the JSON document that the proved call reads.
+type writer struct {
+	codec *codec
+	out   []byte
+	depth int
+	nodes uint32 // that are left
+}
+
+// encoder writes values of one Go type as a format. Encoders of types that contain themselves form cycles.
+type encoder struct {
+	run func(w *writer, v reflect.Value) error
+}
+
+const (
+	// mostDepth ends cycles of pointers. No value has more levels: 100 of JSON, and 500 of newtypes.
+	mostDepth = 600
+	// mostJSON ends values that are huge because pointers share them.
+	mostJSON = 1 << 30
+)
+
+// encode writes a value as a format, within the limits.
+func (e *encoder) encode(n *node, w *writer, v reflect.Value) error {
+	if w.depth++; w.depth > mostDepth {
+		return n.reject("nests too deep: is there a cycle of pointers in %s?", v.Type())
+	}
+	if w.nodes == 0 {
+		return n.reject("has more nodes than the limits allow")
+	}
+	if len(w.out) > mostJSON {
+		return n.reject("would be more than 1 GiB of JSON")
+	}
+	w.nodes--
+	err := e.run(w, v)
+	w.depth--
+	return err
+}
+
+// dynamic writes what an interface holds. A typed nil inside a value is rejected; as the whole value it is its type's.
+func (w *writer) dynamic(n *node, v reflect.Value, isWhole bool) error {
+	if !v.IsValid() {
+		if kind := n.content().kind; kind == kindOption || kind == kindUnit {
+			w.out = append(w.out, "null"...)
+			return nil
+		}
+		return n.mismatch(nil)
+	}
+	if v.Kind() == reflect.Pointer && v.IsNil() && !isWhole {
+		return n.reject("takes no nil of type %s inside an interface", v.Type())
+	}
+	e, err := w.codec.encoder(n, v.Type())
+	if err != nil {
+		return err
+	}
+	return e.encode(n, w, v)
+}
+
+// encoder returns the encoder for a format and a Go type. They are made once.
+func (c *codec) encoder(n *node, t reflect.Type) (*encoder, error) {
+	c.lock.Lock()
+	defer c.lock.Unlock()
+	if found, isKnown := c.encoders[pair{n, t}]; isKnown {
+		return found.encoder, found.err
+	}
+	made := encoders{}
+	e, err := made.encoder(n, t)
+	if err != nil {
+		c.encoders[pair{n, t}] = encoderOrError{nil, err}
+		return nil, err
+	}
+	for key, e := range made {
+		c.encoders[key] = encoderOrError{e, nil}
+	}
+	return e, nil
+}
+
+// encoders are those that are being made together.
+type encoders map[pair]*encoder
+
+func (made encoders) encoder(n *node, t reflect.Type) (*encoder, error) {
+	if e, isMade := made[pair{n, t}]; isMade {
+		return e, nil
+	}
+	e := &encoder{}
+	made[pair{n, t}] = e
+	var err error
+	e.run, err = made.runOf(n, t)
+	return e, err
+}
+
+type encode = func(w *writer, v reflect.Value) error
+
+// runOf returns how values of a Go type are written as a format.
+func (made encoders) runOf(n *node, t reflect.Type) (encode, error) {
+	if err := n.rejectNoValue(t); err != nil {
+		return nil, err
+	}
+	switch {
+	case t == typeAny:
+		return func(w *writer, v reflect.Value) error { return w.dynamic(n, v.Elem(), false) }, nil
+	case n.kind == kindNewtype:
+		return made.follow(n.parts[0], t)
+	case n.kind == kindOption:
+		return made.option(n, t)
+	case t.Kind() == reflect.Pointer:
+		return made.pointer(n, t)
+	}
+	switch n.kind {
+	case kindByteString, kindAddress:
+		return made.bytes(n, t)
+	case kindList:
+		return made.list(n, t)
+	case kindTuple:
+		return made.tuple(n, t)
+	case kindMap:
+		return made.dictionary(n, t)
+	case kindStruct:
+		return made.structure(n, t)
+	case kindEnum:
+		return made.enum(n, t)
+	}
+	return scalar(n, t)
+}
+
+// scalar is runOf for formats without parts.
+func scalar(n *node, t reflect.Type) (encode, error) {
+	switch {
+	case n.kind == kindUnit && t == typeUnit:
+		return func(w *writer, v reflect.Value) error { w.out = append(w.out, "null"...); return nil }, nil
+	case n.kind == kindBool && t.Kind() == reflect.Bool:
+		return func(w *writer, v reflect.Value) error { w.out = strconv.AppendBool(w.out, v.Bool()); return nil }, nil
+	case (n.kind == kindInteger || n.kind == kindBigInteger) && (isInteger(t) || t == typeBig):
+		return func(w *writer, v reflect.Value) error { return w.integer(n, v) }, nil
+	case n.kind == kindString && t.Kind() == reflect.String && t != typeHex:
+		return func(w *writer, v reflect.Value) error {
+			if !utf8.ValidString(v.String()) {
+				return n.reject("takes UTF-8, not this %s", t)
+			}
+			w.text(v.String())
+			return nil
+		}, nil
+	}
+	return nil, n.mismatch(t)
+}
+
+// follow writes the content of a newtype.
+func (made encoders) follow(content *node, t reflect.Type) (encode, error) {
+	e, err := made.encoder(content, t)
+	if err != nil {
+		return nil, err
+	}
+	return func(w *writer, v reflect.Value) error { return e.encode(content, w, v) }, nil
+}
+
+func (made encoders) option(n *node, t reflect.Type) (encode, error) {
+	var content reflect.Type
+	switch {
+	case t == typeSome:
+		content = typeAny
+	case t.Kind() == reflect.Pointer:
+		content = t.Elem()
+	default:
+		return nil, n.mismatch(t)
+	}
+	e, err := made.encoder(n.parts[0], content)
+	if err != nil {
+		return nil, under(err, "some")
+	}
+	return func(w *writer, v reflect.Value) error {
+		switch {
+		case t == typeSome:
+			v = v.Field(0)
+		case v.IsNil():
+			w.out = append(w.out, "null"...)
+			return nil
+		default:
+			v = v.Elem()
+		}
+		w.out = append(w.out, `{"some":`...)
+		err := e.encode(n.parts[0], w, v)
+		w.out = append(w.out, '}')
+		return under(err, "some")
+	}, nil
+}
+
+// pointer writes what a pointer leads to, where no option is.
+func (made encoders) pointer(n *node, t reflect.Type) (encode, error) {
+	if t.Elem().Kind() == reflect.Pointer {
+		return nil, n.mismatch(t)
+	}
+	e, err := made.encoder(n, t.Elem())
+	if err != nil {
+		return nil, err
+	}
+	return func(w *writer, v reflect.Value) error {
+		if v.IsNil() {
+			return n.reject("takes no nil of type %s", t)
+		}
+		return e.run(w, v.Elem())
+	}, nil
+}
+
+// integer writes an integer of any Go type. Its value must be in the format's range.
+func (w *writer) integer(n *node, v reflect.Value) error {
+	if n.kind == kindInteger && n.bits <= 64 && v.CanInt() && isInRange(v.Int(), n.bits, n.signed) {
+		w.out = strconv.AppendInt(w.out, v.Int(), 10)
+		return nil
+	}
+	x := bigOf(v)
+	magnitude, bits := x, n.bits
+	if n.signed {
+		bits--
+		if x.Sign() < 0 {
+			magnitude = new(big.Int).Not(x)
+		}
+	}
+	if x.Sign() < 0 && !n.signed || magnitude.BitLen() > bits {
+		return n.reject("doesn't hold %s", shortened(x))
+	}
+	if n.kind == kindBigInteger {
+		w.hex(littleEndian(x))
+		return nil
+	}
+	w.out = append(append(append(w.out, '"'), x.String()...), '"')
+	return nil
+}
+
+func isInRange(x int64, bits int, signed bool) bool {
+	if signed {
+		return x>>uint(bits-1) == x>>63
+	}
+	return x >= 0 && (bits == 64 || x>>uint(bits) == 0)
+}
+
+func bigOf(v reflect.Value) *big.Int {
+	switch {
+	case v.CanInt():
+		return big.NewInt(v.Int())
+	case v.CanUint():
+		return new(big.Int).SetUint64(v.Uint())
+	}
+	x := v.Interface().(big.Int)
+	return &x
+}
+
+// shortened returns a number's digits, or how many bits it has: an error may not cost more than the value.
+func shortened(x *big.Int) string {
+	if x.BitLen() > 512 {
+		return "a number of " + strconv.Itoa(x.BitLen()) + " bits"
+	}
+	return x.String()
+}
+
+// littleEndian returns the 32 bytes of an integer, in two's complement.
+func littleEndian(x *big.Int) []byte {
+	if x.Sign() < 0 {
+		x = new(big.Int).Add(x, new(big.Int).Lsh(big.NewInt(1), 8*addressLength))
+	}
+	data := x.FillBytes(make([]byte, addressLength))
+	reverse(data)
+	return data
+}
+
+func reverse(data []byte) {
+	for i, j := 0, len(data)-1; i < j; i, j = i+1, j-1 {
+		data[i], data[j] = data[j], data[i]
+	}
+}
+
+const hexDigits = "0123456789abcdef"
+
+func (w *writer) hex(data []byte) {
+	w.out = append(w.out, '"')
+	for _, b := range data {
+		w.out = append(w.out, hexDigits[b>>4], hexDigits[b&15])
+	}
+	w.out = append(w.out, '"')
+}
+
+func (w *writer) text(s string) {
+	w.out = append(w.out, '"')
+	for i := 0; i < len(s); i++ {
+		switch c := s[i]; {
+		case c == '"' || c == '\\':
+			w.out = append(w.out, '\\', c)
+		case c < 0x20:
+			w.out = append(w.out, `\u00`...)
+			w.out = append(w.out, hexDigits[c>>4], hexDigits[c&15])
+		default:
+			w.out = append(w.out, c)
+		}
+	}
+	w.out = append(w.out, '"')
+}
+
+// byteNode is the format of a byte that is given as an integer.
+var byteNode = &node{kind: kindInteger, text: "U8", bits: 8}
+
+// bytes is runOf for byte strings and addresses. A string is never bytes.
+func (made encoders) bytes(n *node, t reflect.Type) (encode, error) {
+	switch {
+	case t == typeHex:
+		return func(w *writer, v reflect.Value) error {
+			data, err := hex.DecodeString(v.String())
+			if err != nil {
+				return n.reject("takes two hexadecimal digits for each byte: %v", err)
+			}
+			return w.byteString(n, data)
+		}, nil
+	case n.kind == kindAddress && t.Kind() == reflect.String:
+		return func(w *writer, v reflect.Value) error {
+			data, err := addressOf(v.String())
+			if err != nil {
+				return n.reject("%s", err)
+			}
+			return w.byteString(n, data)
+		}, nil
+	case isBytes(t):
+		return func(w *writer, v reflect.Value) error { return w.byteString(n, bytesOf(v)) }, nil
+	case n.kind == kindByteString && isSequence(t):
+		return made.integers(n, t)
+	}
+	return nil, n.mismatch(t)
+}
+
+// integers writes a list of integers as a byte string.
+func (made encoders) integers(n *node, t reflect.Type) (encode, error) {
+	if t.Elem() != typeAny && !isInteger(t.Elem()) && t.Elem() != typeBig && t.Elem() != reflect.PointerTo(typeBig) {
+		return nil, under(byteNode.mismatch(t.Elem()), "-")
+	}
+	return func(w *writer, v reflect.Value) error {
+		data := make([]byte, v.Len())
+		for i := range data {
+			var err error
+			if data[i], err = byteOf(v.Index(i)); err != nil {
+				return under(err, i)
+			}
+		}
+		return w.byteString(n, data)
+	}, nil
+}
+
+func byteOf(v reflect.Value) (byte, error) {
+	for v.Kind() == reflect.Interface || v.Kind() == reflect.Pointer {
+		v = v.Elem()
+	}
+	if !v.IsValid() {
+		return 0, byteNode.mismatch(nil)
+	}
+	if !isInteger(v.Type()) && v.Type() != typeBig {
+		return 0, byteNode.mismatch(v.Type())
+	}
+	x := bigOf(v)
+	if x.Sign() < 0 || x.BitLen() > 8 {
+		return 0, byteNode.reject("doesn't hold %s", shortened(x))
+	}
+	return byte(x.Uint64()), nil
+}
+
+func bytesOf(v reflect.Value) []byte {
+	if v.Kind() == reflect.Array && !v.CanAddr() {
+		room := reflect.New(v.Type()).Elem()
+		room.Set(v)
+		v = room
+	}
+	return v.Bytes()
+}
+
+func (w *writer) byteString(n *node, data []byte) error {
+	if n.length >= 0 && int64(len(data)) != n.length {
+		return n.reject("has %d bytes, not %d", n.length, len(data))
+	}
+	w.hex(data)
+	return nil
+}
+
+type addressError string
+
+func (e addressError) Error() string { return string(e) }
+
+// addressOf reads an address: 0x and 1 to 64 hexadecimal digits.
+func addressOf(s string) ([]byte, error) {
+	digits := strings.TrimPrefix(s, "0x")
+	if digits != s && len(digits) > 0 && len(digits) <= 2*addressLength {
+		padded := strings.Repeat("0", 2*addressLength-len(digits)) + digits
+		if data, err := hex.DecodeString(padded); err == nil {
+			return data, nil
+		}
+	}
+	if len(s) > 80 {
+		return nil, addressError("takes 0x and 1 to 64 hexadecimal digits")
+	}
+	return nil, addressError("takes 0x and 1 to 64 hexadecimal digits, not " + strconv.Quote(s))
+}

@@ -1,0 +1,261 @@
+package bcsproved
+
+import (
+	"errors"
+	"fmt"
+	"reflect"
+	"strings"
+	"sync"
+)
+
+// Hex is a byte string as hexadecimal digits of either case, without 0x.
+type Hex string
+
+// Variant is a value of an enum. The value of a unit variant is nil or struct{}{}.
+type Variant struct {
+	Name  string
+	Value any
+}
+
+// Entry is an entry of a map. Any struct with just the fields Key and Value, in this order, is one too.
+type Entry struct{ Key, Value any }
+
+// Some is an option that holds a value, as Decode returns it; nil is one that doesn't. Encode also takes pointers.
+type Some struct{ Value any }
+
+// Names are containers whose values have a Go form of their own: newtypes of 32 bytes that are addresses ("0x…") or
+// little-endian integers. A list that is nil is the default: "address", "u256" and "i256", as `bcs from-move` writes them.
+type Names struct{ Addresses, U256, I256 []string }
+
+var defaultNames = Names{[]string{"address"}, []string{"u256"}, []string{"i256"}}
+
+func isDefaultName(name string) bool { return name == "address" || name == "u256" || name == "i256" }
+
+func (names Names) orDefault() Names {
+	for _, list := range []struct {
+		own      *[]string
+		standard []string
+	}{{&names.Addresses, defaultNames.Addresses}, {&names.U256, defaultNames.U256}, {&names.I256, defaultNames.I256}} {
+		if *list.own == nil {
+			*list.own = list.standard
+		}
+	}
+	return names
+}
+
+// Encode returns the bytes of a Go value. The README has a table of the types that each format takes. A value of another type
+// is an *Error of KindValue, or KindType if no value of that type can be one of the format.
+func (r *Registry) Encode(format string, value any) ([]byte, error) {
+	text, err := r.toJSON(format, value)
+	if err != nil {
+		return nil, err
+	}
+	return r.EncodeJSON(format, text)
+}
+
+// Decode returns the Go value that the whole of data encodes. The README has the type for each format.
+func (r *Registry) Decode(format string, data []byte) (any, error) {
+	var value any
+	err := r.Unmarshal(format, data, &value)
+	return value, err
+}
+
+// DecodePrefix returns the Go value at the beginning of data, and how many bytes it has. What follows isn't read.
+func (r *Registry) DecodePrefix(format string, data []byte) (any, int, error) {
+	length, limited, err := r.prefix(format, data)
+	if err != nil {
+		return nil, 0, err
+	}
+	value, err := limited.Decode(format, data[:length])
+	return value, length, err
+}
+
+// Unmarshal stores the value that the whole of data encodes in the variable that the pointer leads to. A type that can't hold
+// every value of the format's numbers is rejected before the bytes are read. On an error the variable stays as it was.
+func (r *Registry) Unmarshal(format string, data []byte, pointer any) error {
+	variable := reflect.ValueOf(pointer)
+	if variable.Kind() != reflect.Pointer || variable.IsNil() {
+		return errors.New("bcs: Unmarshal takes a pointer that isn't nil")
+	}
+	codec, n, err := r.root(format)
+	if err != nil {
+		return err
+	}
+	decode, err := codec.decoder(n, variable.Type().Elem())
+	if err != nil {
+		return err
+	}
+	text, err := r.DecodeJSON(format, data)
+	if err != nil {
+		return err
+	}
+	room := reflect.New(variable.Type().Elem()).Elem()
+	if err := decode.whole(&reader{text: text}, room); err != nil {
+		return err
+	}
+	variable.Elem().Set(room)
+	return nil
+}
+
+// CheckType returns an error unless values of the type of `value` can be passed to Encode, and to Unmarshal by a pointer. Call
+// it when your program starts.
+func (r *Registry) CheckType(format string, value any) error {
+	codec, n, err := r.root(format)
+	if err != nil {
+		return err
+	}
+	t := reflect.TypeOf(value)
+	if t == nil {
+		return n.mismatch(nil)
+	}
+	if _, err := codec.encoder(n, t); err != nil {
+		return err
+	}
+	_, err = codec.decoder(n, t)
+	return err
+}
+
+// toJSON returns the JSON document of a value, which the proved call reads.
+func (r *Registry) toJSON(format string, value any) ([]byte, error) {
+	codec, n, err := r.root(format)
+	if err != nil {
+		return nil, err
+	}
+	w := &writer{codec: codec, out: make([]byte, 0, 512), nodes: StandardLimits().Nodes}
+	if r.limits != nil {
+		w.nodes = r.limits.Nodes
+	}
+	if err := w.dynamic(n, reflect.ValueOf(value), true); err != nil {
+		return nil, asValue(err)
+	}
+	return w.out, nil
+}
+
+// asValue returns the error of Encode, which rejects a value even where its type is to blame.
+func asValue(err error) error {
+	if rejected, is := err.(*Error); is && rejected.Kind == KindType {
+		moved := *rejected
+		moved.Kind = KindValue
+		return &moved
+	}
+	return err
+}
+
+// mostFormats bounds how many formats a registry remembers, since they may come from strangers.
+const mostFormats = 1000
+
+// codec has the formats of a registry, and the converters that were made for pairs of a format and a Go type.
+type codec struct {
+	containers containers
+	lock       sync.Mutex
+	roots      map[string]*node
+	encoders   map[pair]encoderOrError
+	decoders   map[pair]decoderOrError
+}
+
+type pair struct {
+	n *node
+	t reflect.Type
+}
+
+type encoderOrError struct {
+	encoder *encoder
+	err     error
+}
+
+type decoderOrError struct {
+	decoder *decoder
+	err     error
+}
+
+func (c *codec) forget() {
+	c.roots, c.encoders, c.decoders = map[string]*node{}, map[pair]encoderOrError{}, map[pair]decoderOrError{}
+}
+
+// codecOf reads the registry's formats when the first value is encoded or decoded.
+func (r *Registry) codecOf() (*codec, error) {
+	shared := r.shared
+	shared.valuesLock.Lock()
+	defer shared.valuesLock.Unlock()
+	if shared.codec != nil {
+		return shared.codec, nil
+	}
+	shown, err := r.Show("", FormJSON)
+	if err != nil {
+		return nil, err
+	}
+	all, err := readContainers(shown, shared.names)
+	if err != nil {
+		return nil, err
+	}
+	shared.codec = &codec{containers: all}
+	shared.codec.forget()
+	return shared.codec, nil
+}
+
+// root returns the node of a format.
+func (r *Registry) root(format string) (*codec, *node, error) {
+	c, err := r.codecOf()
+	if err != nil {
+		return nil, nil, err
+	}
+	c.lock.Lock()
+	n := c.roots[format]
+	c.lock.Unlock()
+	if n != nil {
+		return c, n, nil
+	}
+	if err := r.Check(format); err != nil {
+		return nil, nil, err
+	}
+	n = c.containers[format]
+	if strings.HasPrefix(format, "{") || strings.HasPrefix(format, `"`) {
+		parsed, err := parse(format)
+		if err != nil {
+			return nil, nil, err
+		}
+		n = c.containers.format(parsed)
+	}
+	c.lock.Lock()
+	defer c.lock.Unlock()
+	if len(c.roots) >= mostFormats {
+		c.forget()
+	}
+	if known := c.roots[format]; known != nil {
+		return c, known, nil
+	}
+	c.roots[format] = n
+	return c, n, nil
+}
+
+// reject returns the error for a type or a value that can't stand for the format.
+func (n *node) reject(problem string, arguments ...any) *Error {
+	return &Error{Kind: KindType, Reason: wrongType, Place: -1, Message: n.text + " " + fmt.Sprintf(problem, arguments...)}
+}
+
+// mismatch returns the error for another type than those that the format takes.
+func (n *node) mismatch(t reflect.Type) *Error {
+	found := "nil"
+	if t != nil {
+		found = t.String()
+	}
+	if n.content().kind == kindNone {
+		return n.reject("has no values, not %s", found)
+	}
+	return n.reject("takes %s, not %s", n.takes(), found)
+}
+
+// wrongType is the reason of errors of KindValue and KindType.
+const wrongType = "WrongType"
+
+var escapeStep = strings.NewReplacer("~", "~0", "/", "~1")
+
+// under puts a step before the JSON Pointer of an error. "-" is each element of a list.
+func under(err error, step any) error {
+	if rejected, is := err.(*Error); is && rejected != nil {
+		moved := *rejected
+		moved.At = "/" + escapeStep.Replace(fmt.Sprint(step)) + rejected.At
+		return &moved
+	}
+	return err
+}

@@ -1,0 +1,388 @@
+package bcsproved
+
+import (
+	"encoding/hex"
+	"encoding/json"
+	"errors"
+	"fmt"
+	"math/big"
+	"net/netip"
+	"reflect"
+	"strings"
+	"testing"
+	"time"
+)
+
+const valueShapes = `{"P":{"STRUCT":[{"to":"STR"},{"amount":"U64"}]},"N":{"NEWTYPESTRUCT":"U8"},"S":"UNITSTRUCT",
+"E":{"ENUM":{"0":{"Dot":"UNIT"},"1":{"Num":{"NEWTYPE":"U64"}},"2":{"Pair":{"TUPLE":["U8","U8"]}},"3":{"Named":{"STRUCT":[{"r":"U8"}]}}}},
+"address":{"NEWTYPESTRUCT":{"TUPLEARRAY":{"CONTENT":"U8","SIZE":32}}},"u256":{"NEWTYPESTRUCT":{"TUPLEARRAY":{"CONTENT":"U8","SIZE":32}}},
+"i256":{"NEWTYPESTRUCT":{"TUPLEARRAY":{"CONTENT":"U8","SIZE":32}}},
+"L":{"STRUCT":[{"head":"U8"},{"next":{"OPTION":{"TYPENAME":"L"}}}]},"C":{"NEWTYPESTRUCT":{"TYPENAME":"C"}},
+"Tree":{"ENUM":{"0":{"Leaf":"UNIT"},"1":{"Fork":{"TUPLE":[{"TYPENAME":"Tree"},{"TYPENAME":"Tree"}]}},"2":{"Odd":{"NEWTYPE":"F32"}}}}}`
+
+// formatsOfTable are formats by short names.
+var formatsOfTable = map[string]string{"seqU8": `{"SEQ":"U8"}`, "arr4U8": `{"TUPLEARRAY":{"CONTENT":"U8","SIZE":4}}`, "seqU16": `{"SEQ":"U16"}`,
+	"arr2U16": `{"TUPLEARRAY":{"CONTENT":"U16","SIZE":2}}`, "optU8": `{"OPTION":"U8"}`, "optopt": `{"OPTION":{"OPTION":"BOOL"}}`,
+	"map": `{"MAP":{"KEY":"STR","VALUE":"U8"}}`, "tup": `{"TUPLE":["U8","STR"]}`, "tup0": `{"TUPLE":[]}`, "seqN": `{"SEQ":{"TYPENAME":"N"}}`,
+	"P": "P", "N": "N", "S": "S", "E": "E", "address": "address", "u256": "u256", "i256": "i256", "U8": `"U8"`, "U16": `"U16"`, "U32": `"U32"`,
+	"U64": `"U64"`, "U128": `"U128"`, "I8": `"I8"`, "I16": `"I16"`, "I32": `"I32"`, "I64": `"I64"`, "I128": `"I128"`, "BOOL": `"BOOL"`,
+	"UNIT": `"UNIT"`, "STR": `"STR"`, "BYTES": `"BYTES"`}
+
+type (
+	pay struct {
+		To     string
+		Amount uint64
+	}
+	tagged struct {
+		Whom string `bcs:"to"`
+		N    int32  `bcs:"amount"`
+	}
+	hidden struct {
+		To     string
+		amount uint64
+	}
+	embeds struct{ pay }
+	fewer  struct{ To string }
+	more   struct {
+		To     string
+		Amount uint64
+		Memo   string
+	}
+	tuple struct {
+		A uint8  `bcs:"0"`
+		B string `bcs:"1"`
+	}
+	untagged struct {
+		A uint8
+		B string
+	}
+	either struct {
+		Dot *struct{}
+		Num *uint64
+	}
+	Amount uint64
+	named  struct {
+		To string
+		Amount
+	}
+	myByte byte
+	myStr  string
+	level  int
+	entry  struct {
+		Key   string
+		Value uint8
+	}
+)
+
+// MarshalText makes `level` a type that isn't just an integer.
+func (l level) MarshalText() ([]byte, error) { return []byte{byte('a' + l)}, nil }
+
+func ptr[T any](v T) *T { return &v }
+
+func number(text string) string {
+	x, _ := new(big.Int).SetString(text, 10)
+	var out []string
+	for name, bits := range map[string]int{"U8": 8, "U16": 16, "U32": 32, "U64": 64, "U128": 128, "N": 8, "u256": 256, "I8": -8, "I16": -16,
+		"I32": -32, "I64": -64, "I128": -128, "i256": -256} {
+		low, high := new(big.Int), new(big.Int)
+		if bits > 0 {
+			high.Lsh(big.NewInt(1), uint(bits))
+		} else {
+			bits = -bits
+			high.Lsh(big.NewInt(1), uint(bits-1))
+			low.Neg(high)
+		}
+		if x.Cmp(low) < 0 || x.Cmp(high) >= 0 {
+			continue
+		}
+		out = append(out, name+"="+little(x, bits/8))
+	}
+	return strings.Join(out, " ")
+}
+
+func little(x *big.Int, size int) string {
+	wrapped := new(big.Int).And(x, new(big.Int).Sub(new(big.Int).Lsh(big.NewInt(1), uint(8*size)), big.NewInt(1)))
+	data := wrapped.FillBytes(make([]byte, size))
+	for i, j := 0, size-1; i < j; i, j = i+1, j-1 {
+		data[i], data[j] = data[j], data[i]
+	}
+	return hex.EncodeToString(data)
+}
+
+var ones = strings.Repeat("11", 32)
+
+// valuesOfTable says where each value is taken, and as which bytes. Everywhere else this package rejects it, and not the codec.
+var valuesOfTable = []struct {
+	value any
+	taken string
+}{
+	{0, number("0")}, {7, number("7")}, {-1, number("-1")}, {int8(-128), number("-128")}, {255, number("255")}, {256, number("256")},
+	{uint8(200), number("200")}, {uint16(65535), number("65535")}, {int32(-70000), number("-70000")}, {uint64(1<<64 - 1), number("18446744073709551615")},
+	{int64(-1 << 63), number("-9223372036854775808")}, {'a', number("97")}, {big.NewInt(5), number("5") + " optU8=0105"}, {*big.NewInt(6), number("6")},
+	{new(big.Int).Lsh(big.NewInt(1), 127), number("170141183460469231731687303715884105728")}, {new(big.Int).Lsh(big.NewInt(1), 256), ""},
+	{(*big.Int)(nil), "optU8=00"}, {7.0, ""}, {float32(1), ""}, {json.Number("7"), ""}, {uintptr(7), ""}, {complex(1, 0), ""},
+	{true, "BOOL=01"}, {false, "BOOL=00"}, {nil, "UNIT= S= optU8=00 optopt=00"}, {struct{}{}, "UNIT= S="}, {&struct{}{}, "UNIT= S="},
+	{"", "STR=00"}, {"bob", "STR=03626f62"}, {"7", "STR=0137"}, {"\xff", ""}, {"\"\\\n\x00é", "STR=06225c0a00c3a9"}, {myStr("x"), "STR=0178"},
+	{Hex("0aFF"), "BYTES=020aff seqU8=020aff"}, {Hex("0a0"), ""}, {Hex("01020304"), "BYTES=0401020304 seqU8=0401020304 arr4U8=01020304"},
+	{[]byte{}, "BYTES=00 seqU8=00 seqU16=00 seqN=00 tup0="}, {[]byte(nil), "BYTES=00 seqU8=00 seqU16=00 seqN=00 tup0="},
+	{[]byte{1, 2, 3, 4}, "BYTES=0401020304 seqU8=0401020304 arr4U8=01020304 seqU16=040100020003000400 seqN=0401020304"},
+	{[4]byte{1, 2, 3, 4}, "BYTES=0401020304 seqU8=0401020304 arr4U8=01020304 seqU16=040100020003000400 seqN=0401020304"},
+	{[]myByte{5}, "BYTES=0105 seqU8=0105 seqU16=010500 seqN=0105"}, {[]int{1, 300}, "seqU16=0201002c01 arr2U16=01002c01"}, {[]int{1, 30}, "BYTES=02011e seqU8=02011e seqU16=020100" + "1e00 arr2U16=01001e00 seqN=02011e"},
+	{[]any{1, "x"}, "tup=010178"}, {[]any{1, uint16(2)}, "BYTES=020102 seqU8=020102 seqU16=0201000200 arr2U16=01000200 seqN=020102"},
+	{json.RawMessage("7"), ""}, {ptr(uint8(3)), "optU8=0103 " + number("3")}, {(*uint8)(nil), "optU8=00"}, {Some{4}, "optU8=0104"},
+	{ptr(ptr(true)), "optopt=010101"}, {ptr((*bool)(nil)), "optopt=0100"},
+	{map[string]uint8{"b": 2, "a": 1}, "map=02016101016202"}, {map[string]any{"to": "bob", "amount": 7}, "P=03626f620700000000000000"},
+	{[]entry{{"b", 2}, {"a", 1}}, "map=02016101016202"}, {[]Entry{{"a", 1}, {"a", 2}}, "!map"}, {pay{"bob", 7}, "P=03626f620700000000000000"},
+	{&tagged{"bob", 7}, "P=03626f620700000000000000"}, {tagged{"bob", -1}, ""}, {hidden{"bob", 7}, ""}, {embeds{}, ""}, {fewer{}, ""}, {more{}, ""},
+	{tuple{1, "x"}, "tup=010178"}, {untagged{1, "x"}, ""}, {Variant{"Dot", nil}, "E=00"}, {Variant{"Num", 7}, "E=010700000000000000"},
+	{Variant{"Pair", []byte{1, 2}}, "E=020102"}, {Variant{"Named", map[string]any{"r": 9}}, "E=0309"}, {Variant{"Nope", nil}, ""}, {Variant{"Num", nil}, ""},
+	{either{Num: ptr(uint64(7))}, "E=010700000000000000"}, {either{}, ""}, {either{&struct{}{}, ptr(uint64(7))}, ""},
+	{"0x" + ones, "STR=42" + hex.EncodeToString([]byte("0x"+ones)) + " address=" + ones}, {"0x1", "STR=03307831 address=" + strings.Repeat("00", 31) + "01"}, {"0x", "STR=023078"}, {"0x" + ones + "1", "STR=43" + hex.EncodeToString([]byte("0x"+ones+"1"))},
+	{"000000", "STR=06303030303030"}, {"cafe", "STR=0463616665"}, {netip.MustParseAddr("1.2.3.4"), ""}, {level(1), ""}, {big.NewInt(-1), number("-1")},
+	{Hex(ones), "BYTES=20" + ones + " seqU8=20" + ones + " address=" + ones}, {ones, "STR=40" + hex.EncodeToString([]byte(ones))}, {named{"b", 7}, ""}, {time.Unix(0, 0), ""}, {errors.New("x"), ""}, {func() {}, ""}, {make(chan int), ""},
+	{[]float64{}, "tup0="}, {map[string]float64{}, ""},
+}
+
+func TestTableOfValues(t *testing.T) {
+	c := open(t, valueShapes)
+	taken, rejected := 0, 0
+	for _, row := range valuesOfTable {
+		want := map[string]string{}
+		for _, w := range strings.Fields(row.taken) {
+			name, bytes, _ := strings.Cut(w, "=")
+			want[name] = bytes
+		}
+		for name, format := range formatsOfTable {
+			data, err := c.Encode(format, row.value)
+			bytes, ok := want[name]
+			var refused *Error
+			errors.As(err, &refused)
+			_, proved := want["!"+name]
+			switch {
+			case ok && (err != nil || hex.EncodeToString(data) != bytes):
+				t.Errorf("%T %v at %s: %x, %v, not %s", row.value, row.value, name, data, err, bytes)
+			case proved && (refused == nil || refused.Kind != KindJSON || refused.Reason != "RepeatedKey"):
+				t.Errorf("%T %v at %s: %x, %v", row.value, row.value, name, data, err)
+			case !ok && !proved && (refused == nil || refused.Kind != KindValue || refused.Reason != "WrongType"):
+				t.Errorf("%T %v at %s: %x, %v, not refused", row.value, row.value, name, data, err)
+			}
+			if ok {
+				taken++
+			} else {
+				rejected++
+			}
+		}
+	}
+	if taken < 150 || rejected < 2500 {
+		t.Errorf("only %d cells were taken and %d refused", taken, rejected)
+	}
+}
+
+// What json.Marshal turns into other bytes without any error, and what happens here.
+func TestJSONMarshal(t *testing.T) {
+	c := open(t, valueShapes)
+	for _, row := range []struct {
+		format    string
+		value     any
+		json, now string
+	}{
+		{`"BYTES"`, []byte{0x69, 0xb7, 0x1d}, "02abcd", "0369b71d"},
+		{`{"SEQ":"U8"}`, []byte{0x69, 0xb7, 0x1d}, "02abcd", "0369b71d"},
+		{`"STR"`, []byte{0x69, 0xb7, 0x1d}, "0461626364", "refused: WrongType: STR takes a string, not []uint8"},
+		{`"STR"`, "\xff", "03efbfbd", "refused: WrongType: STR takes UTF-8, not this string"},
+		{`"U64"`, float64(9007199254740993), "0000000000002000", "refused: WrongType: U64 takes an integer, not float64"},
+		{`{"OPTION":{"SEQ":"U8"}}`, []byte(nil), "00", `refused: WrongType: {"OPTION":{"SEQ":"U8"}} takes a pointer, nil or Some, not []uint8`},
+	} {
+		text, _ := json.Marshal(row.value)
+		data, err := c.EncodeJSON(row.format, text)
+		if hex.EncodeToString(data) != row.json {
+			t.Errorf("json.Marshal at %s: %x %v", row.format, data, err)
+		}
+		data, err = c.Encode(row.format, row.value)
+		got := hex.EncodeToString(data)
+		if err != nil {
+			got = err.Error()
+		}
+		if got != row.now {
+			t.Errorf("%s: %s, not %s", row.format, got, row.now)
+		}
+	}
+}
+
+func TestErrors(t *testing.T) {
+	c := open(t, valueShapes)
+	type list struct {
+		Head uint8
+		Next *list
+	}
+	cycle := &list{}
+	cycle.Next = cycle
+	type self *self
+	var me self
+	me = &me
+	for _, row := range []struct {
+		format string
+		value  any
+		want   string
+	}{
+		{"P", map[string]any{"to": "b", "amount": []byte{7}}, "refused: WrongType at /amount: U64 takes an integer, not []uint8"},
+		{`{"SEQ":"P"}`, nil, "BadShape"},
+		{`{"SEQ":{"TYPENAME":"P"}}`, []pay{{"a", 1}, {"\xff", 1}}, "refused: WrongType at /1/to: STR takes UTF-8, not this string"},
+		{`{"SEQ":{"TYPENAME":"P"}}`, []struct {
+			To     string
+			Amount float64
+		}{}, "refused: WrongType at /-/amount: U64 takes an integer, not float64"},
+		{"E", Variant{"Pair", []any{1, 256}}, "refused: WrongType at /Pair/1: U8 doesn't hold 256"},
+		{"L", cycle, "is there a cycle of pointers"},
+		{"L", me, "takes a struct or a map[string]T, not bcsproved.self"},
+		{"C", 7, "is there a cycle"},
+		{`"F32"`, 7, "F32 has no values, not int"},
+		{`{"SEQ":"U8"}`, []fmt.Stringer{}, "at /-: U8 takes an integer, not fmt.Stringer"},
+		{"P", map[string]any{"to": "b", "amount": (*uint64)(nil)}, "refused: WrongType at /amount: U64 takes no nil of type *uint64 inside an interface"},
+		{"P", map[string]any{"to": "b", "amount": 1, "a/b": 1}, `refused: WrongType: P has no field "a/b"`},
+	} {
+		if _, err := c.Encode(row.format, row.value); err == nil || !strings.Contains(err.Error(), row.want) {
+			t.Errorf("%s: %v, not %s", row.format, err, row.want)
+		}
+	}
+	var small struct {
+		To     string
+		Amount uint32
+	}
+	small.To = "kept"
+	err := c.Unmarshal("P", []byte("\x03bob\x07\x00\x00\x00\x00\x00\x00\x00"), &small)
+	if err == nil || err.Error() != "refused: WrongType at /amount: U64 doesn't fit in uint32" || small.To != "kept" {
+		t.Error(err, small)
+	}
+	v, err := c.Decode("Tree", []byte{1, 0, 0})
+	if want := (Variant{"Fork", []any{Variant{"Leaf", nil}, Variant{"Leaf", nil}}}); err != nil || !reflect.DeepEqual(v, want) {
+		t.Error(v, err)
+	}
+}
+
+// Variables that Unmarshal takes or refuses, before it has seen a value or when it sees one that doesn't fit.
+func TestUnmarshal(t *testing.T) {
+	c := open(t, `{"O":{"STRUCT":[{"\b":"U8"},{"k":"BYTES"}]}}`)
+	type o struct {
+		A uint8   `bcs:"\b"`
+		K [3]byte `bcs:"k"`
+	}
+	bad := &o{9, [3]byte{9}}
+	for _, row := range []struct {
+		format, data string
+		pointer      any
+		want         string
+	}{
+		{`"U32"`, "01000000", new(uint32), "1"}, {`"U32"`, "01000000", new(int64), "1"}, {`"U32"`, "01000000", new(uint64), "1"},
+		{`"U32"`, "01000000", new(uint), "1"}, {`"U32"`, "01000000", new(int32), "U32 doesn't fit in int32"},
+		{`"U32"`, "01000000", new(int), "U32 doesn't fit in int"}, {`"I32"`, "ffffffff", new(int), "-1"}, {`"U16"`, "ffff", new(int), "65535"},
+		{`"I32"`, "ffffffff", new(uint64), "I32 doesn't fit in uint64"}, {`"U64"`, "0100000000000000", new(int64), "U64 doesn't fit in int64"},
+		{`"U64"`, "0100000000000000", new(uint), "U64 doesn't fit in uint"}, {`"I64"`, "0100000000000000", new(int), "I64 doesn't fit in int"},
+		{`"U64"`, "0100000000000000", new(big.Int), "{false [1]}"}, {`"U64"`, "0100000000000000", new(float64), "U64 takes an integer, not float64"},
+		{`"U128"`, "01000000000000000000000000000000", new(uint64), "U128 doesn't fit in uint64"}, {`"STR"`, "0161", new([]byte), "STR takes a string, not []uint8"},
+		{`"BYTES"`, "020102", new([2]byte), "[1 2]"}, {`"BYTES"`, "020102", new([3]byte), "BYTES has 2 bytes here, not those of [3]uint8"},
+		{`"BYTES"`, "020102", new([1]byte), "BYTES has 2 bytes here"}, {`"BYTES"`, "020102", new(string), "BYTES takes bytes, or Hex(…) for digits, not string"},
+		{`"BYTES"`, "020102", new([]myByte), "[1 2]"}, {`"BYTES"`, "020102", new(Hex), "0102"}, {`{"SEQ":"U8"}`, "020102", new([]any), "takes bytes, or Hex(…) for digits, not []interface {}"},
+		{`{"SEQ":"U16"}`, "0201000200", new([2]uint16), "[1 2]"}, {`{"SEQ":"U16"}`, "0201000200", new([3]uint16), "fewer"},
+		{`{"SEQ":"U16"}`, "0201000200", new([1]uint16), "/1: "}, {`{"OPTION":"U8"}`, "00", new(uint8), "takes a pointer"},
+		{`{"MAP":{"KEY":"U8","VALUE":"U8"}}`, "0101020304", new(map[uint8]uint8), "refused: TrailingBytes at 3, .: wanted the end"},
+		{`{"MAP":{"KEY":"U8","VALUE":"U8"}}`, "010102", new(map[uint8]uint8), "map[1:2]"}, {`{"MAP":{"KEY":"U8","VALUE":"U8"}}`, "010102", new(map[any]uint8), "as keys"},
+		{"O", "0103010203", new(o), "{1 [1 2 3]}"}, {"O", "01020102", bad, "/k: BYTES has 2 bytes"}, {"O", "0103010203", new(map[string]any), "map[\b:1 k:[1 2 3]]"},
+	} {
+		data, _ := hex.DecodeString(row.data)
+		err := c.Unmarshal(row.format, data, row.pointer)
+		got := ""
+		if err != nil {
+			got = err.Error()
+		} else if b, ok := row.pointer.(*big.Int); ok {
+			got = fmt.Sprintf("{false [%v]}", b)
+		} else {
+			got = fmt.Sprint(reflect.ValueOf(row.pointer).Elem().Interface())
+		}
+		if err == nil && got != row.want || !strings.Contains(got, row.want) {
+			t.Errorf("%s %s into %T: %q, not %q", row.format, row.data, row.pointer, got, row.want)
+		}
+	}
+	if *bad != (o{9, [3]byte{9}}) {
+		t.Error(bad)
+	}
+}
+
+// A transaction comes back as Go values, and these have the same bytes.
+func TestTransactionAsValues(t *testing.T) {
+	registry := open(t, string(example(t, "aptos_registry.json")))
+	data := unhex(t, string(example(t, "aptos_transfer.hex")))
+	value, err := registry.Decode("RawTransaction", data)
+	if err != nil {
+		t.Fatal(err)
+	}
+	again, err := registry.Encode("RawTransaction", value)
+	if err != nil || hex.EncodeToString(again) != hex.EncodeToString(data) {
+		t.Errorf("%x %v", again, err)
+	}
+	if gas := value.(map[string]any)["max_gas_amount"]; gas != uint64(2000) {
+		t.Errorf("%T %v", gas, gas)
+	}
+}
+
+// Names that the registry doesn't have are rejected, except the default ones.
+func TestNamesOfContainers(t *testing.T) {
+	registry, err := Open([]byte(`{"A":{"NEWTYPESTRUCT":"BYTES"}}`), Names{Addresses: []string{"A"}})
+	if err != nil {
+		t.Fatal(err)
+	}
+	if _, err := registry.Encode("A", []byte{1}); err == nil || !strings.Contains(err.Error(), `no newtype of 32 bytes called "A"`) {
+		t.Error(err)
+	}
+	registry = open(t, valueShapes)
+	for text, want := range map[string]string{"-1": strings.Repeat("ff", 32), "-57896044618658097711785492504343953926634992332820282019728792003956564819968": strings.Repeat("00", 31) + "80"} {
+		x, _ := new(big.Int).SetString(text, 10)
+		data, err := registry.Encode("i256", x)
+		if err != nil || hex.EncodeToString(data) != want {
+			t.Errorf("%s: %x %v", text, data, err)
+		}
+		if back, err := registry.Decode("i256", data); err != nil || back.(*big.Int).Cmp(x) != 0 {
+			t.Errorf("%s: %v %v", text, back, err)
+		}
+	}
+}
+
+// What would cost much or never end is rejected.
+func TestValuesWithoutEnd(t *testing.T) {
+	registry := open(t, valueShapes)
+	list := []any{nil}
+	list[0] = list
+	table := map[string]any{"head": 1}
+	table["next"] = &table
+	type tree struct {
+		Leaf *struct{}
+		Fork *struct {
+			A *tree `bcs:"0"`
+			B *tree `bcs:"1"`
+		}
+	}
+	shared := &tree{Leaf: &struct{}{}}
+	for i := 0; i < 45; i++ {
+		shared = &tree{Fork: &struct {
+			A *tree `bcs:"0"`
+			B *tree `bcs:"1"`
+		}{shared, shared}}
+	}
+	deep := strings.Repeat(`{"SEQ":`, 30) + `"U8"` + strings.Repeat("}", 30)
+	limited := registry.WithLimits(Limits{500, 100_000})
+	for name, call := range map[string]func() error{
+		"a list of itself":  func() error { _, err := registry.Encode(deep, list); return err },
+		"a map of itself":   func() error { _, err := registry.Encode("L", table); return err },
+		"shared pointers":   func() error { _, err := limited.Encode("Tree", shared); return err },
+		"2^40 units":        func() error { _, err := limited.Encode(`{"SEQ":"UNIT"}`, make([]struct{}, 1<<40)); return err },
+		"a variant of both": func() error { _, err := registry.Encode("Tree", Variant{"Fork", list}); return err },
+		"a long number":     func() error { _, err := registry.Encode(`"U64"`, new(big.Int).Lsh(big.NewInt(1), 1<<20)); return err },
+	} {
+		start := time.Now()
+		err := call()
+		var refused *Error
+		if !errors.As(err, &refused) || refused.Kind != KindValue || len(err.Error()) > 20_000 || time.Since(start) > 5*time.Second {
+			t.Errorf("%s: %v after %s: %.300v", name, refused != nil, time.Since(start), err)
+		}
+	}
+}
