@@ -129,7 +129,13 @@ def main() -> int:
     debian.install(LINTERS)
     # So that the huge pages are put back, too.
     signal.signal(signal.SIGTERM, lambda *_: sys.exit(143))
-    first = (["tools/check_tracked.sh"], ["tests/lint.sh"], ["tests/names.py"], ["tools/api.py", "--check"])
+    first = (
+        ["tools/check_tracked.sh"],
+        ["tests/lint.sh"],
+        ["tests/side_by_side_test.py"],
+        ["tests/names.py"],
+        ["tools/api.py", "--check"],
+    )
     if not all([passes(*words) for words in first]):
         print("0 passed, 1 failed")
         return 1

@@ -7,13 +7,8 @@ set -eu
 unset CDPATH
 cd "$(dirname "$0")/.."
 
-install() {
-    DEBIAN_FRONTEND=noninteractive apt-get install -y --no-install-recommends python3 python3-jsonschema
+/usr/bin/python3 -c 'from jsonschema import Draft202012Validator' 2>/dev/null || tests/debian.py python3 python3-jsonschema || {
+    echo "schema: FAILED: python3-jsonschema isn't installed"
+    exit 1
 }
-if ! /usr/bin/python3 -c 'from jsonschema import Draft202012Validator' 2>/dev/null; then
-    said=$(install 2>&1) || said=$(apt-get update 2>&1 && install 2>&1) || {
-        echo "schema: FAILED: python3-jsonschema isn't installed: $(printf '%s\n' "$said" | tail -n 1)"
-        exit 1
-    }
-fi
 exec /usr/bin/python3 tests/schema.py "${1:-crates/bcs/out/bcs}" "${2:-5000}" "${3:-1}"

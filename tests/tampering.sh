@@ -135,9 +135,9 @@ test_signature() {
     tools/compare_dist.sh >compare.log || fail "tools/compare_dist.sh compares the signature"
     grep -q 'byte for byte' compare.log || fail "tools/compare_dist.sh doesn't compare a signed dist/"
     rm dist/SHA256SUMS.sig
-    finds "a missing signature" "there is no signature"
+    finds "a missing signature" "isn't signed"
     rm dist/SIGNERS
-    finds "a signature of nobody" "no dist/SIGNERS says whose"
+    finds "a signature of nobody" "there is no dist/SIGNERS that says whose"
     (cd dist && echo >>LIBRARIES && sum .)
     finds "a change with its checksum" "the signature of SHA256SUMS is wrong"
     echo >>crates/bcs/src/main.rt
@@ -156,7 +156,7 @@ test_signature() {
     sum out/dist
     tools/take_dist.sh >take.log
     { grep -q 'run tools/sign.sh' take.log && [ ! -e dist/SHA256SUMS.sig ]; } || fail "tools/take_dist.sh keeps the signature of older files"
-    finds "files that were taken, and not signed" "there is no signature"
+    finds "new files that nobody has signed" "isn't signed"
     echo "tampering: ./test --dist finds a wrong signature, and none where there has to be one"
 }
 

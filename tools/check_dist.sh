@@ -78,11 +78,11 @@ check_sources() {
 
 check_signature() {
     if [ ! -e dist/SIGNERS ]; then
-        [ ! -e dist/SHA256SUMS.sig ] || fail "there is a signature, and no dist/SIGNERS says whose it may be"
+        [ ! -e dist/SHA256SUMS.sig ] || fail "dist/ is signed, but there is no dist/SIGNERS that says whose signature is valid"
         echo "dist: unsigned"
         return
     fi
-    [ -e dist/SHA256SUMS.sig ] || fail "there is no signature of those in dist/SIGNERS: a maintainer has to run tools/sign.sh"
+    [ -e dist/SHA256SUMS.sig ] || fail "dist/ has SIGNERS, and isn't signed: a maintainer has to run tools/sign.sh"
     command -v ssh-keygen >/dev/null || fail "dist/ is signed, and checking that needs ssh-keygen (Debian's openssh-client)"
     grep -q '^[0-9a-f]*  BUILT_FROM$' dist/SHA256SUMS || fail "the signed SHA256SUMS doesn't list BUILT_FROM"
     ssh-keygen -Y verify -f dist/SIGNERS -I maintainer -n bcs-dist -s dist/SHA256SUMS.sig <dist/SHA256SUMS >"$room/verified" 2>&1 \

@@ -12,11 +12,8 @@ fail() {
     exit 1
 }
 
-install_go() {
-    apt-get update -qq && DEBIAN_FRONTEND=noninteractive apt-get install -y -qq --no-install-recommends golang-go
-}
 [ -e "$prefix/lib/libbcs.a" ] || fail "no library in $prefix: bindings/c/build.sh makes it"
-command -v go >/dev/null || install_go >/dev/null 2>&1 || fail "command not found: go; on Debian: apt-get install golang-go"
+command -v go >/dev/null || "$here/../../tests/debian.py" golang-go || fail "command not found: go; on Debian: apt-get install golang-go"
 room=$(mktemp -d)
 # The module cache is read-only.
 trap 'chmod -R u+w "$room" && rm -rf "$room"' EXIT

@@ -12,10 +12,7 @@ fail() {
     exit 1
 }
 
-install_java() {
-    apt-get update -qq && DEBIAN_FRONTEND=noninteractive apt-get install -y -qq --no-install-recommends openjdk-17-jdk-headless
-}
-command -v javac >/dev/null || install_java >/dev/null 2>&1 \
+command -v javac >/dev/null || "$here/../../tests/debian.py" openjdk-17-jdk-headless \
     || fail "command not found: javac; on Debian: apt-get install openjdk-17-jdk-headless"
 JAVA_HOME=$(dirname "$(dirname "$(realpath "$(command -v javac)")")")
 export JAVA_HOME PYTHONDONTWRITEBYTECODE=1

@@ -17,10 +17,9 @@ are_there() {
     command -v mypy >/dev/null && /usr/bin/python3 -c 'import numpy, yaml' 2>/dev/null
 }
 install_packages() {
-    apt-get update -qq \
-        && DEBIAN_FRONTEND=noninteractive apt-get install -y -qq --no-install-recommends mypy python3 python3-numpy python3-yaml
+    "$here/../../tests/debian.py" mypy python3 python3-numpy python3-yaml
 }
-are_there || { install_packages >/dev/null 2>&1 && are_there; } \
+are_there || { install_packages && are_there; } \
     || fail "mypy, numpy or PyYAML is missing, and the packages can't be installed"
 room=$(mktemp -d)
 trap 'rm -rf "$room"' EXIT

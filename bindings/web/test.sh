@@ -18,10 +18,7 @@ fail() {
 
 install_package() {
     echo "web: installing $1"
-    if ! { apt-get update -qq && DEBIAN_FRONTEND=noninteractive apt-get install -y -qq --no-install-recommends "$1"; } \
-        >/dev/null 2>&1; then
-        fail "the package $1 can't be installed"
-    fi
+    "$here/../../tests/debian.py" "$1" || fail "the package $1 can't be installed"
 }
 # needs PROGRAM PACKAGE: installs Debian's package if the program isn't there.
 needs() {

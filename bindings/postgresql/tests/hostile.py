@@ -215,7 +215,7 @@ class Faults(Measured):
 
 
 class Open(Measured):
-    """Registries that are open after a statement take at most bcs.registry_cache, whoever opened them."""
+    """After a statement, the open registries use at most bcs.registry_cache of memory, whoever opened them."""
 
     is_unit = "select bcs_is(%s, '\"UNIT\"', '')"
 
