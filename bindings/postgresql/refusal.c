@@ -55,21 +55,21 @@ json_of_stop(const Question *question, bcs_answer answer)
 {
 	const struct refused refused = {answer, &question->ask, question->input, question->second};
 	const struct piece where = told(&refused, BCS_WHERE);
-	const char *wanted = what_was_wanted((const char *) told(&refused, BCS_WANTED).at);
+	const char *message = (const char *) told(&refused, BCS_WANTED).at;
 	StringInfoData json;
 
 	initStringInfo(&json);
-	appendStringInfo(&json, "{\"place\":" UINT64_FORMAT ",\"refused\":\"%s\"", answer.place,
-					 bcs_fault_text(answer.fault));
+	appendStringInfo(&json, "{\"refused\":\"%s\",\"place\":" UINT64_FORMAT, bcs_fault_text(answer.fault),
+					 answer.place);
 	if (where.length != 0)
 	{
-		appendStringInfoString(&json, ",\"name\":");
+		appendStringInfoString(&json, ",\"at\":");
 		escape_json(&json, (const char *) where.at);
 	}
-	if (wanted[0] != '\0')
+	if (message[0] != '\0')
 	{
-		appendStringInfoString(&json, ",\"want\":");
-		escape_json(&json, wanted);
+		appendStringInfoString(&json, ",\"message\":");
+		escape_json(&json, message);
 	}
 	appendStringInfoChar(&json, '}');
 	return json.data;
@@ -83,7 +83,7 @@ place_told(const struct refused *refused)
 	char	   *text;
 
 	if (is_stop(refused->answer))
-		return psprintf(" at " UINT64_FORMAT "%s%s", refused->answer.place, where.length != 0 ? " in " : "",
+		return psprintf(" at byte " UINT64_FORMAT "%s%s", refused->answer.place, where.length != 0 ? ", " : "",
 						(const char *) where.at);
 	if (refused->answer.status == BCS_REGISTRY)
 		return psprintf(" at %s", (const char *) where.at);
@@ -110,7 +110,7 @@ raise_refusal(const struct refused *refused, bool is_capped)
 		words = (const char *) told(refused, BCS_WANTED).at;
 	ereport(ERROR,
 			(errcode(sqlstate_of(answer)),
-			 errmsg("bcs: %s: %s%s", what_is_refused(answer), bcs_fault_text(answer.fault), place),
+			 errmsg("bcs: refused: %s%s%s", bcs_fault_text(answer.fault), what_is_refused(answer), place),
 			 words[0] != '\0' ? errdetail_internal("%s", words) : 0,
 			 is_capped && is_beyond_nodes(answer.fault) ?
 			 errhint("The setting bcs.max_nodes allows %u nodes here, and a superuser can change it.", refused->ask->nodes) : 0));

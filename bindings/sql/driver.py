@@ -24,18 +24,19 @@ class Answered(Exception):
     """The words that the driver answers to a call that is refused."""
 
 
-STATUSES = {"no registry": "registry", "no format of the registry": "format", "no path": "path"}
+# The members of bcs_fault, and what bcs_explain calls them.
+MEMBERS = {"refused": "refused", "place": "place", "at": "name"}
+STATUSES = {" in the registry": "registry", " in the format": "format", " in the path": "path"}
 
 
 def refusal(message: str) -> Answered:
     """The answer that an error message contains."""
     if message.startswith("bcs: nodes are from"):
         return Answered("limits", "-", "0", "0", "")
-    found = re.match(r"bcs: ([a-z ]+): ([A-Za-z0-9]+)(?: at (\d+))?", message)
+    found = re.match(r"bcs: refused: ([A-Za-z0-9]+)( in the [a-z]+)?(?: at byte (\d+))?", message)
     if not found:
         raise SystemExit(f"driver: {message}")
-    place = found[3] if found[1] == "no bytes of the format" else None
-    return Answered(STATUSES.get(found[1], "refused"), found[2], place or "0", "0", "")
+    return Answered(STATUSES[found[2]] if found[2] else "refused", found[1], found[3] or "0", "0", "")
 
 
 class NoUnicode(bytes):
@@ -189,19 +190,24 @@ class Calls:
         return None if data is None else ("-", 0, len(data), data)
 
     def explain(self, *question: Any) -> Answer:
-        """The text, and for invalid bytes the fault and its place. bcs_fault must report the same, except for the
-        path, and with hints behind what was wanted."""
+        """The text, and for invalid bytes the fault and its place. bcs_fault must report the same."""
         text = self.ask("bcs_explain(?, ?, ?, ?, ?, ?)", *question)
         lines = self.ask("bcs_explain(?, ?, ?, ?, ?, ?)", *question[:4], "json").splitlines()
-        last = {name: member for name, member in json.loads(lines[-1]).items() if name != "path"}
+        last = json.loads(lines[-1])
         fault = self.ask("cast(bcs_fault(?, ?, ?, ?, ?) as text)", *question[:4])
-        told = json.loads(fault) if fault else None
-        if told and told.get("want", "").startswith(f"{last.get('want')}; "):
-            told["want"] = last["want"]
-        if told != (last if "refused" in last else None):
-            raise SystemExit(f"driver: bcs_fault tells {fault}, and bcs_explain {last}")
+        if not is_the_same(json.loads(fault) if fault else None, last):
+            raise SystemExit(f"driver: bcs_fault returns {fault}, and bcs_explain {last}")
         place = last["place"] if "refused" in last else 0
         return last.get("refused", "-"), place, len(text.encode()), text.encode()
+
+
+def is_the_same(fault: dict[str, Any] | None, last: dict[str, Any]) -> bool:
+    """Whether bcs_fault reports what the last line of bcs_explain does, with hints behind what was wanted."""
+    if fault is None or "refused" not in last:
+        return fault is None and "refused" not in last
+    wanted, message = last.get("want", ""), fault.get("message", "")
+    is_message = message in (wanted, f"wanted {wanted}") or message.startswith(f"wanted {wanted}; ")
+    return is_message and all(fault.get(name) == last.get(old) for name, old in MEMBERS.items())
 
 
 def answer(calls: Calls, line: str) -> tuple[str, ...]:

@@ -48,17 +48,17 @@ static inline bool is_beyond_limits(uint32_t fault) {
            fault == BCS_SHOWN_TOO_NESTED;
 }
 
-/* The words before the fault's name. */
+/* The words after the fault's name, if it isn't the value that is refused. */
 static inline const char *what_is_refused(bcs_answer answer) {
     switch (answer.status) {
         case BCS_REGISTRY:
-            return "no registry";
+            return " in the registry";
         case BCS_FORMAT:
-            return "no format of the registry";
+            return " in the format";
         case BCS_PATH:
-            return "no path";
+            return " in the path";
         default:
-            return answer.fault > 400 ? "no bytes of the format" : "no value of the format";
+            return "";
     }
 }
 
@@ -116,12 +116,6 @@ static inline bcs_answer tell_place(const struct refused *refused, uint32_t what
     }
     told = bcs_handle_text_place(ASK(refused->ask), what, PIECE(refused->input), out, room);
     return told.status == BCS_NO ? bcs_handle_text_place(ASK(refused->ask), what, PIECE(refused->second), out, room) : told;
-}
-
-/* What the library reports of BCS_WANTED for bytes begins with "wanted ", and this returns the rest. */
-static inline const char *what_was_wanted(const char *words) {
-    const size_t length = strlen("wanted ");
-    return strncmp(words, "wanted ", length) == 0 ? words + length : words;
 }
 
 /* The character at the front of UTF-8, and how many bytes it has. */

@@ -41,23 +41,23 @@ static char *place_told(const struct refused *refused) {
 }
 
 /* The text of a refusal; null if memory ran out. */
-static char *message_of(const struct refused *refused, const char *front, const char *name) {
+static char *message_of(const struct refused *refused, const char *name, const char *what) {
     size_t length = 0;
     char *where, *text = NULL;
     uint8_t *wanted;
     if (!is_placed(refused->answer)) {
-        return sqlite3_mprintf("bcs: %s: %s", front, name);
+        return sqlite3_mprintf("bcs: refused: %s%s", name, what);
     }
     where = place_told(refused);
     if (where == NULL) {
         return NULL;
     }
     if (is_stop(refused->answer)) {
-        text = sqlite3_mprintf("bcs: %s: %s at %llu%s%s", front, name, (unsigned long long)refused->answer.place,
-                               where[0] != '\0' ? " in " : "", where);
+        text = sqlite3_mprintf("bcs: refused: %s at byte %llu%s%s", name, (unsigned long long)refused->answer.place,
+                               where[0] != '\0' ? ", " : "", where);
     } else if ((wanted = told(refused, BCS_WANTED, &length)) != NULL) {
-        text = sqlite3_mprintf("bcs: %s: %s%s%s: %.*s", front, name, where[0] != '\0' ? " at " : "", where, (int)length,
-                               (const char *)wanted);
+        text = sqlite3_mprintf("bcs: refused: %s%s%s%s: %.*s", name, what, where[0] != '\0' ? " at " : "", where,
+                               (int)length, (const char *)wanted);
         sqlite3_free(wanted);
     }
     sqlite3_free(where);
@@ -67,7 +67,7 @@ static char *message_of(const struct refused *refused, const char *front, const 
 static void tell_refusal(sqlite3_context *context, const struct refused *refused) {
     char *text = NULL;
     if (refused->answer.status != BCS_MEMORY) {
-        text = message_of(refused, what_is_refused(refused->answer), bcs_fault_text(refused->answer.fault));
+        text = message_of(refused, bcs_fault_text(refused->answer.fault), what_is_refused(refused->answer));
     }
     if (text == NULL) {
         sqlite3_result_error_nomem(context);
@@ -102,13 +102,13 @@ static void append_member(sqlite3_str *json, const char *name, const char *text)
     sqlite3_str_appendall(json, "\",");
 }
 
-static char *json_with(bcs_answer answer, const char *where, const char *wanted) {
+static char *json_with(bcs_answer answer, const char *where, const char *message) {
     sqlite3_str *json = sqlite3_str_new(NULL);
     sqlite3_str_appendchar(json, 1, '{');
-    append_member(json, "name", where);
-    sqlite3_str_appendf(json, "\"place\":%llu,\"refused\":\"%s\",", (unsigned long long)answer.place,
-                        bcs_fault_text(answer.fault));
-    append_member(json, "want", wanted);
+    sqlite3_str_appendf(json, "\"refused\":\"%s\",\"place\":%llu,", bcs_fault_text(answer.fault),
+                        (unsigned long long)answer.place);
+    append_member(json, "at", where);
+    append_member(json, "message", message);
     return sqlite3_str_finish(json);
 }
 
@@ -116,10 +116,10 @@ char *json_of_stop(const struct question *question, bcs_answer answer) {
     const struct refused refused = {answer, &question->ask, question->input, question->second};
     size_t length;
     char *const where = (char *)told(&refused, BCS_WHERE, &length);
-    char *const wanted = where != NULL ? (char *)told(&refused, BCS_WANTED, &length) : NULL;
-    char *const json = wanted != NULL ? json_with(answer, where, what_was_wanted(wanted)) : NULL;
+    char *const message = where != NULL ? (char *)told(&refused, BCS_WANTED, &length) : NULL;
+    char *const json = message != NULL ? json_with(answer, where, message) : NULL;
     sqlite3_free(where);
-    sqlite3_free(wanted);
+    sqlite3_free(message);
     if (json != NULL) {
         json[strlen(json) - 1] = '}'; /* in place of the comma */
     }

@@ -15,7 +15,7 @@ SELECT told($$bcs_decode('{}', '"BYTES"', '\xffffffff0f')$$);
 CREATE FUNCTION links() RETURNS text IMMUTABLE PARALLEL SAFE LANGUAGE sql AS
     $$ SELECT '{"L":{"NEWTYPESTRUCT":{"OPTION":{"TYPENAME":"L"}}}}'::text $$;
 SELECT bcs_is(links(), 'L', decode(repeat('01', 99) || '00', 'hex')), bcs_is(links(), 'L', decode(repeat('01', 100) || '00', 'hex'));
-SELECT bcs_fault(links(), 'L', decode(repeat('01', 100000), 'hex')) - 'name' - 'path';
+SELECT bcs_fault(links(), 'L', decode(repeat('01', 100000), 'hex')) - 'at';
 SELECT regexp_replace(told($$bcs_decode(links(), 'L', decode(repeat('01', 100000), 'hex'))$$), '[?]+', '..');
 SELECT told($$bcs_is(links(), 'L', decode(repeat('01', 499) || '00', 'hex'), 1000, 500)$$);
 SET max_stack_depth = '7MB';

@@ -195,7 +195,7 @@ class Faults(Measured):
                     question = registry, format, data
                     fault = value(self.session, "select bcs_fault(%s, %s, %s, 1000000)", *question)
                     self.assertEqual(
-                        (fault["refused"], fault["place"], fault["want"]), ("BadBool", len(data) - 1, "BOOL")
+                        (fault["refused"], fault["place"], fault["message"]), ("BadBool", len(data) - 1, "wanted BOOL")
                     )
                     self.assertTrue(fault["name"].endswith(end))
                     judged = self.cost("select bcs_is(%s, %s, %s, 1000000)", *question)[0]

@@ -315,19 +315,19 @@ class Latin1(Database):
             bytes(value(self.session, "select bcs_encode_json('{}', '\"STR\"', '\"\\u20ac\"')")).hex(), "03e282ac"
         )
         named = """select bcs_encode_json('{"A":{"STRUCT":[{"\\u20ac":"U8"}]}}', 'A', '{"\\u20ac":256}')"""
-        self.assertEqual(refusal(self.session, named), ("22P02", "bcs: no value of the format: BadNumber at /\\u20ac"))
+        self.assertEqual(refusal(self.session, named), ("22P02", "bcs: refused: BadNumber at /\\u20ac"))
 
     def test_names(self) -> None:
         registry = '{"Zürich":{"STRUCT":[{"größe":"BOOL"}]}}'
         self.assertEqual(value(self.session, "select bcs_decode(%s, 'Zürich', '\\x01')", registry), {"größe": True})
         told = refusal(self.session, "select bcs_decode(%s, 'Zürich', '\\x02')", registry)
         self.assertEqual(told[0], "22P03")
-        self.assertEqual(told[1], "bcs: no bytes of the format: BadBool at 0 in .gr\\u00f6\\u00dfe")
+        self.assertEqual(told[1], "bcs: refused: BadBool at byte 0, .gr\\u00f6\\u00dfe")
         self.assertEqual(
             value(self.session, "select bcs_fault(%s, 'Zürich', '\\x02') ->> 'name'", registry), ".gr\\u00f6\\u00dfe"
         )
         told = refusal(self.session, "select bcs_encode(%s, 'Zürich', '{\"größe\":7}')", registry)
-        self.assertEqual(told, ("22P02", "bcs: no value of the format: BadShape at /gr\\u00f6\\u00dfe"))
+        self.assertEqual(told, ("22P02", "bcs: refused: BadShape at /gr\\u00f6\\u00dfe"))
         run(self.session, "insert into bcs_registries values ('stadt', %s)", registry)
         self.assertEqual(value(self.session, "select bcs_decode('stadt', 'Zürich', '\\x01')"), {"größe": True})
 

@@ -124,14 +124,14 @@ static const struct {
     {"select hex(bcs_encode('{}','\"U64\"',7))", "0700000000000000"},
     {"select bcs_decode(x'7b7d','\"STR\"',x'02c3a9')", "\"\xc3\xa9\""},
     {"select bcs_encode('{\"A\":{\"STRUCT\":[{\"a/~\":{\"SEQ\":\"BYTES\"}}]}}','A','{\"a/~\":[\"00\",\"0\"]}')",
-     "bcs: no value of the format: BadHex at /a~1~0/1: an odd number of digits"},
+     "bcs: refused: BadHex at /a~1~0/1: an odd number of digits"},
     {"select bcs_equal(" REGISTRY ",'A','{\"x\":7,\"y\":[]}','{\"x\":7}')",
-     "bcs: no value of the format: MissingField: no member is called y"},
-    {"select bcs_decode(" REGISTRY ",'A',x'0702')", "bcs: no bytes of the format: EndOfInput at 2 in .y[0]"},
+     "bcs: refused: MissingField: no member is called y"},
+    {"select bcs_decode(" REGISTRY ",'A',x'0702')", "bcs: refused: EndOfInput at byte 2, .y[0]"},
     {"select bcs_is('{\"A\":{\"STRUCT\":7}}','\"U8\"',x'07')",
-     "bcs: no registry: BadShape at /A/STRUCT: wanted an array of fields"},
+     "bcs: refused: BadShape in the registry at /A/STRUCT: wanted an array of fields"},
     {OF_NAME("replace(hex(zeroblob(100)),'0','~') || 'b'"),
-     "bcs: no value of the format: BadShape at /" TWO_HUNDRED("~0") "...(cut)/0: wanted a whole number from 0 to 255 (U8)"},
+     "bcs: refused: BadShape at /" TWO_HUNDRED("~0") "...(cut)/0: wanted a whole number from 0 to 255 (U8)"},
 };
 #define COUNT(table) (sizeof(table) / sizeof(table)[0])
 
@@ -155,23 +155,23 @@ static void answers(void) {
 /* Bytes that announce more than they have, texts that nest deep, and a text with the character U+0000. */
 static void hostile(void) {
     sqlite3 *database = opened();
-    is_error(database, "select bcs_decode('{}','\"BYTES\"',x'8080808004')", "bcs: no bytes of the format: EndOfInput at 5 in .");
+    is_error(database, "select bcs_decode('{}','\"BYTES\"',x'8080808004')", "bcs: refused: EndOfInput at byte 5, .");
     is_error(database, "select bcs_decode('{}','{\"SEQ\":\"UNIT\"}',x'ffffffff07')",
-             "bcs: no bytes of the format: TooManyNodes at 5 in [999999]");
+             "bcs: refused: TooManyNodes at byte 5, [999999]");
     is_answered(database, "select bcs_is('{}','{\"SEQ\":\"UNIT\"}',x'ffffffff07')", "0");
     is_error(database, "select bcs_encode('{}','\"U8\"',replace(hex(zeroblob(50000)),'0','[') || replace(hex(zeroblob(50000)),'0',']'))",
-             "bcs: no value of the format: NotJson: line 1, column 129: the text stops being JSON there");
+             "bcs: refused: NotJson: line 1, column 129: the text stops being JSON there");
     is_error(database, "select bcs_encode('{}','\"U8\"',replace(hex(zeroblob(51)),'0','[') || replace(hex(zeroblob(51)),'0',']'))",
-             "bcs: no value of the format: TooNested: arrays and objects nest more than 100 deep");
+             "bcs: refused: TooNested: arrays and objects nest more than 100 deep");
     is_error(database, "select bcs_decode('{\"L\":{\"NEWTYPESTRUCT\":{\"OPTION\":{\"TYPENAME\":\"L\"}}}}','L',"
              "cast(replace(hex(zeroblob(50000)),'0',char(1)) as blob))",
-             "bcs: no bytes of the format: TooDeep at 100 in " TEN("??????????"));
+             "bcs: refused: TooDeep at byte 100, " TEN("??????????"));
     is_answered(database, "select bcs_decode('{}','\"STR\"',x'03610062')", "\"a\\u0000b\"");
     is_answered(database, "select hex(bcs_encode('{}','\"STR\"','\"a\\u0000b\"'))", "03610062");
     is_error(database, "select bcs_encode('{}','\"STR\"',cast(x'226100622200' as text))",
-             "bcs: no value of the format: NotJson: line 1, column 1: the text stops being JSON there");
+             "bcs: refused: NotJson: line 1, column 1: the text stops being JSON there");
     is_error(database, "select bcs_is(x'7b00','\"U8\"',x'07')",
-             "bcs: no registry: NotJson at line 1, column 2: the text stops being JSON there");
+             "bcs: refused: NotJson in the registry at line 1, column 2: the text stops being JSON there");
     closed(database);
 }
 
@@ -179,24 +179,24 @@ static void hostile(void) {
 static void places(void) {
     sqlite3 *database = opened();
     is_error(database, "select bcs_equal('{}','{\"SEQ\":\"U8\"}','[1]','[1,256]')",
-             "bcs: no value of the format: BadNumber at /1: found 256, wanted a whole number from 0 to 255 (U8)");
+             "bcs: refused: BadNumber at /1: found 256, wanted a whole number from 0 to 255 (U8)");
     is_error(database, "select bcs_encode('{\"A\":{\"STRUCT\":[{\"\\u0000\\n\\\\\\\"%s\xc3\xa9\\u20ac\\ud83d\\ude00\":\"U8\"}]}}','A',"
              "'{\"\\u0000\\n\\\\\\\"%s\xc3\xa9\\u20ac\\ud83d\\ude00\":true}')",
-             "bcs: no value of the format: BadShape at /\\u0000\\u000a\\\\\\\"%s\\u00e9\\u20ac\\ud83d\\ude00: "
+             "bcs: refused: BadShape at /\\u0000\\u000a\\\\\\\"%s\\u00e9\\u20ac\\ud83d\\ude00: "
              "wanted a whole number from 0 to 255 (U8)");
     /* Names are cut at 200 signs, of which ~0 is one. */
     is_error(database, OF_NAME("replace(hex(zeroblob(100)),'0','~')"),
-             "bcs: no value of the format: BadShape at /" TWO_HUNDRED("~0") "/0: wanted a whole number from 0 to 255 (U8)");
+             "bcs: refused: BadShape at /" TWO_HUNDRED("~0") "/0: wanted a whole number from 0 to 255 (U8)");
     is_error(database, OF_NAME("replace(hex(zeroblob(98)),'0','b') || '\xc3\xa9' || 'bbb'"),
-             "bcs: no value of the format: BadShape at /" TEN(TEN("b")) TEN("bbbbbbbbb") "bbbbbb" "...(cut)/0: "
+             "bcs: refused: BadShape at /" TEN(TEN("b")) TEN("bbbbbbbbb") "bbbbbb" "...(cut)/0: "
              "wanted a whole number from 0 to 255 (U8)");
     /* What takes more than 16 MB is left out. */
     is_error(database, OF_NAME("printf('%.*c',17000000,'b')"),
-             "bcs: no value of the format: BadShape: wanted a whole number from 0 to 255 (U8)");
+             "bcs: refused: BadShape: wanted a whole number from 0 to 255 (U8)");
     is_error(database, "select bcs_scan('{\"A\":{\"STRUCT\":[{\"' || printf('%.*c',17000000,'b') || '\":\"U8\"}]}}','A',x'')",
-             "bcs: no bytes of the format: EndOfInput at 0");
+             "bcs: refused: EndOfInput at byte 0");
     is_error(database, "select bcs_is('{\"\xc3\xa9\":{\"STRUCT\":[{\"x\":{\"TYPENAME\":\"\\n\"}}]}}','\"U8\"',x'07')",
-             "bcs: no registry: UnknownName at \\u00e9, field x: no container is called \\u000a");
+             "bcs: refused: UnknownName in the registry at \\u00e9, field x: no container is called \\u000a");
     closed(database);
 }
 

@@ -387,7 +387,7 @@ class Faults(unittest.TestCase):
                 runs.append(time.process_time() - start)
             costs[name] = min(runs) * 1000
         fault = json.loads(answer)
-        self.assertEqual((fault["refused"], fault["place"], fault["want"]), ("BadBool", len(data) - 1, "BOOL"))
+        self.assertEqual((fault["refused"], fault["place"], fault["message"]), ("BadBool", len(data) - 1, "wanted BOOL"))
         self.assertTrue(fault["name"].endswith(end))
         cost, judged = costs["bcs_fault"], costs["bcs_is"]
         print(f"hostile: bcs_fault of {len(data)} bytes took {cost:.1f} ms, and bcs_is {judged:.1f}")

@@ -107,7 +107,7 @@ class Types(unittest.TestCase):
                 right = digits_of(format, text)
                 told = self.told("bcs_encode(?, ?, ?)", *words, text)
                 if right is None:
-                    self.assertTrue(str(told).startswith("bcs: no value of the format: "), (format, text, told))
+                    self.assertTrue(str(told).startswith("bcs: refused: "), (format, text, told))
                 else:
                     self.assertEqual((format, text, told), (format, text, right))
                     back = "bcs_encode(?, ?, bcs_decode(?, ?, ?))"
@@ -122,7 +122,7 @@ class Types(unittest.TestCase):
                 right = digits_of(format, str(number))
                 told = self.told("bcs_encode(?, ?, ?)", REGISTRY, json.dumps(format), number)
                 if right is None:
-                    self.assertTrue(str(told).startswith("bcs: no value of the format: "), (format, number, told))
+                    self.assertTrue(str(told).startswith("bcs: refused: "), (format, number, told))
                 else:
                     self.assertEqual((format, number, told), (format, number, right))
 
@@ -152,7 +152,7 @@ class Types(unittest.TestCase):
             self.database.execute("delete from t")
             self.database.execute("insert into t values (?1, ?1, ?1, ?1, ?1)", [written])
             refused = f"found {written}, wanted a whole number from 0 to 18446744073709551615 (U64)"
-            text = digits_of("U64", written) or f"bcs: no value of the format: BadNumber: {refused}"
+            text = digits_of("U64", written) or f"bcs: refused: BadNumber: {refused}"
             if numeric is None:
                 numeric = text
             elif numeric != VALUE:
