@@ -1,5 +1,5 @@
 #!/usr/bin/env python3
-"""Tests the runner of the gate's steps: each way in which a step can fail is reported, and nothing is left out silently."""
+"""Tests the runner of the gate's steps: it reports each way in which a step can fail, and each step it left out."""
 
 from __future__ import annotations
 
@@ -40,7 +40,10 @@ class Failures(unittest.TestCase):
             ([FAILS, KILLED, MISSING], ["fails", "killed", "missing"]),
             ([PASSES, Step("after", ["true"], ("passes",))], []),
             ([FAILS, Step("after", ["true"], ("fails",))], ["after", "fails"]),
-            ([FAILS, Step("after", ["true"], ("fails",)), Step("last", ["true"], ("after",))], ["after", "fails", "last"]),
+            (
+                [FAILS, Step("after", ["true"], ("fails",)), Step("last", ["true"], ("after",))],
+                ["after", "fails", "last"],
+            ),
             ([Step("waits for nobody", ["true"], ("nobody",))], ["waits for nobody"]),
         ]:
             for lanes in (1, 2, 8):
@@ -75,7 +78,9 @@ class Order(unittest.TestCase):
 
 class Ending(unittest.TestCase):
     def test_what_runs_ends_with_the_gate(self) -> None:
-        gate = "import side_by_side as it; it.run_all([it.Step('long', ['sh', '-c', 'echo $$ >pid; exec sleep 600'])], 1)"
+        gate = (
+            "import side_by_side as it; it.run_all([it.Step('long', ['sh', '-c', 'echo $$ >pid; exec sleep 600'])], 1)"
+        )
         gate = f"import signal, sys; signal.signal(15, lambda *_: sys.exit(143)); {gate}"
         room = os.environ["ROOM"]
         environment = os.environ | {"PYTHONPATH": os.path.dirname(os.path.abspath(__file__))}

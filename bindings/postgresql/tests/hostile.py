@@ -197,7 +197,7 @@ class Faults(Measured):
                     self.assertEqual(
                         (fault["refused"], fault["place"], fault["message"]), ("BadBool", len(data) - 1, "wanted BOOL")
                     )
-                    self.assertTrue(fault["name"].endswith(end))
+                    self.assertTrue(fault["at"].endswith(end))
                     judged = self.cost("select bcs_is(%s, %s, %s, 1000000)", *question)[0]
                     most = 6 * judged + len(data) / 10_000
                     cost = self.cost("select bcs_fault(%s, %s, %s, 1000000)", *question, most=most)[0]

@@ -116,7 +116,7 @@ static const struct {
     {"select bcs_scan(" REGISTRY ",'A',x'0701036F6E6500')", "6"},
     {"select bcs_is(" REGISTRY ",'A',x'0701036F6E6500')", "0"},
     {"select bcs_fault(" REGISTRY ",'A',x'0701036F6E')",
-     "{\"name\":\".y[0]\",\"place\":5,\"refused\":\"EndOfInput\",\"want\":\"3 bytes of STR\"}"},
+     "{\"refused\":\"EndOfInput\",\"place\":5,\"at\":\".y[0]\",\"message\":\"wanted 3 bytes of STR\"}"},
     {"select bcs_fault(" REGISTRY ",'A',x'0701036F6E65')", "null"},
     {"select bcs_explain('{}','\"U8\"',x'07','json')",
      "{\"bytes\":\"07\",\"kind\":\"unsigned\",\"name\":\".\",\"path\":\".\",\"place\":0,\"value\":\"7\",\"what\":\"U8\"}\n{\"end\":1}\n"},

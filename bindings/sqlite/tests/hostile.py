@@ -256,7 +256,7 @@ class Open(unittest.TestCase):
         taken(is_reset=True)
         with self.assertRaises(MemoryError):
             self.database.execute(LARGEST.replace("]}}", "]}]")).fetchall()
-        with self.assertRaisesRegex(sqlite3.OperationalError, "no registry: NotJson at line 1, column"):
+        with self.assertRaisesRegex(sqlite3.OperationalError, "refused: NotJson in the registry at line 1, column"):
             self.database.execute(MANY.replace("]}}", "]}]")).fetchall()
         self.assertLess(taken() - self.before, (256 << 20) + BOUND)
         self.assertLess(self.kept(), 100_000)
@@ -387,8 +387,9 @@ class Faults(unittest.TestCase):
                 runs.append(time.process_time() - start)
             costs[name] = min(runs) * 1000
         fault = json.loads(answer)
-        self.assertEqual((fault["refused"], fault["place"], fault["message"]), ("BadBool", len(data) - 1, "wanted BOOL"))
-        self.assertTrue(fault["name"].endswith(end))
+        reported = fault["refused"], fault["place"], fault["message"]
+        self.assertEqual(reported, ("BadBool", len(data) - 1, "wanted BOOL"))
+        self.assertTrue(fault["at"].endswith(end))
         cost, judged = costs["bcs_fault"], costs["bcs_is"]
         print(f"hostile: bcs_fault of {len(data)} bytes took {cost:.1f} ms, and bcs_is {judged:.1f}")
         self.assertLess(cost, 6 * judged + len(data) / 10_000)
