@@ -1,25 +1,11 @@
 /* `statx`, which glibc has since 2.28 and Linux since 4.11, by a call that every Linux has. It stores what the program uses: the
    kind and mode, the number of links, the owner and group, the length, and which file of which device this is. */
-#include <stddef.h>
-#include <stdint.h>
+#include "../../bindings/hosts/statx.h"
 #include <string.h>
 
 long syscall(long number, ...);
 
-/* As in the system's headers, without what isn't stored. */
-struct statx {
-    uint32_t mask, block_size;
-    uint64_t attributes;
-    uint32_t links, owner, group;
-    uint16_t mode, unused;
-    uint64_t number, length, blocks, known_attributes;
-    uint8_t times[64];
-    uint32_t device_major, device_minor, of_device_major, of_device_minor;
-    uint8_t more[112];
-};
-_Static_assert(sizeof(struct statx) == 256 && __builtin_offsetof(struct statx, of_device_major) == 136, "the system's layout");
-
-/* What Linux stores. */
+/* What the call stores. */
 #if defined(__x86_64__)
 enum { NEWFSTATAT = 262 };
 struct stat {
