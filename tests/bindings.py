@@ -71,6 +71,7 @@ def run(*command: str | pathlib.Path, env: dict[str, str] | None = None) -> str:
 def test_program() -> str:
     """The program is compiled with another option than the one that `rt ci` ran, and linked with another start."""
     log = run("tests/program.py", DIST) + run("tests/explain.py", DIST)
+    log += run("tests/output_files.py", DIST) + run("tests/own_stack.py", DIST)
     symbols = run("objdump", "-T", f"{DIST}/bcs", f"{DIST}/libbcs.so")
     versions = [tuple(map(int, version.split("."))) for version in re.findall(r"GLIBC_(\d[\d.]*)", symbols)]
     newest = "GLIBC_" + ".".join(map(str, max(versions)))

@@ -1,15 +1,15 @@
 /* Where the program begins. The start files of a newer glibc need that glibc. This code needs only `__libc_start_main`, which every
    glibc for arm64 has. Nothing has to run before or after `main`. */
+#include "../../tools/link/own_stack.h"
+
 typedef void step(void);
 
-int main(int count, char **words);
-
-int __libc_start_main(int (*main)(int, char **), int count, char **words, step *before, step *after, step *end_of_loader,
+int __libc_start_main(int (*begins)(int, char **, char **), int count, char **words, step *before, step *after, step *end_of_loader,
                       void *stack);
 
 /* The stack has the number of arguments, and then the arguments. */
 __attribute__((used)) static void begin(long *stack, step *end_of_loader) {
-    __libc_start_main(main, (int)*stack, (char **)(stack + 1), 0, 0, end_of_loader, stack);
+    __libc_start_main(main_on_own_stack, (int)*stack, (char **)(stack + 1), 0, 0, end_of_loader, stack);
     __builtin_trap();
 }
 

@@ -54,8 +54,8 @@ static size_t stack_of_call(void) {
 
 /* ---- A box. */
 
-/* A memory that is larger isn't kept for the next call. */
-#define KEPT_MOST (32 << 20)
+/* A memory that is larger isn't kept for the next call. 16 MiB of it are the stack within. */
+#define KEPT_MOST (48 << 20)
 /* No input is longer, and no box could hold one that is. */
 #define INPUT_MOST ((u64)1 << 32)
 #define HANDLE_SIZE 8

@@ -8,6 +8,7 @@
 #include <pthread.h>
 #include <signal.h>
 #include <stdio.h>
+#include <sys/stat.h>
 #include <sys/types.h>
 #include <unistd.h>
 
@@ -33,7 +34,7 @@ static u32 number_of(int error) {
         u32 of_linux;
     } errors[] = {
         {EPERM, 1},   {ENOENT, 2},  {EINTR, 4},   {EIO, LINUX_EIO}, {EBADF, 9},   {EAGAIN, 11}, {ENOMEM, 12},       {EACCES, 13},
-        {ENOTDIR, 20}, {EISDIR, 21}, {EINVAL, 22}, {EMFILE, 24},     {EFBIG, 27},  {ENOSPC, 28}, {ESPIPE, 29},       {EROFS, 30},
+        {EEXIST, 17},         {ENOTDIR, 20}, {EISDIR, 21}, {EINVAL, 22}, {EMFILE, 24},     {EFBIG, 27},  {ENOSPC, 28}, {ESPIPE, 29},       {EROFS, 30},
         {EPIPE, 32},  {ENAMETOOLONG, 36},          {ELOOP, 40},
     };
     for (size_t row = 0; row < sizeof errors / sizeof *errors; row++) {
@@ -92,12 +93,24 @@ struct Z_env_instance_t {
 };
 #define HOST struct Z_env_instance_t *host
 
-/* The flags are Linux's: to read a file, or else to write one from its start, which everybody may read. */
+static int flags_of(u32 flags) {
+    static const struct {
+        u32 of_linux;
+        int own;
+    } known[] = {{0x1, O_WRONLY}, {0x40, O_CREAT}, {0x80, O_EXCL}, {0x200, O_TRUNC}};
+    int used = O_RDONLY | O_NOCTTY | O_CLOEXEC;
+    for (size_t row = 0; row < sizeof known / sizeof *known; row++) {
+        used |= (flags & known[row].of_linux) != 0 ? known[row].own : 0;
+    }
+    return used;
+}
+
+/* The flags are Linux's. The mode of a new file is in the program's memory. */
 static u32 Z_envZ_open(HOST, u64 path, u32 flags, u64 more) {
-    enum { WRITES_ONLY = 1 };
-    const int used = (flags & WRITES_ONLY) == 0 ? O_RDONLY : O_WRONLY | O_CREAT | O_TRUNC;
-    (void)host, (void)more;
-    return (u32)told(open(text_at(path), used | O_NOCTTY | O_CLOEXEC, 0666));
+    u32 mode = 0;
+    (void)host;
+    memcpy(&mode, bytes_at(more, sizeof mode), sizeof mode);
+    return (u32)told(open(text_at(path), flags_of(flags), (mode_t)mode));
 }
 
 static u32 Z_envZ_close(HOST, u32 file) {
@@ -126,11 +139,72 @@ static u64 Z_envZ_readlink(HOST, u64 path, u64 place, u64 room) {
     static const char name[] = "/dev/tty";
     const u64 length = room < sizeof name - 1 ? room : sizeof name - 1;
     (void)host;
-    if (strcmp(text_at(path), "/proc/self/fd/1") != 0 || !isatty(1)) {
+    if (strcmp(text_at(path), "/proc/self/fd/1") != 0) {
+        return told(readlink(text_at(path), bytes_at(place, room), (size_t)room));
+    }
+    if (!isatty(1)) {
         return refused(EINVAL);
     }
     memcpy(bytes_at(place, length), name, (size_t)length);
     return length;
+}
+
+static void put_number(u64 place, u64 number, u64 length) {
+    memcpy(bytes_at(place, length), &number, (size_t)length);
+}
+
+/* The kind and mode of a file, with Linux's numbers. Only on Linux does a link's mode say whether it is an ordinary one. */
+static u32 mode_of(const struct stat *file) {
+#ifdef __linux__
+    return (u32)file->st_mode;
+#else
+    const u32 kind = S_ISREG(file->st_mode) ? 0100000 : S_ISDIR(file->st_mode) ? 0040000 : S_ISLNK(file->st_mode) ? 0120777 : 0020000;
+    return kind | (u32)(file->st_mode & 07777);
+#endif
+}
+
+/* Stores what a file is as bindings/hosts/statx.h has it. */
+static u32 Z_envZ_statx(HOST, u32 file, u64 path, u32 flags, u32 mask, u64 found) {
+    enum { OF_LINK = 0x100, OF_DESCRIPTOR = 0x1000 };
+    struct stat its;
+    (void)host, (void)mask;
+    const char *const name = text_at(path);
+    const int answer = (flags & OF_DESCRIPTOR) != 0 ? fstat((int)file, &its) : (flags & OF_LINK) != 0 ? lstat(name, &its) : stat(name, &its);
+    if (answer == 0) {
+        put_number(found + 16, (u64)its.st_nlink, 4);
+        put_number(found + 20, (u64)its.st_uid, 4);
+        put_number(found + 24, (u64)its.st_gid, 4);
+        put_number(found + 28, mode_of(&its), 2);
+        put_number(found + 32, (u64)its.st_ino, 8);
+        put_number(found + 40, (u64)its.st_size, 8);
+        put_number(found + 136, (u64)its.st_dev, 8);
+    }
+    return (u32)told(answer);
+}
+
+static u32 Z_envZ_fsync(HOST, u32 file) {
+    (void)host;
+    return (u32)told(fsync((int)file));
+}
+
+static u32 Z_envZ_fchmod(HOST, u32 file, u32 mode) {
+    (void)host;
+    return (u32)told(fchmod((int)file, (mode_t)mode));
+}
+
+static u32 Z_envZ_fchown(HOST, u32 file, u32 owner, u32 group) {
+    (void)host;
+    return (u32)told(fchown((int)file, (uid_t)owner, (gid_t)group));
+}
+
+static u32 Z_envZ_rename(HOST, u64 from, u64 to) {
+    (void)host;
+    return (u32)told(rename(text_at(from), text_at(to)));
+}
+
+static u32 Z_envZ_unlink(HOST, u64 path) {
+    (void)host;
+    return (u32)told(unlink(text_at(path)));
 }
 
 /* That SIGPIPE, 13 on Linux, is to be ignored. */

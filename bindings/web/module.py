@@ -19,7 +19,8 @@ wasm-opt doesn't lower.
 
     --code FILE            the library's LLVM module, as tools/proved_code.py --module makes it; without it, it is made
     --program-code FILE    the program's, as tools/proved_code.py --program-module makes it; without it, it is made
-    --stack BYTES          the size of the stack within the memory; without it, 4 MiB
+    --stack BYTES          the size of the stack within the memory of bcs_scalar.wasm and bcs_program.wasm; without it, 16
+                           MiB, enough for all limits on depth. The others have 4 MiB: the engine's own stack ends before
 """
 
 from __future__ import annotations
@@ -58,6 +59,8 @@ WIDE_NUMBERS = ["-mllvm", "-expand-div-rem-bits=64", "-mllvm", "-expand-fp-conve
 INLINING = ["-mllvm", "-inline-threshold=450"]
 # The version of Debian 12.
 BINARYEN = "wasm-opt version 108"
+# The size of the stack within the memory of the modules that an engine runs on its own stack.
+STACK_IN_ENGINES = 4 << 20
 FEATURES = ["memory64", "simd", "bulk-memory", "sign-ext", "mutable-globals", "nontrapping-float-to-int"]
 
 
@@ -176,7 +179,8 @@ def make_from(kit: pathlib.Path, code: pathlib.Path | None, crate: pathlib.Path,
         host = functions_of_host() if is_program else []
         for narrow, wide, has_vectors in [(wanted.narrow, wanted.wide, True), (wanted.scalar, None, False)]:
             if narrow:
-                maker = Maker(kit, room, exports, host, stack, has_vectors)
+                own_stack = STACK_IN_ENGINES if has_vectors else stack
+                maker = Maker(kit, room, exports, host, own_stack, has_vectors)
                 maker.compile_code()
                 if wide:
                     maker.make(wide)
@@ -191,7 +195,7 @@ def main() -> None:
     parser.add_argument("folder", type=pathlib.Path)
     parser.add_argument("--code", type=pathlib.Path)
     parser.add_argument("--program-code", type=pathlib.Path)
-    parser.add_argument("--stack", type=int, default=4 << 20)
+    parser.add_argument("--stack", type=int, default=16 << 20)
     asked = parser.parse_args()
     folder: pathlib.Path = asked.folder
     folder.mkdir(parents=True, exist_ok=True)

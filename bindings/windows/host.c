@@ -1,13 +1,14 @@
 /* The functions that bindings/hosts/README.md lists, on Windows, and where bcs.exe begins. They are made of the functions of
    KERNEL32.dll and msvcrt.dll that imports/ lists. */
 #include "windows.h"
+#include "../hosts/statx.h"
 #include <stdbool.h>
 
 /* ---- Errors. */
 
 /* The numbers that the program knows. They are Linux's. */
-enum { ENOENT = 2, EINTR = 4, EIO = 5, EBADF = 9, EAGAIN = 11, ENOMEM = 12, EACCES = 13, ENOTDIR = 20, EINVAL = 22, EMFILE = 24,
-       ENOSPC = 28, ESPIPE = 29, EPIPE = 32, ENAMETOOLONG = 36, ELOOP = 40 };
+enum { ENOENT = 2, EINTR = 4, EIO = 5, EBADF = 9, EAGAIN = 11, ENOMEM = 12, EACCES = 13, EEXIST = 17, ENOTDIR = 20, EINVAL = 22, EMFILE = 24,
+       ENOSPC = 28, ESPIPE = 29, EROFS = 30, EPIPE = 32, ENAMETOOLONG = 36, ELOOP = 40 };
 
 static const struct {
     uint32_t of_windows;
@@ -24,6 +25,9 @@ static const struct {
     {5, EACCES},         /* ERROR_ACCESS_DENIED */
     {32, EACCES},        /* ERROR_SHARING_VIOLATION */
     {33, EACCES},        /* ERROR_LOCK_VIOLATION */
+    {19, EROFS},         /* ERROR_WRITE_PROTECT */
+    {80, EEXIST},        /* ERROR_FILE_EXISTS */
+    {183, EEXIST},       /* ERROR_ALREADY_EXISTS */
     {6, EBADF},          /* ERROR_INVALID_HANDLE */
     {8, ENOMEM},         /* ERROR_NOT_ENOUGH_MEMORY */
     {14, ENOMEM},        /* ERROR_OUTOFMEMORY */
@@ -294,6 +298,12 @@ static unit *path_of(const char *path) {
     return whole;
 }
 
+/* How a file is opened, by the flags of Linux. */
+static uint32_t disposition(int32_t flags) {
+    enum { CREATES = 0x40, CREATES_ONLY = 0x80 };
+    return (flags & CREATES) == 0 ? EXISTING : (flags & CREATES_ONLY) != 0 ? CREATED : EMPTIED;
+}
+
 /* Opens a file to read it, or else to write it from its start. A folder may be opened to read, as on Linux. A pipe's server
    learns who this is, and can't act for them. */
 int32_t open(const char *path, int32_t flags, ...) {
@@ -303,7 +313,7 @@ int32_t open(const char *path, int32_t flags, ...) {
     if (name == NULL) {
         return fails(ENOMEM);
     }
-    const handle file = CreateFileW(name, writes ? WRITING : READING, SHARED_WITH_ALL, NULL, writes ? EMPTIED : EXISTING,
+    const handle file = CreateFileW(name, writes ? WRITING : READING, SHARED_WITH_ALL, NULL, disposition(flags),
                                     (writes ? 0 : EVEN_FOLDERS) | IDENTIFY_ONLY, NULL);
     const int32_t descriptor = (int32_t)(intptr_t)file;
     const int32_t error = file == NO_FILE ? system_fails() : 0;
@@ -359,6 +369,84 @@ int64_t lseek(int32_t file, int64_t offset, int32_t whence) {
         return fails(ESPIPE);
     }
     return SetFilePointerEx(moved, offset, &position, (uint32_t)whence) != 0 ? position : system_fails();
+}
+
+/* Whether a path begins with two slashes and a dot: it names a device or a pipe, whose server would see it opened. */
+static bool names_device(const char *path) {
+    const bool begins = (path[0] == '\\' || path[0] == '/') && (path[1] == '\\' || path[1] == '/');
+    return begins && path[2] == '.' && (path[3] == '\\' || path[3] == '/');
+}
+
+/* Stores what an open file is, with Linux's numbers. Only a disk has files with more than a kind. */
+static int32_t describe(handle file, struct statx *found) {
+    enum { DEVICE = 0020000, FOLDER = 0040000, FILE = 0100000, LINK = 0120000, WRITABLE = 0222, READABLE = 0444 };
+    struct information its;
+    memset(found, 0, sizeof *found);
+    if (file == NULL || GetFileType(file) != DISK) {
+        found->mode = DEVICE | READABLE | WRITABLE;
+        return 0;
+    }
+    if (GetFileInformationByHandle(file, &its) == 0) {
+        return system_fails();
+    }
+    const uint32_t kind = (its.attributes & IS_LINK) != 0 ? LINK : (its.attributes & IS_FOLDER) != 0 ? FOLDER : FILE;
+    found->mode = (uint16_t)(kind | READABLE | ((its.attributes & IS_READ_ONLY) != 0 ? 0 : WRITABLE));
+    found->links = its.links;
+    found->length = (uint64_t)its.length_high << 32 | its.length_low;
+    found->number = (uint64_t)its.index_high << 32 | its.index_low;
+    found->of_device_minor = its.volume;
+    return 0;
+}
+
+int32_t statx(int32_t file, const char *path, int32_t flags, uint32_t mask, struct statx *found) {
+    enum { OF_DESCRIPTOR = 0x1000, OF_LINK = 0x100 /* on Linux */ };
+    (void)mask;
+    if ((flags & OF_DESCRIPTOR) != 0 || names_device(path)) {
+        return describe((flags & OF_DESCRIPTOR) != 0 ? handle_of(file) : NULL, found);
+    }
+    unit *const name = path_of(path);
+    if (name == NULL) {
+        return fails(ENOMEM);
+    }
+    const uint32_t link = (flags & OF_LINK) != 0 ? LINK_ITSELF : 0;
+    const handle opened = CreateFileW(name, 0, SHARED_WITH_ALL, NULL, EXISTING, EVEN_FOLDERS | IDENTIFY_ONLY | link, NULL);
+    const int32_t answer = opened == NO_FILE ? system_fails() : describe(opened, found);
+    free(name);
+    if (opened != NO_FILE) {
+        CloseHandle(opened);
+    }
+    return answer;
+}
+
+int32_t fsync(int32_t file) {
+    return FlushFileBuffers(handle_of(file)) != 0 ? 0 : system_fails();
+}
+
+/* A new file has the rights that its folder gives, so there are none to change. */
+int32_t fchmod(int32_t file, uint32_t mode) {
+    (void)file, (void)mode;
+    return 0;
+}
+
+int32_t fchown(int32_t file, uint32_t owner, uint32_t group) {
+    (void)file, (void)owner, (void)group;
+    return 0;
+}
+
+int32_t rename(const char *from, const char *to) {
+    unit *const old_name = path_of(from), *const new_name = path_of(to);
+    const bool has_memory = old_name != NULL && new_name != NULL;
+    const int32_t answer = !has_memory ? fails(ENOMEM) : MoveFileExW(old_name, new_name, REPLACE_AND_WAIT) != 0 ? 0 : system_fails();
+    free(old_name);
+    free(new_name);
+    return answer;
+}
+
+int32_t unlink(const char *path) {
+    unit *const name = path_of(path);
+    const int32_t answer = name == NULL ? fails(ENOMEM) : DeleteFileW(name) != 0 ? 0 : system_fails();
+    free(name);
+    return answer;
 }
 
 /* There is no such signal: to write to a closed pipe fails. */

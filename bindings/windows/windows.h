@@ -19,11 +19,17 @@ enum {
     INVALID_IS_ERROR_TOO = 8,    /* MB_ERR_INVALID_CHARS */
     COLOURS_BY_SEQUENCES = 4,    /* ENABLE_VIRTUAL_TERMINAL_PROCESSING */
     SHARED_WITH_ALL = 7,         /* FILE_SHARE_READ, _WRITE and _DELETE */
+    CREATED = 1,                 /* CREATE_NEW */
     EMPTIED = 2,                 /* CREATE_ALWAYS */
     EXISTING = 3,                /* OPEN_EXISTING */
     EVEN_FOLDERS = 0x02000000,   /* FILE_FLAG_BACKUP_SEMANTICS */
+    LINK_ITSELF = 0x00200000,    /* FILE_FLAG_OPEN_REPARSE_POINT */
     IDENTIFY_ONLY = 0x00110000,  /* SECURITY_SQOS_PRESENT, SECURITY_IDENTIFICATION */
     DISK = 1,                    /* FILE_TYPE_DISK */
+    IS_READ_ONLY = 0x1,          /* FILE_ATTRIBUTE_READONLY */
+    IS_FOLDER = 0x10,            /* FILE_ATTRIBUTE_DIRECTORY */
+    IS_LINK = 0x400,             /* FILE_ATTRIBUTE_REPARSE_POINT */
+    REPLACE_AND_WAIT = 9,        /* MOVEFILE_REPLACE_EXISTING, MOVEFILE_WRITE_THROUGH */
     PIPE_IS_CLOSED = 109,        /* ERROR_BROKEN_PIPE */
     MESSAGE_IS_LONGER = 234,     /* ERROR_MORE_DATA */
     NO_QUESTIONS = 0x8001,       /* SEM_FAILCRITICALERRORS, SEM_NOOPENFILEERRORBOX */
@@ -36,16 +42,25 @@ enum {
 #define READING 0x80000000u      /* GENERIC_READ */
 #define WRITING 0x40000000u      /* GENERIC_WRITE */
 
+/* BY_HANDLE_FILE_INFORMATION */
+struct information {
+    uint32_t attributes, times[6], volume, length_high, length_low, links, index_high, index_low;
+};
+
 /* KERNEL32.dll */
 int CloseHandle(handle file);
 handle CreateFileW(const unit *name, uint32_t access, uint32_t sharing, void *security, uint32_t how, uint32_t flags, handle like);
+int DeleteFileW(const unit *name);
 void ExitProcess(uint32_t status);
+int FlushFileBuffers(handle file);
 int GetConsoleMode(handle console, uint32_t *mode);
 uint32_t GetEnvironmentVariableW(const unit *name, unit *value, uint32_t room);
+int GetFileInformationByHandle(handle file, struct information *found);
 uint32_t GetFileType(handle file);
 uint32_t GetFullPathNameW(const unit *path, uint32_t room, unit *whole, unit **last);
 uint32_t GetLastError(void);
 handle GetStdHandle(uint32_t which);
+int MoveFileExW(const unit *from, const unit *to, uint32_t how);
 int MultiByteToWideChar(uint32_t page, uint32_t flags, const char *bytes, int length, unit *units, int room);
 int PeekNamedPipe(handle pipe, void *buffer, uint32_t room, uint32_t *length, uint32_t *there, uint32_t *left);
 int ReadConsoleW(handle console, unit *units, uint32_t room, uint32_t *length, void *control);
@@ -64,5 +79,6 @@ int __wgetmainargs(int *count, unit ***words, unit ***environment, int wildcards
 int memcmp(const void *first, const void *second, size_t length);
 void *memcpy(void *to, const void *from, size_t length);
 void *memmove(void *to, const void *from, size_t length);
+void *memset(void *to, int byte, size_t length);
 
 #endif

@@ -48,9 +48,9 @@ link() {
 }
 
 make_program() {
-    compile tools/link/start.c tools/link/processor.c tools/link/program_heap.c
+    compile tools/link/start.c tools/link/processor.c tools/link/program_heap.c tools/link/statx.c
     link "$folder/bcs" -pie --dynamic-linker /lib64/ld-linux-x86-64.so.2 \
-        "$room/start.o" "$room/processor.o" "$room/program_heap.o" "$file" "$kit/c/libos_c.a" "$kit/c/liblibc_c.a"
+        "$room/start.o" "$room/processor.o" "$room/program_heap.o" "$room/statx.o" "$file" "$kit/c/libos_c.a" "$kit/c/liblibc_c.a"
 }
 
 # make_libraries: makes the three libraries. Each static one except libbcs_c.a is one object, so that it exports only the

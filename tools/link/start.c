@@ -1,14 +1,14 @@
 /* Where the program begins. The start files of glibc 2.34 and later ask for a `__libc_start_main` that older systems lack. This
    one asks for the first, which each glibc for x86-64 has, and which leaves to the program what runs before `main`. */
+#include "own_stack.h"
+
 typedef void step(int count, char **words, char **environment);
 
 extern step *const __init_array_start[] __attribute__((visibility("hidden")));
 extern step *const __init_array_end[] __attribute__((visibility("hidden")));
 
-int main(int count, char **words, char **environment);
-
 __asm__(".symver __libc_start_main, __libc_start_main@GLIBC_2.2.5");
-int __libc_start_main(int (*main)(int, char **, char **), int count, char **words, step *before, void (*after)(void),
+int __libc_start_main(int (*begins)(int, char **, char **), int count, char **words, step *before, void (*after)(void),
                       void (*end_of_loader)(void), void *stack);
 
 static void before_main(int count, char **words, char **environment) {
@@ -18,7 +18,7 @@ static void before_main(int count, char **words, char **environment) {
 
 /* The stack holds how many words there are, and then the words. */
 __attribute__((used)) static void begin(long *stack, void (*end_of_loader)(void)) {
-    __libc_start_main(main, (int)*stack, (char **)(stack + 1), before_main, 0, end_of_loader, stack);
+    __libc_start_main(main_on_own_stack, (int)*stack, (char **)(stack + 1), before_main, 0, end_of_loader, stack);
 }
 
 /* The system hands over the stack, and the loader in rdx what is to be called at the end. */

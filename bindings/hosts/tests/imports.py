@@ -15,10 +15,10 @@ from typing import NoReturn
 
 HERE = pathlib.Path(__file__).resolve().parent.parent
 
-# What the programs need of the C library, in place of the functions rattle_.. that a host defines. The last line is
-# for the heap.
+# What the programs need of the C library, in place of the functions that a host defines: rattle_.., and statx, which older
+# systems lack. The last line is for the heap and the stack.
 OF_BOTH = """
-    __errno_location __libc_start_main getenv
+    __errno_location __libc_start_main getenv syscall
     free getrlimit madvise malloc mmap mprotect realloc
 """
 PROGRAM_NEEDS = {"x86_64-linux": f"{OF_BOTH} __write environ", "aarch64-linux": f"{OF_BOTH} strlen"}
@@ -109,8 +109,8 @@ def check_library(folder: pathlib.Path, room: pathlib.Path) -> None:
 
 
 def check_program(folder: pathlib.Path, program: list[str]) -> None:
-    """The program is linked with its host, so the functions that the host calls replace rattle_.."""
-    of_system = [name for name in program if not name.startswith("rattle_")]
+    """The program is linked with its host, so the functions that the host calls replace its own."""
+    of_system = [name for name in program if name != "statx" and not name.startswith("rattle_")]
     expected = [*of_system, *PROGRAM_NEEDS[folder.name].split()]
     same(f"the program in {folder.name}", expected, of_elf("-D", folder / "bcs"))
 

@@ -1,32 +1,33 @@
 -- The status of a job, whether its answer goes to standard output or to a file.
 use Rattle.bcs_tool.proofs.Prelude.{◌≡◌, ◌<◌, arith, inl, inr, ℕ, Bool, List, Option, Some, Job, Outcome, Performs}
-use Rattle.bcs_tool.specs.Delivering.{Delivers, FailsToWrite, Finishes, PrintsAnswer, held_in_part, refused, to_file, to_output, unwritten, without_output, written}
+use Rattle.bcs_tool.specs.Delivering.{Delivers, FailsToStore, Finishes, PrintsAnswer, failed, held_in_part, refused, stored, to_file, to_output, unopened, unstored, without_output}
 use Rattle.bcs_tool.specs.HeldOutput.{held_bytes, ran_out}
+use Rattle.bcs_tool.specs.OutputFile.{Stage}
 use Rattle.bcs_tool.specs.declared.held_output.HeldOutput.{HeldOutput}
 use Rattle.bcs_tool.proofs.EndingLemmas.{report_status}
 
-module _ {S O E F : Type 0} (content : S → Option (List ℕ)) (has_stopped : S → Bool) (allowance : S → ℕ) (taken : O → Option (List ℕ)) (is_failed : O → Bool)
-    (told : E → Option (List ℕ)) (has_failed : E → Bool) (remaining : F → Option (List ℕ)) (contents : F → Option (List ℕ)) where
-  fails_status : (quiet : Bool) (name bytes : List ℕ) (outcome : Outcome) → FailsToWrite contents quiet name bytes outcome → outcome.status ≡ 4
-  fails_status quiet name bytes outcome (inl h) = h.1.fault.status
-  fails_status quiet name bytes outcome (inr h) = h.3.fault.status
+module _ {F S O T E : Type 0} (remaining : F → Option (List ℕ)) (content : S → Option (List ℕ)) (has_stopped : S → Bool) (allowance : S → ℕ)
+    (taken : O → Option (List ℕ)) (is_failed : O → Bool) (stage : T → Stage) (received : T → Option (List ℕ)) (told : E → Option (List ℕ)) (has_failed : E → Bool) where
+  fails_status : (quiet : Bool) (name bytes : List ℕ) (file file' : T) (outcome : Outcome) → FailsToStore stage received quiet name bytes file file' outcome → outcome.status ≡ 4
+  fails_status quiet name bytes file file' outcome (unopened keeps cause is) = is.fault.status
+  fails_status quiet name bytes file file' outcome (unstored part is) = is.fault.status
 
-  delivered_status : (job : Job) (quiet : Bool) (name : List ℕ) (input input' : S) (empty held : HeldOutput) (run : Outcome) (errors errors' : E) (status : ℕ)
+  delivered_status : (job : Job) (quiet : Bool) (name : List ℕ) (input input' : S) (empty held : HeldOutput) (run : Outcome) (file file' : T) (errors errors' : E) (status : ℕ)
       → Performs content has_stopped allowance (λ sink. Some (held_bytes sink)) ran_out remaining job input input' empty held run
-      → Delivers told has_failed contents quiet name held run errors errors' status → status < 5
-  delivered_status job quiet name input input' empty held run errors errors' status performs (held_in_part lost outcome is prints) = omega (arith, prints.0, is.fault.status)
-  delivered_status job quiet name input input' empty held run errors errors' status performs (refused whole bad (inl h)) =
+      → Delivers stage received told has_failed quiet name held run file file' errors errors' status → status < 5
+  delivered_status job quiet name input input' empty held run file file' errors errors' status performs (held_in_part lost stays outcome is prints) = omega (arith, prints.0, is.fault.status)
+  delivered_status job quiet name input input' empty held run file file' errors errors' status performs (refused whole bad stays (inl h)) =
       report_status content has_stopped allowance (λ sink. Some (held_bytes sink)) ran_out remaining job input input' empty held run status performs h.2.0
-  delivered_status job quiet name input input' empty held run errors errors' status performs (refused whole bad (inr h)) =
+  delivered_status job quiet name input input' empty held run file file' errors errors' status performs (refused whole bad stays (inr h)) =
       report_status content has_stopped allowance (λ sink. Some (held_bytes sink)) ran_out remaining job input input' empty held run status performs h.1
-  delivered_status job quiet name input input' empty held run errors errors' status performs (written whole done is prints) =
+  delivered_status job quiet name input input' empty held run file file' errors errors' status performs (stored whole done is prints) =
       report_status content has_stopped allowance (λ sink. Some (held_bytes sink)) ran_out remaining job input input' empty held run status performs prints.0
-  delivered_status job quiet name input input' empty held run errors errors' status performs (unwritten whole done outcome fails prints) =
-      omega (arith, prints.0, fails_status quiet name (held_bytes held) outcome fails)
+  delivered_status job quiet name input input' empty held run file file' errors errors' status performs (failed whole done outcome fails prints) =
+      omega (arith, prints.0, fails_status quiet name (held_bytes held) file file' outcome fails)
 
-  pub finish_status : (job : Job) (input input' : S) (out out' : O) (errors errors' : E) (status : ℕ)
-      → Finishes content has_stopped allowance taken is_failed told has_failed remaining contents job input input' out out' errors errors' status → status < 5
-  finish_status job input input' out out' errors errors' status (to_output none outcome performs prints) =
+  pub finish_status : (job : Job) (input input' : S) (out out' : O) (file file' : T) (errors errors' : E) (status : ℕ)
+      → Finishes remaining content has_stopped allowance taken is_failed stage received told has_failed job input input' out out' file file' errors errors' status → status < 5
+  finish_status job input input' out out' file file' errors errors' status (to_output none stays outcome performs prints) =
       report_status content has_stopped allowance taken is_failed remaining job input input' out out' outcome status performs prints.0
-  finish_status job input input' out out' errors errors' status (to_file name some empty held run a b performs stays delivers) =
-      delivered_status (without_output job) job.options.quiet _ input input' empty held run errors errors' status performs delivers
+  finish_status job input input' out out' file file' errors errors' status (to_file name some empty held run a b performs stays delivers) =
+      delivered_status (without_output job) job.options.quiet _ input input' empty held run file file' errors errors' status performs delivers

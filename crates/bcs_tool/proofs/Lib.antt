@@ -6,6 +6,7 @@ pub mod TallyLemmas
 pub mod RunLemmas
 pub mod ScanLemmas
 pub mod EndingLemmas
+pub mod StoringLemmas
 pub mod DeliveringLemmas
 pub mod Showing
 pub mod PairLemmas

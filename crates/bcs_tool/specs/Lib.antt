@@ -5,6 +5,8 @@ pub mod PairLines
 pub mod Scanning
 pub mod Endings
 pub mod HeldOutput
+pub mod OutputFile
+pub mod SystemFile
 pub mod Delivering
 pub mod Visible
 pub use Rattle.bcs_tool_answers.specs.Validating

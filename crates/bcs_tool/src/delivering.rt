@@ -1,29 +1,37 @@
 //! Where the answer of a job goes: to standard output, or with `--output` to a file.
 ghost use Rattle.std.specs.Prelude.{IfErr, IfOk};
-ghost use Rattle.bcs_tool.specs.Delivering.{Delivers, FailsToWrite, Finishes, IsUnwritten, IsWritten, PrintsAnswer, RanOut};
+ghost use Rattle.bcs_tool.specs.Delivering.{Delivers, FailsToStore, Finishes, IsUnwritten, PrintsAnswer, RanOut};
+ghost use Rattle.bcs_tool.specs.OutputFile.{IsStored};
 ghost use Rattle.bcs_tool_command_line.specs.FaultPlaces.{cause_text};
 
 use crate::held_output::HeldOutput;
+use crate::input_files::InputFiles;
+use crate::output_file::OutputFile;
 use crate::performing::perform;
 use crate::reporting::print_report;
 use crate::running::failed;
-use bcs_io::{ByteSink, ByteSource, WriteSink, put_all};
+use crate::storing::put_in_place;
+use bcs_io::{ByteSink, ByteSource, SinkFailed, put_all};
 use bcs_tool_command_line::{Job, OpenCause, Outcome, UnreadFile, place_of_file};
 use std::alloc::Global;
-use std::env::Env;
-use std::fs::File;
-use std::rt::Files;
 
 /// Does a job, writes its answer to standard output, or to the file of `--output`, and returns the status.
-pub(crate) fn finish<R: Files + Env + AllocGlobal, S: ByteSource, O: ByteSink, E: ByteSink>(
+pub(crate) fn finish<
+    R: InputFiles + AllocGlobal,
+    S: ByteSource,
+    O: ByteSink,
+    T: OutputFile,
+    E: ByteSink,
+>(
     rt: &R,
     mut job: Job,
     input: &mut S,
     out: &mut O,
+    file: &mut T,
     errors: &mut E,
 ) -> u8
-    ensures { Finishes S.content S.is_failed S.allowance O.taken O.is_failed E.taken E.is_failed R.File.remaining R.File.contents
-        job input.old input.new out.old out.new errors.old errors.new result }
+    ensures { Finishes R.File.remaining S.content S.is_failed S.allowance O.taken O.is_failed T.stage T.received E.taken E.is_failed
+        job input.old input.new out.old out.new file.old file.new errors.old errors.new result }
 {
     let quiet = job.options.quiet;
     match job.options.output.take() {
@@ -31,29 +39,39 @@ pub(crate) fn finish<R: Files + Env + AllocGlobal, S: ByteSource, O: ByteSink, E
         Some(name) => {
             let mut held = HeldOutput::new(rt.alloc());
             let run = perform(rt, job, input, &mut held);
-            deliver(rt, quiet, name.as_str(), &held, run, errors)
+            let ends = Ended { held, run, quiet };
+            deliver(rt.alloc(), name.as_str(), ends, file, errors)
         }
     }
 }
 
-// Writes the answer to a file if the run's status is 0. Otherwise it writes the answer to standard error and opens no file.
-fn deliver<R: Files + AllocGlobal, E: ByteSink>(
-    rt: &R,
-    quiet: bool,
-    name: &str,
-    held: &HeldOutput,
+// A run whose answer is held.
+#[derive(Drop)]
+struct Ended {
+    held: HeldOutput,
     run: Outcome,
+    quiet: bool,
+}
+
+// Writes the answer to a file if the run's status is 0. Otherwise it writes the answer to standard error and opens no file.
+fn deliver<T: OutputFile, E: ByteSink>(
+    alloc: Global,
+    name: &str,
+    ended: Ended,
+    file: &mut T,
     errors: &mut E,
 ) -> u8
-    ensures { Delivers E.taken E.is_failed R.File.contents quiet name.now held.now run errors.old errors.new result }
+    ensures { Delivers T.stage T.received E.taken E.is_failed ended.quiet name.now ended.held ended.run
+        file.old file.new errors.old errors.new result }
 {
+    let Ended { held, run, quiet } = ended;
     if held.failed() {
-        return print_report(out_of_memory(rt.alloc()), errors);
+        return print_report(out_of_memory(alloc), errors);
     }
     if run.status != 0 {
         return print_answer(held.bytes(), run, errors);
     }
-    match write_file(rt, quiet, name, held.bytes()) {
+    match store(alloc, quiet, name, held.bytes(), file) {
         Ok(()) => print_report(run, errors),
         Err(outcome) => print_report(outcome, errors),
     }
@@ -69,26 +87,23 @@ fn print_answer<E: ByteSink>(answer: &[u8], run: Outcome, errors: &mut E) -> u8
     }
 }
 
-// Creates a file of this name, or empties it, and writes these bytes.
-fn write_file<R: Files + AllocGlobal>(
-    rt: &R,
+// Gives the file of this name these bytes.
+fn store<T: OutputFile>(
+    alloc: Global,
     quiet: bool,
     name: &str,
     bytes: &[u8],
+    file: &mut T,
 ) -> Result<(), Outcome>
-    ensures whole { IfOk result (λ _. IsWritten R.File.contents bytes.now) }
-    ensures fault { IfErr result (FailsToWrite R.File.contents quiet name.now bytes.now) }
+    ensures whole { IfOk result (λ _. IsStored T.stage T.received name.now bytes.now file.old file.new) }
+    ensures fault { IfErr result (FailsToStore T.stage T.received quiet name.now bytes.now file.old file.new) }
 {
-    let mut file = match File::create(rt, name) {
-        Ok(file) => WriteSink::new(file),
-        Err(error) => {
-            let cause = OpenCause::of(error.kind());
-            return Err(unwritten(rt.alloc(), quiet, name, cause));
-        }
-    };
-    match put_all(bytes, &mut file) {
+    if let Err(cause) = file.open(name) {
+        return Err(unwritten(alloc, quiet, name, cause));
+    }
+    match put_in_place(bytes, file) {
         Ok(()) => Ok(()),
-        Err(_) => Err(unwritten(rt.alloc(), quiet, name, OpenCause::Other)),
+        Err(SinkFailed) => Err(unwritten(alloc, quiet, name, OpenCause::Other)),
     }
 }
 

@@ -9,15 +9,17 @@ ghost use Rattle.bcs_tool.specs.Delivering.{Finishes};
 ghost use Rattle.bcs_tool.specs.Endings.{IsWordsFault, ReportsFault};
 ghost use Rattle.bcs_tool.specs.Visible.{breaks_lines};
 
+use crate::input_files::InputFiles;
+use crate::output_file::OutputFile;
 use crate::reporting::report_fault;
 use crate::responding::respond;
+use crate::system_file::SystemFile;
 use bcs_io::{ByteSink, ByteSource, ReadSource, WriteSink};
 use bcs_tool_command_line::{Job, LineFault};
 use std::env;
 use std::env::Env;
 use std::io::{BufReader, ErrorKind};
 use std::process::ExitCode;
-use std::rt::Files;
 
 /// The whole program on the system's arguments and standard streams. It returns the status.
 pub fn program(rt: &HostRuntime) -> ExitCode
@@ -32,6 +34,7 @@ pub fn program(rt: &HostRuntime) -> ExitCode
             words,
             &mut ReadSource::new(reader),
             &mut out,
+            &mut SystemFile::new(rt),
             &mut errors,
         ),
         Err(_) => report_fault(&LineFault::OutOfMemory, &mut out, &mut errors),
@@ -51,32 +54,33 @@ fn read_ahead(words: &Result<Vec<String>, LineFault>) -> usize {
 }
 
 /// Does what the arguments ask for, or reports why they couldn't be read, and returns the status.
-pub fn start<R: Files + Env + AllocGlobal, S: ByteSource, O: ByteSink, E: ByteSink>(
+pub fn start<R: InputFiles + AllocGlobal, S: ByteSource, O: ByteSink, T: OutputFile, E: ByteSink>(
     rt: &R,
     words: Result<Vec<String>, LineFault>,
     input: &mut S,
     out: &mut O,
+    file: &mut T,
     errors: &mut E,
 ) -> u8
     ensures status { result < 5 }
 
-    // Nothing is read or written, and the fault is reported.
-    ensures no_words { IfErr words (λ fault. (input.new ≡ input.old)
+    // Nothing is read or written, no file is opened for writing, and the fault is reported.
+    ensures no_words { IfErr words (λ fault. (input.new ≡ input.old) × (file.new ≡ file.old)
         × ReportsFault O.taken O.is_failed E.taken E.is_failed true fault out.old out.new errors.old errors.new result) }
 
     // The rest is like `respond`.
     ensures no_job { IfOk words (λ given. ¬ AcceptsArguments (texts_of given.items) → (fault : LineFault)
-        × IsFaultOf (texts_of given.items) fault × (input.new ≡ input.old)
+        × IsFaultOf (texts_of given.items) fault × (input.new ≡ input.old) × (file.new ≡ file.old)
         × ReportsFault O.taken O.is_failed E.taken E.is_failed (not (breaks_lines (texts_of given.items))) fault out.old out.new errors.old errors.new result) }
     ensures job { IfOk words (λ given. AcceptsArguments (texts_of given.items) →
-        ((input.new ≡ input.old) × ReportsFault O.taken O.is_failed E.taken E.is_failed
+        ((input.new ≡ input.old) × (file.new ≡ file.old) × ReportsFault O.taken O.is_failed E.taken E.is_failed
         (not (breaks_lines (texts_of given.items))) LineFault.OutOfMemory out.old out.new errors.old errors.new result)
         ⊎ ((job : Job) × IsJobOf (texts_of given.items) job
-        × Finishes S.content S.is_failed S.allowance O.taken O.is_failed E.taken E.is_failed R.File.remaining R.File.contents
-        job input.old input.new out.old out.new errors.old errors.new result)) }
+        × Finishes R.File.remaining S.content S.is_failed S.allowance O.taken O.is_failed T.stage T.received E.taken E.is_failed
+        job input.old input.new out.old out.new file.old file.new errors.old errors.new result)) }
 {
     match words {
-        Ok(words) => respond(rt, words.as_slice(), input, out, errors),
+        Ok(words) => respond(rt, words.as_slice(), input, out, file, errors),
         Err(fault) => report_fault(&fault, out, errors),
     }
 }

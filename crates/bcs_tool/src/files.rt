@@ -5,31 +5,28 @@ ghost use Rattle.bcs_io.specs.Giving.{Gave, GaveThenFailed};
 ghost use Rattle.bcs_tool_command_line.specs.Files.{size_limit};
 ghost use Rattle.bcs_tool_command_line.specs.Files.{IsFaultOfFiles, IsFileText, IsFirstText, IsInputsOf, IsRefusalOf, IsSecondOf, IsTextOfWord, IsWorkOf, NamesNoFile, file_fault_of, is_registry_text};
 
+use crate::input_files::InputFiles;
 use bcs_io::{ByteSource, ReadSource, TakeFault, take_all};
 use bcs_tool_command_line::limits::SIZE_LIMIT;
 use bcs_tool_command_line::{
     Command, FileFault, FileRefusal, Inputs, Job, JobOptions, OpenCause, UnreadFile, Work,
-    with_color,
 };
 use std::alloc::{AllocError, Global};
-use std::env::Env;
-use std::fs::File;
-use std::rt::Files;
 
 /// The content of the file of this name.
-pub fn read_named<R: Files + AllocGlobal>(rt: &R, name: &str) -> Result<Vec<u8>, FileFault>
+pub fn read_named<R: InputFiles + AllocGlobal>(rt: &R, name: &str) -> Result<Vec<u8>, FileFault>
     ensures within { IfOk result (λ v. vec_len v ≤ size_limit) }
     ensures text { IfOk result (λ v. IsFileText R.File.remaining v.items) }
     ensures fault { IfErr result (IsFaultOfFiles R.File.remaining) }
 {
-    match File::open(rt, name) {
+    match rt.open_to_read(name) {
         Ok(file) => Ok(read_opened(rt.alloc(), &mut ReadSource::new(file))?),
         Err(_) => Err(FileFault::Open),
     }
 }
 
 // The same, with the cause if the file couldn't be opened.
-fn read_file<R: Files + AllocGlobal>(rt: &R, name: &str) -> Result<Vec<u8>, UnreadFile>
+fn read_file<R: InputFiles + AllocGlobal>(rt: &R, name: &str) -> Result<Vec<u8>, UnreadFile>
     ensures within { IfOk result (λ v. vec_len v ≤ size_limit) }
     ensures text { IfOk result (λ v. IsFileText R.File.remaining v.items) }
     ensures fault { IfErr result (λ e. IsFaultOfFiles R.File.remaining (file_fault_of e)) }
@@ -41,7 +38,7 @@ fn read_file<R: Files + AllocGlobal>(rt: &R, name: &str) -> Result<Vec<u8>, Unre
 }
 
 // The fault of the file of this name, with the cause if it couldn't be opened.
-fn unread_file<R: Files + AllocGlobal>(rt: &R, name: &str, fault: FileFault) -> UnreadFile
+fn unread_file<R: InputFiles + AllocGlobal>(rt: &R, name: &str, fault: FileFault) -> UnreadFile
     ensures { file_fault_of result ≡ fault }
 {
     match fault {
@@ -53,8 +50,8 @@ fn unread_file<R: Files + AllocGlobal>(rt: &R, name: &str, fault: FileFault) -> 
 }
 
 // Why a file of this name, which couldn't be opened before, can't be opened now. It is only shown to people.
-fn open_cause<R: Files + AllocGlobal>(rt: &R, name: &str) -> OpenCause {
-    match File::open(rt, name) {
+fn open_cause<R: InputFiles + AllocGlobal>(rt: &R, name: &str) -> OpenCause {
+    match rt.open_to_read(name) {
         Ok(_) => OpenCause::Other,
         Err(error) => OpenCause::of(error.kind()),
     }
@@ -77,7 +74,7 @@ pub fn read_opened<S: ByteSource>(alloc: Global, file: &mut S) -> Result<Vec<u8>
 
 /// The work of a job, and the names of the files of its inputs. It reads the other files that the job names, that of REG or
 /// OLD before that of NEW or A.
-pub fn read_work<R: Files + Env + AllocGlobal>(
+pub fn read_work<R: InputFiles + AllocGlobal>(
     rt: &R,
     job: Job,
 ) -> Result<(Work, Inputs), FileRefusal>
@@ -104,7 +101,7 @@ pub fn read_work<R: Files + Env + AllocGlobal>(
             });
         }
     };
-    let display = with_color(rt, job.command, job.options.display);
+    let display = rt.with_color(job.command, job.options.display);
     let lines = job.options.lines;
     let work = Work {
         command: job.command,
@@ -139,7 +136,7 @@ fn first_name(command: Command, lines: bool, second: String) -> Option<String>
 }
 
 // What a command reads for its second argument, with `--lines` or without: a registry, a file, or nothing.
-fn read_second<R: Files + AllocGlobal>(
+fn read_second<R: InputFiles + AllocGlobal>(
     rt: &R,
     command: Command,
     lines: bool,
@@ -169,7 +166,7 @@ fn read_second<R: Files + AllocGlobal>(
 }
 
 // The content of A, or nothing if its lines are compared.
-fn read_first<R: Files + AllocGlobal>(
+fn read_first<R: InputFiles + AllocGlobal>(
     rt: &R,
     lines: bool,
     name: &str,
@@ -186,7 +183,7 @@ fn read_first<R: Files + AllocGlobal>(
 }
 
 // The JSON of a registry: the argument itself, or the content of the file that it names.
-fn read_registry<R: Files + AllocGlobal>(rt: &R, word: &str) -> Result<Vec<u8>, UnreadFile>
+fn read_registry<R: InputFiles + AllocGlobal>(rt: &R, word: &str) -> Result<Vec<u8>, UnreadFile>
     ensures text { IfOk result (λ v. IsTextOfWord R.File.remaining word.now v.items) }
     ensures fault { IfErr result (λ e. IsFaultOfFiles R.File.remaining (file_fault_of e)) }
     ensures good { is_registry_text word.now ≡ true → IsOkUnless result (UnreadFile.ReadFailed TakeFault.OutOfMemory) }

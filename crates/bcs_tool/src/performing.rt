@@ -4,6 +4,7 @@ ghost use Rattle.bcs_tool.specs.Endings.{IsUnopened, IsUnread, Performs, Perform
 
 use crate::entry::BLOCK;
 use crate::files::read_work;
+use crate::input_files::InputFiles;
 use crate::pair_running::run_pairs;
 use crate::running::{failed, outcome_of, run_from};
 use bcs_io::{ByteSink, ByteSource, ReadSource, TakeFault};
@@ -11,13 +12,10 @@ use bcs_tool_command_line::{
     FileFault, Inputs, Job, OpenCause, Origin, Outcome, UnreadFile, Work, place_of_file,
 };
 use std::alloc::Global;
-use std::env::Env;
-use std::fs::File;
 use std::io::{BufReader, ErrorKind};
-use std::rt::Files;
 
 /// Reads the files that the job names, opens its inputs, and writes the answers.
-pub(crate) fn perform<R: Files + Env + AllocGlobal, S: ByteSource, O: ByteSink>(
+pub(crate) fn perform<R: InputFiles + AllocGlobal, S: ByteSource, O: ByteSink>(
     rt: &R,
     job: Job,
     input: &mut S,
@@ -42,7 +40,7 @@ pub(crate) fn perform<R: Files + Env + AllocGlobal, S: ByteSource, O: ByteSink>(
 }
 
 // Opens the file of the input, if it has one, and writes the answer.
-fn perform_one<R: Files + Env + AllocGlobal, S: ByteSource, O: ByteSink>(
+fn perform_one<R: InputFiles + AllocGlobal, S: ByteSource, O: ByteSink>(
     rt: &R,
     work: &Work,
     file: Option<String>,
@@ -57,7 +55,7 @@ fn perform_one<R: Files + Env + AllocGlobal, S: ByteSource, O: ByteSink>(
     };
     let (alloc, quiet) = (rt.alloc(), work.options.quiet);
     let name = name.as_str();
-    match File::open(rt, name) {
+    match rt.open_to_read(name) {
         Ok(file) => match BufReader::with_capacity(alloc, BLOCK, file) {
             Ok(reader) => run_from(
                 alloc,
@@ -76,7 +74,7 @@ fn perform_one<R: Files + Env + AllocGlobal, S: ByteSource, O: ByteSink>(
 }
 
 // Opens A, and then B, if the job has one, and writes the answers to their lines.
-fn perform_pairs<R: Files + Env + AllocGlobal, S: ByteSource, O: ByteSink>(
+fn perform_pairs<R: InputFiles + AllocGlobal, S: ByteSource, O: ByteSink>(
     rt: &R,
     work: &Work,
     first: &str,
@@ -88,7 +86,7 @@ fn perform_pairs<R: Files + Env + AllocGlobal, S: ByteSource, O: ByteSink>(
         work.now first.now file input.old input.new out.old out.new result }
 {
     let alloc = rt.alloc();
-    let mut lines = match File::open(rt, first) {
+    let mut lines = match rt.open_to_read(first) {
         Ok(file) => ReadSource::new(file),
         Err(error) => return unopened(alloc, work.options.quiet, first, error.kind()),
     };
@@ -98,7 +96,7 @@ fn perform_pairs<R: Files + Env + AllocGlobal, S: ByteSource, O: ByteSink>(
         return outcome_of(alloc, work, result, origin, Origin::StandardInput);
     };
     let name = name.as_str();
-    match File::open(rt, name) {
+    match rt.open_to_read(name) {
         Ok(file) => {
             let result = run_pairs(alloc, work, &mut lines, &mut ReadSource::new(file), out);
             outcome_of(alloc, work, result, origin, Origin::File(name))

@@ -10,38 +10,39 @@ ghost use Rattle.bcs_tool.specs.Visible.{breaks_lines};
 
 use crate::command_line::line;
 use crate::delivering::finish;
+use crate::input_files::InputFiles;
+use crate::output_file::OutputFile;
 use crate::reporting::report_fault_of_words;
 use bcs_io::{ByteSink, ByteSource};
 use bcs_tool_command_line::{Job, LineFault};
-use std::env::Env;
-use std::rt::Files;
 
 /// Does what the arguments ask for, of which the first is the program's own name, and returns the status. `input` is read if
 /// the job has an input and names no file for it.
-pub fn respond<R: Files + Env + AllocGlobal, S: ByteSource, O: ByteSink, E: ByteSink>(
+pub fn respond<R: InputFiles + AllocGlobal, S: ByteSource, O: ByteSink, T: OutputFile, E: ByteSink>(
     rt: &R,
     words: &[String],
     input: &mut S,
     out: &mut O,
+    file: &mut T,
     errors: &mut E,
 ) -> u8
     ensures status { result < 5 }
 
     // The arguments aren't accepted, or ask for help or the version.
     ensures no_job { ¬ AcceptsArguments (texts_of words.now) → (fault : LineFault)
-        × IsFaultOf (texts_of words.now) fault × (input.new ≡ input.old)
+        × IsFaultOf (texts_of words.now) fault × (input.new ≡ input.old) × (file.new ≡ file.old)
         × ReportsFault O.taken O.is_failed E.taken E.is_failed (not (breaks_lines (texts_of words.now))) fault out.old out.new errors.old errors.new result }
 
     // They ask for a job, which is done, unless memory runs out before.
     ensures job { AcceptsArguments (texts_of words.now) →
-        ((input.new ≡ input.old) × ReportsFault O.taken O.is_failed E.taken E.is_failed
+        ((input.new ≡ input.old) × (file.new ≡ file.old) × ReportsFault O.taken O.is_failed E.taken E.is_failed
         (not (breaks_lines (texts_of words.now))) LineFault.OutOfMemory out.old out.new errors.old errors.new result)
         ⊎ ((job : Job) × IsJobOf (texts_of words.now) job
-        × Finishes S.content S.is_failed S.allowance O.taken O.is_failed E.taken E.is_failed R.File.remaining R.File.contents
-        job input.old input.new out.old out.new errors.old errors.new result) }
+        × Finishes R.File.remaining S.content S.is_failed S.allowance O.taken O.is_failed T.stage T.received E.taken E.is_failed
+        job input.old input.new out.old out.new file.old file.new errors.old errors.new result) }
 {
     match line(rt.alloc(), words) {
-        Ok(job) => finish(rt, job, input, out, errors),
+        Ok(job) => finish(rt, job, input, out, file, errors),
         Err(fault) => report_fault_of_words(words, &fault, out, errors),
     }
 }

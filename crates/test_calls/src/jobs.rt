@@ -7,8 +7,8 @@ use crate::words::{bytes, call, number, word_of};
 use bcs_codec::pieces::{PieceSink, PieceSource, RepeatSource};
 use bcs_codec::{DecodeFault, EncodeFault, Reason, Stop, WriteFault};
 use bcs_tool::{
-    ByteSource, Command, FileFault, Interruption, LineFault, OpenCause, Outcome, TakeFault,
-    UnreadFile, Work, line, read_named, respond, run, run_pairs, take_all,
+    ByteSource, Command, FileFault, Interruption, LineFault, OpenCause, Outcome, SystemFile,
+    TakeFault, UnreadFile, Work, line, read_named, respond, run, run_pairs, take_all,
 };
 use std::alloc::{AllocError, Global};
 use std::fmt::Display;
@@ -154,7 +154,9 @@ fn responded<S: ByteSource>(
     let alloc = rt.alloc();
     let mut out = PieceSink::<100>::new(100, call(puts)?);
     let mut errors = PieceSink::<4000>::new(4000, call(reports)?);
-    let status = respond(rt, &args_of(alloc, words)?, input, &mut out, &mut errors);
+    let args = args_of(alloc, words)?;
+    let mut file = SystemFile::new(rt);
+    let status = respond(rt, &args, input, &mut out, &mut file, &mut errors);
     let told = if status == 3 {
         errors.taken().get(..7).unwrap_or_default()
     } else {

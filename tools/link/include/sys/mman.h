@@ -9,6 +9,7 @@
 #define MAP_NORESERVE 0x4000
 #define MAP_FAILED ((void *)-1)
 #define MADV_HUGEPAGE 14
+#define MADV_NOHUGEPAGE 15
 void *mmap(void *at, size_t length, int protection, int flags, int file, long offset);
 int mprotect(void *start, size_t length, int protection);
 int madvise(void *start, size_t length, int advice);

@@ -10,7 +10,7 @@ returns-in-None g c =
     let P : Option (String Global) → Type 0 = λ output. Performs g.S.ByteSource.content g.S.ByteSource.is_failed g.S.ByteSource.allowance
     g.O.ByteSink.taken g.O.ByteSink.is_failed g.R.File.Read.remaining (record c.args.job { options = record c.args.job.options { output = output } })
     c.args.input.now c.perform.new.input c.args.out.now c.perform.new.out c.perform.result in
-    to_output (sym c.in-None.ensures.value) c.perform.result (subst P (c.take.ensures.after ∙ c.in-None.ensures.value) c.perform.ensures) c.print_report.ensures
+    to_output (sym c.in-None.ensures.value) refl c.perform.result (subst P (c.take.ensures.after ∙ c.in-None.ensures.value) c.perform.ensures) c.print_report.ensures
 
 -- a file
 pub returns-in-Some : goal.returns-in-Some
@@ -19,7 +19,7 @@ returns-in-Some g c =
     let P : Option (String Global) → Type 0 = λ output. Performs g.S.ByteSource.content g.S.ByteSource.is_failed g.S.ByteSource.allowance
     (λ sink. Some (held_bytes sink)) ran_out g.R.File.Read.remaining (record c.args.job { options = record c.args.job.options { output = output } })
     c.args.input.now c.perform-run.new.input c.new-held.result held c.perform-run.result in
-    let Q : List ℕ → Type 0 = λ name. Delivers g.E.ByteSink.taken g.E.ByteSink.is_failed g.R.File.Write.contents c.args.job.options.quiet name held c.perform-run.result
-    c.args.errors.now c.deliver.new.errors c.deliver.result in
+    let Q : List ℕ → Type 0 = λ name. Delivers g.T.OutputFile.stage g.T.OutputFile.received g.E.ByteSink.taken g.E.ByteSink.is_failed c.args.job.options.quiet name held c.perform-run.result
+    c.args.file.now c.deliver.new.file c.args.errors.now c.deliver.new.errors c.deliver.result in
     to_file c.in-Some.name (sym c.take.ensures.value ∙ c.in-Some.is) c.new-held.result held c.perform-run.result c.new-held.ensures.empty c.new-held.ensures.fresh
     (subst P c.take.ensures.after c.perform-run.ensures) refl (subst Q c.as_str.ensures.value c.deliver.ensures)

@@ -1,0 +1,134 @@
+//! The new file that takes the place of FILE, the file of `--output`. It gets FILE's mode and owner.
+
+use std::fs;
+use std::fs::{File, Metadata, OpenOptions, Permissions};
+use std::io;
+use std::io::ErrorKind;
+use std::os::fd::AsFd;
+use std::os::unix::fs::{MetadataExt, OpenOptionsExt, PermissionsExt, fchown};
+use std::path::{Path, PathBuf};
+
+// As on Linux.
+const MOST_LINKS: u32 = 40;
+// Each one is left by a run that was killed.
+const MOST_LEFTOVERS: u32 = 1000;
+const RIGHTS: u32 = 0o777;
+const SPECIAL_RIGHTS: u32 = 0o7000;
+
+/// An empty file, its name, and the name of the file that it can replace.
+#[derive(Drop)]
+pub(crate) struct NewFile {
+    pub(crate) file: File,
+    pub(crate) from: PathBuf,
+    pub(crate) to: PathBuf,
+}
+
+/// Makes the new file. There is none if FILE has to be written directly: it isn't a regular file, it has other names or special
+/// rights, or the user may not make a file beside it with its owner. The user has to have the right to write FILE.
+pub(crate) fn new_file(rt: &HostRuntime, name: &str) -> io::Result<Option<NewFile>> {
+    let Some(to) = followed(rt, name)? else {
+        return Ok(None);
+    };
+    let old = match fs::symlink_metadata(rt, to.as_path()) {
+        Ok(old) => Some(old),
+        Err(error) if error.kind() == ErrorKind::NotFound => None,
+        Err(error) => return Err(error),
+    };
+    match &old {
+        Some(old) if is_replaceable(old) => check_right_to_write(rt, to.as_path())?,
+        Some(_) => return Ok(None),
+        None => {}
+    }
+    let (from, file) = match file_beside(rt, to.as_path(), old.is_some()) {
+        Ok(made) => made,
+        Err(error) if is_hindered(error.kind()) => return Ok(None),
+        Err(error) => return Err(error),
+    };
+    if old.is_some_and(|old| take_rights(&file, &old).is_err()) {
+        fs::remove_file(rt, from.as_path())?;
+        return Ok(None);
+    }
+    Ok(Some(NewFile { file, from, to }))
+}
+
+// The name at the end of the links that begin at this name. There is none if a link is none of a folder's, like `/dev/stdout`.
+fn followed(rt: &HostRuntime, name: &str) -> io::Result<Option<PathBuf>> {
+    let mut path = PathBuf::from_str(rt.alloc(), name)?;
+    for _ in 0..MOST_LINKS {
+        match fs::symlink_metadata(rt, path.as_path()) {
+            Ok(found) if found.is_symlink() => {
+                if found.permissions().mode() & RIGHTS != RIGHTS {
+                    return Ok(None);
+                }
+                let target = fs::read_link(rt, path.as_path())?;
+                path.pop();
+                path.push(target.as_path())?;
+            }
+            _ => return Ok(Some(path)),
+        }
+    }
+    Ok(None)
+}
+
+fn is_replaceable(old: &Metadata) -> bool {
+    old.is_file() && old.nlink() == 1 && old.permissions().mode() & SPECIAL_RIGHTS == 0
+}
+
+fn check_right_to_write(rt: &HostRuntime, path: Path<'_>) -> io::Result<()> {
+    OpenOptions::new().write(true).open(rt, path)?;
+    Ok(())
+}
+
+// Makes a file in the same folder, which only the user may read until it has FILE's rights.
+fn file_beside(
+    rt: &HostRuntime,
+    path: Path<'_>,
+    has_rights: bool,
+) -> io::Result<(PathBuf, File)> {
+    let mode = if has_rights { 0o600 } else { 0o666 };
+    for number in 0..MOST_LEFTOVERS {
+        let beside = name_beside(rt, path, number)?;
+        let mut options = OpenOptions::new();
+        options.write(true).create_new(true).mode(mode);
+        match options.open(rt, beside.as_path()) {
+            Ok(file) => return Ok((beside, file)),
+            Err(error) if error.kind() == ErrorKind::AlreadyExists => {}
+            Err(error) => return Err(error),
+        }
+    }
+    Err(io::Error::from(ErrorKind::AlreadyExists))
+}
+
+// `.FILE.bcs-N`, in FILE's folder. If FILE's name may be one of Windows with folders in it, it is `FILE.bcs-N`.
+fn name_beside(rt: &HostRuntime, path: Path<'_>, number: u32) -> io::Result<PathBuf> {
+    let name = path.file_name().unwrap_or("");
+    let dot = if name.contains('\\') || name.contains(':') {
+        ""
+    } else {
+        "."
+    };
+    let beside = format!(in rt.alloc(); "{dot}{name}.bcs-{number}")?;
+    Ok(path.with_file_name(rt.alloc(), beside.as_str())?)
+}
+
+// Whether no file can be made in the folder, though the one that is there may be written.
+fn is_hindered(kind: ErrorKind) -> bool {
+    matches!(
+        kind,
+        ErrorKind::PermissionDenied | ErrorKind::ReadOnlyFilesystem | ErrorKind::InvalidFilename
+    )
+}
+
+// Gives the new file the owner, the group and the mode of the old one, which has to be on the same device.
+fn take_rights(file: &File, old: &Metadata) -> io::Result<()> {
+    let new = file.metadata()?;
+    if new.dev() != old.dev() {
+        return Err(io::Error::from(ErrorKind::CrossesDevices));
+    }
+    if new.uid() != old.uid() || new.gid() != old.gid() {
+        fchown(file.as_fd(), Some(old.uid()), Some(old.gid()))?;
+    }
+    file.set_permissions(Permissions::from_mode(
+        old.permissions().mode() & RIGHTS,
+    ))
+}

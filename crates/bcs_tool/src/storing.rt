@@ -1,0 +1,23 @@
+//! Fills an open file, and gives it its name.
+ghost use Rattle.std.specs.Prelude.{IfErr, IfOk};
+ghost use Rattle.bcs_tool.specs.OutputFile.{IsPut, IsPutInPart};
+
+use crate::output_file::OutputFile;
+use bcs_io::SinkFailed;
+
+/// Writes all of `bytes` to the open file, waits until they are on the disk, and gives it its name.
+pub(crate) fn put_in_place<T: OutputFile>(bytes: &[u8], file: &mut T) -> Result<(), SinkFailed>
+    ensures all { IfOk result (λ _. IsPut T.stage T.received bytes.now file.old file.new) }
+    ensures part { IfErr result (λ _. IsPutInPart T.stage T.received bytes.now file.old file.new) }
+{
+    if let Err(failed) = file.write(bytes) {
+        return Err(failed);
+    }
+    if let Err(failed) = file.sync() {
+        return Err(failed);
+    }
+    if let Err(failed) = file.replace() {
+        return Err(failed);
+    }
+    Ok(())
+}
