@@ -1,17 +1,20 @@
 """Converts Python values to the JSON of docs/FORMAT.md. The format decides what each value becomes.
 
-`Formats` reads the formats of a registry, `json_of` converts a value of one of them, and `Native` converts back.
+`Formats` reads the formats of a registry, and `json_of` converts a value of one of them. `reading` converts back.
 """
 
 from __future__ import annotations
 
+import dataclasses
 import itertools
 import json
-import operator
+import re
 from collections.abc import Mapping
 from typing import Any, Iterator, Optional, Union
 
-__all__ = ["Format", "Formats", "Native", "Rejected", "json_of", "json_of_format", "name_of", "octets_of"]
+from .names import BYTES_OF_OWN_FORM
+
+__all__ = ["Format", "Formats", "Hex", "Rejected", "WORDS", "json_of", "json_of_format", "name_of", "octets_of"]
 
 # The JSON of a value nests at most this deep.
 _NESTING = 100
@@ -19,8 +22,13 @@ _NESTING = 100
 _FORMAT_NESTING = 130
 # No format has wider numbers, and Python doesn't print very wide ones.
 _WIDEST = 128
-# The items of arrays that are read element by element, in the words of the module `struct`. "O" is any object.
-_ITEMS = {*"bBhHiIlLqQnN", "O", *"efdg?"}
+# The items of arrays that are read element by element, in the words of the module `struct`. "O" is any object. The second
+# ones are rejected, by their type where there is an item.
+_INTEGER_ITEMS = {*"bBhHiIlLqQnN", "O"}
+_OTHER_ITEMS = {*"efdg?"}
+# An error shows at most this much of a string.
+_SHOWN = 80
+_ADDRESS = re.compile(f"0x([0-9a-fA-F]{{1,{2 * BYTES_OF_OWN_FORM}}})")
 # A part of a value, with its step in a JSON Pointer and its format.
 _Part = tuple[Union[str, int], "Format", Any]
 _Parts = Optional[Iterator[_Part]]
@@ -28,16 +36,27 @@ _Parts = Optional[Iterator[_Part]]
 _quoted = json.JSONEncoder(ensure_ascii=False).encode
 
 
-class Rejected(Exception):
-    """A value isn't passed to the library: its type is none that the format takes, and then `found` is that type; or it
-    is too wide or nests too deep for any format. `pointer` is its JSON Pointer."""
+@dataclasses.dataclass(frozen=True)
+class Hex:
+    """Bytes as hexadecimal digits of either case, for `encode`: Hex("0aff"). A str is never bytes."""
 
-    def __init__(self, reason: str, expected: str, found: Optional[type] = None) -> None:
-        super().__init__(reason, expected, found)
+    digits: str
+
+    def __post_init__(self) -> None:
+        if not isinstance(self.digits, str):
+            raise TypeError(f"Hex takes a str of digits, not {name_of(type(self.digits))}")
+
+
+class Rejected(Exception):
+    """A value isn't passed to the library: the format doesn't accept its type, and then `found` is that type; or the
+    library couldn't tell what is wrong with it. `at` is its JSON Pointer."""
+
+    def __init__(self, reason: str, message: str, found: Optional[type] = None) -> None:
+        super().__init__(reason, message, found)
         self.reason = reason
-        self.expected = expected if found is None else f"{expected}, not {name_of(found)}"
+        self.message = message if found is None else f"{message}, not {name_of(found)}"
         self.is_type = found is not None
-        self.pointer = ""
+        self.at = ""
 
 
 def name_of(found: type) -> str:
@@ -59,7 +78,7 @@ class Format:
         return self
 
     def wrong(self, value: Any) -> Rejected:
-        return Rejected("BadType", self.takes, type(value))
+        return Rejected("WrongType", self.takes, type(value))
 
 
 def json_of(format: Format, value: Any, nodes: int) -> bytes:
@@ -88,10 +107,13 @@ def json_of(format: Format, value: Any, nodes: int) -> bytes:
                 del steps[1:]
                 raise Rejected("TooManyNodes", f"the value has more nodes than --nodes allows, {nodes}")
     except Rejected as fault:
-        fault.pointer = "".join(f"/{str(step).replace('~', '~0').replace('/', '~1')}" for step in steps[1:])
+        fault.at = "".join(f"/{str(step).replace('~', '~0').replace('/', '~1')}" for step in steps[1:])
         raise
+    text = "".join(out)
+    # (a large value has little room for its pieces beside its text)
+    out.clear()
     # (the library rejects lone surrogates, which aren't UTF-8 and so not JSON)
-    return "".join(out).encode("utf-8", "surrogatepass")
+    return text.encode("utf-8", "surrogatepass")
 
 
 def _text_of(value: str) -> str:
@@ -136,12 +158,16 @@ def octets_of(value: Any) -> Optional[bytes]:
         return view.tobytes() if _is_octets(view) and not hasattr(value, "mask") else None
 
 
-def _digits_of(value: Any) -> Optional[str]:
-    """The JSON of bytes, or of a string of their hexadecimal digits."""
-    if isinstance(value, str):
-        return _text_of(value)
+def _put_octets(value: Any, out: list[str]) -> bool:
+    """Writes bytes, or Hex. Large ones are hundreds of megabytes, so their digits aren't copied here."""
+    if isinstance(value, Hex):
+        out.append(_text_of(value.digits))
+        return True
     octets = octets_of(value)
-    return None if octets is None else f'"{octets.hex()}"'
+    if octets is None:
+        return False
+    out += ['"', octets.hex(), '"']
+    return True
 
 
 def _elements_of(value: Any) -> Optional[list[Any]]:
@@ -150,9 +176,12 @@ def _elements_of(value: Any) -> Optional[list[Any]]:
     if view is None:
         return None
     with view:
-        if not view.shape or _is_octets(view) or _item_of(view) not in _ITEMS:
+        item = _item_of(view)
+        if not view.shape or _is_octets(view) or item not in _INTEGER_ITEMS | _OTHER_ITEMS:
             return None
         count = view.shape[0]
+        if item in _OTHER_ITEMS and 0 in view.shape:
+            return None
     try:
         found = list(itertools.islice(value, count + 1))
     except (TypeError, NotImplementedError):
@@ -190,17 +219,6 @@ class _Text(Format):
         return None
 
 
-class _Bytes(Format):
-    takes = "BYTES takes bytes or hexadecimal digits"
-
-    def open(self, value: Any, out: list[str]) -> _Parts:
-        digits = _digits_of(value)
-        if digits is None:
-            raise self.wrong(value)
-        out.append(digits)
-        return None
-
-
 class _Unsupported(Format):
     """`F32`, `F64`, `CHAR`, and newtypes that hold themselves. The library rejects every value of these."""
 
@@ -212,62 +230,136 @@ class _Unsupported(Format):
 class _Number(Format):
     """Numbers become strings of digits, since the library's JSON numbers end at 64 bits."""
 
-    def __init__(self, word: str) -> None:
+    def __init__(self, word: str, bits: int, is_signed: bool) -> None:
         self._word = word
         self.takes = f"{word} takes an int"
+        self.least = -(2 ** (bits - 1)) if is_signed else 0
+        self.most = self.least + 2**bits - 1
 
     def open(self, value: Any, out: list[str]) -> _Parts:
-        if type(value) is int:
-            number = value
-        elif isinstance(value, str):
-            out.append(_text_of(value))
-            return None
-        else:
-            number = self._int_of(value)
+        number = self.int_of(value)
+        # (the library checks the range)
         if number.bit_length() > _WIDEST:
             raise self._out_of_range()
         out.append(f'"{number}"')
         return None
 
-    def _int_of(self, value: Any) -> int:
+    def int_of(self, value: Any) -> int:
+        if type(value) is int:
+            return value
         if isinstance(value, int) and not isinstance(value, bool):
             return int.__index__(value)
         # (numpy.bool_ has an __index__ in some versions, and an array of numpy that hides its one item)
         if type(value).__name__ in ("bool", "bool_") or hasattr(value, "mask"):
             raise self.wrong(value)
         try:
-            return int.__index__(operator.index(value))
-        except TypeError as fault:
+            # (`operator.index` makes an int of a bool)
+            number = type(value).__index__(value)
+        except (AttributeError, TypeError) as fault:
             raise self.wrong(value) from fault
+        if isinstance(number, bool) or not isinstance(number, int):
+            raise self.wrong(value)
+        return int.__index__(number)
+
+    def in_range(self, value: Any) -> int:
+        """The same, where the library can't check the range."""
+        number = self.int_of(value)
+        if not self.least <= number <= self.most:
+            raise self._out_of_range()
+        return number
 
     def _out_of_range(self) -> Rejected:
-        bits, least = int(self._word[1:]), 0
-        if self._word[0] == "I":
-            bits, least = bits - 1, -(2 ** (bits - 1))
-        return Rejected("BadNumber", f"wanted a whole number from {least} to {2**bits - 1} ({self._word})")
+        return Rejected("BadNumber", f"wanted a whole number from {self.least} to {self.most} ({self._word})")
 
 
-class _List(Format):
-    """SEQ and TUPLEARRAY. The library checks the number of items."""
+class _OwnInteger(_Number):
+    """A container of 32 bytes that is an integer."""
 
-    def __init__(self, word: str, element: Format, is_of_octets: bool) -> None:
-        self._element = element
-        self._is_of_octets = is_of_octets
-        self.takes = (
-            f"{word} of U8 takes bytes, hexadecimal digits or a list of int" if is_of_octets else f"{word} takes a list"
-        )
+    def __init__(self, word: str, is_signed: bool) -> None:
+        super().__init__(word, 8 * BYTES_OF_OWN_FORM, is_signed)
+        self._is_signed = is_signed
+
+    def open(self, value: Any, out: list[str]) -> _Parts:
+        number = self.in_range(value)
+        out.append(f'"{number.to_bytes(BYTES_OF_OWN_FORM, "little", signed=self._is_signed).hex()}"')
+        return None
+
+
+class _Address(Format):
+    """A container of 32 bytes that is an address."""
+
+    def __init__(self, word: str) -> None:
+        self._word = word
+        self.takes = f'{word} takes a str "0x.." or {BYTES_OF_OWN_FORM} bytes'
+
+    def open(self, value: Any, out: list[str]) -> _Parts:
+        if isinstance(value, str):
+            out.append(f'"{self._digits_of(str.__str__(value))}"')
+        elif not _put_octets(value, out):
+            raise self.wrong(value)
+        return None
+
+    def _digits_of(self, text: str) -> str:
+        found = _ADDRESS.fullmatch(text)
+        if found is None:
+            shown = f", not {ascii(text)}" if len(text) <= _SHOWN else ""
+            raise Rejected("BadHex", f"{self._word} takes 0x and 1 to {2 * BYTES_OF_OWN_FORM} digits{shown}")
+        return found[1].zfill(2 * BYTES_OF_OWN_FORM)
+
+
+class _Octets(Format):
+    """BYTES, and SEQ and TUPLEARRAY of U8. The library checks the number of bytes."""
+
+    def __init__(self, word: str) -> None:
+        self.takes = f"{word} takes bytes, or Hex(…) for digits"
 
     def open(self, value: Any, out: list[str]) -> _Parts:
         items = _items_of(value)
-        digits = _digits_of(value) if items is None and self._is_of_octets else None
-        if digits is not None:
-            out.append(digits)
+        if items is None and _put_octets(value, out):
             return None
-        if items is None and isinstance(self._element.resolved(), (_Number, _List)):
+        if items is None:
             items = _elements_of(value)
         if items is None:
             raise self.wrong(value)
-        if not (isinstance(self._element, _Number) and _are_plain(items)):
+        return self._parts(items, out)
+
+    def _parts(self, items: list[Any], out: list[str]) -> Iterator[_Part]:
+        """Items are converted one by one, if not all are bytes; their digits are written at the end."""
+        octets = _Octet()
+        try:
+            octets.found += bytes(items) if {*map(type, items)} <= {int} else b""
+        except ValueError:
+            pass
+        for number, item in enumerate(items[len(octets.found) :]):
+            yield number, octets, item
+        out += ['"', octets.found.hex(), '"']
+
+
+class _Octet(Format):
+    """Bytes that are given as ints."""
+
+    def __init__(self) -> None:
+        self.found = bytearray()
+
+    def open(self, value: Any, out: list[str]) -> _Parts:
+        self.found.append(_U8.in_range(value))
+        return None
+
+
+class _List(Format):
+    """SEQ and TUPLEARRAY of other formats. The library checks the number of items."""
+
+    def __init__(self, word: str, element: Format) -> None:
+        self._element = element
+        self.takes = f"{word} takes a list"
+
+    def open(self, value: Any, out: list[str]) -> _Parts:
+        items = _items_of(value)
+        if items is None and isinstance(self._element.resolved(), (_Number, _List, _Octets)):
+            items = _elements_of(value)
+        if items is None:
+            raise self.wrong(value)
+        if not (type(self._element) is _Number and _are_plain(items)):
             return self._parts(items, out)
         out.append('["' + '","'.join(map(str, items)) + '"]' if items else "[]")
         return None
@@ -314,7 +406,7 @@ class _Map(Format):
     takes = "MAP takes a dict or a list of pairs"
 
     def __init__(self, key: Format, value: Format) -> None:
-        self._entries = _List("MAP", _Row([key, value], "an entry of a MAP takes a pair"), False)
+        self._entries = _List("MAP", _Row([key, value], "an entry of a MAP takes a pair"))
 
     def open(self, value: Any, out: list[str]) -> _Parts:
         if isinstance(value, Mapping):
@@ -345,7 +437,7 @@ class _Object(Format):
             return members
         for kind in kinds:
             if not issubclass(kind, str):
-                raise Rejected("BadType", f"{self._word} takes names that are str", kind)
+                raise Rejected("WrongType", f"{self._word} takes names that are str", kind)
         named = {str.__str__(name): part for name, part in members.items()}
         if len(named) < len(members):
             raise self.wrong(value)
@@ -451,9 +543,11 @@ def _is_like_some(kind: str, inner: Any) -> bool:
 
 _UNSUPPORTED = _Unsupported()
 _UNSUPPORTED_WORDS = ("CHAR", "F32", "F64")
-_WORDS: dict[str, Format] = {
-    **{"UNIT": _Unit(), "BOOL": _Bool(), "STR": _Text(), "BYTES": _Bytes()},
-    **{word: _Number(word) for word in (f"{sign}{8 << width}" for sign in "UI" for width in range(5))},
+_U8 = _Number("U8", 8, False)
+# The formats without parts.
+WORDS: dict[str, Format] = {
+    **{"UNIT": _Unit(), "BOOL": _Bool(), "STR": _Text(), "BYTES": _Octets("BYTES")},
+    **{f"{sign}{bits}": _Number(f"{sign}{bits}", bits, sign == "I") for sign in "UI" for bits in (8, 16, 32, 64, 128)},
     **{word: _UNSUPPORTED for word in _UNSUPPORTED_WORDS},
 }
 
@@ -461,17 +555,19 @@ _WORDS: dict[str, Format] = {
 class Formats:
     """The formats of a registry. The library has checked the registry, and each format that is asked for."""
 
-    def __init__(self, containers: Mapping[str, Any]) -> None:
+    def __init__(self, containers: Mapping[str, Any], own_forms: Mapping[str, str]) -> None:
+        """`own_forms` has the kinds of the containers with a form of their own."""
         self._containers = containers
         self._named: dict[str, Format] = {}
+        self._own = {name: _own_format(name, kind) for name, kind in own_forms.items()}
 
     def format(self, format: Any) -> Format:
         """Of a format's JSON."""
         if isinstance(format, str):
-            return _WORDS[format]
+            return WORDS[format]
         ((kind, inner),) = format.items()
         if kind == "TYPENAME":
-            return self._named.setdefault(inner, _Named(self, inner))
+            return self._own.get(inner) or self._named.setdefault(inner, _Named(self, inner))
         if kind == "OPTION":
             return _Option(self.format(inner), self.is_plain(inner))
         if kind == "TUPLE":
@@ -479,7 +575,7 @@ class Formats:
         if kind == "MAP":
             return _Map(self.format(inner["KEY"]), self.format(inner["VALUE"]))
         element = inner["CONTENT"] if kind == "TUPLEARRAY" else inner
-        return _List(kind, self.format(element), element == "U8")
+        return _Octets(f"{kind} of U8") if element == "U8" else _List(kind, self.format(element))
 
     def is_plain(self, format: Any) -> bool:
         """Whether an option of this format may be written as None or its value: the value is never None, and never a
@@ -508,13 +604,15 @@ class Formats:
             seen.add(name)
             container = self._containers[name]
             if container == "UNITSTRUCT":
-                return _WORDS["UNIT"]
+                return WORDS["UNIT"]
             ((kind, inner),) = container.items()
             if kind != "NEWTYPESTRUCT":
                 return self._content(kind, inner)
             if isinstance(inner, str) or "TYPENAME" not in inner:
                 return self.format(inner)
             name = inner["TYPENAME"]
+            if name in self._own:
+                return self._own[name]
         return _UNSUPPORTED
 
     def _content(self, kind: str, inner: Any) -> Format:
@@ -529,12 +627,16 @@ class Formats:
 
     def _payload(self, payload: Any) -> Format:
         if isinstance(payload, str):
-            return _WORDS[payload]
+            return WORDS[payload]
         ((kind, inner),) = payload.items()
         return self._content(kind, inner)
 
     def _row(self, kind: str, formats: list[Any]) -> Format:
         return _Row([self.format(format) for format in formats], f"{kind} takes a list or tuple")
+
+
+def _own_format(name: str, kind: str) -> Format:
+    return _Address(name) if kind == "address" else _OwnInteger(name, kind[0] == "i")
 
 
 def json_of_format(format: Mapping[str, Any]) -> bytes:
@@ -570,63 +672,3 @@ def _name_in_format(name: Any) -> str:
     if not isinstance(name, str):
         raise TypeError(f"names in a registry or format are str, not {name_of(type(name))}")
     return str.__str__(name)
-
-
-_WIDE_NUMBERS = {"U64", "U128", "I64", "I128"}
-
-
-class Native:
-    """Walks through a format and the JSON of one of its values, which the library made. It recurses at most 100 levels
-    deep, like the JSON; the loop follows newtypes of newtypes."""
-
-    def __init__(self, containers: Mapping[str, Any], plain_options: Optional[Formats] = None) -> None:
-        """With `plain_options`, an option is None or its value wherever these formats say that this is clear."""
-        self._containers = containers
-        self._plain_options = plain_options
-
-    def value(self, format: Any, found: Any) -> Any:
-        while not isinstance(format, str):
-            ((kind, inner),) = format.items()
-            if kind != "TYPENAME":
-                return self._part(kind, inner, found)
-            container = self._containers[inner]
-            if container == "UNITSTRUCT":
-                return found
-            ((kind, inner),) = container.items()
-            if kind != "NEWTYPESTRUCT":
-                return self._content(kind, inner, found)
-            format = inner
-        if format in _WIDE_NUMBERS:
-            return int(found)
-        return bytes.fromhex(found) if format == "BYTES" else found
-
-    def _part(self, kind: str, inner: Any, found: Any) -> Any:
-        if kind == "OPTION":
-            return None if found is None else self._some(inner, self.value(inner, found["some"]))
-        if kind == "TUPLE":
-            return self._row(inner, found)
-        if kind == "MAP":
-            return [[self.value(inner["KEY"], key), self.value(inner["VALUE"], held)] for key, held in found]
-        element = inner["CONTENT"] if kind == "TUPLEARRAY" else inner
-        return bytes.fromhex(found) if isinstance(found, str) else [self.value(element, part) for part in found]
-
-    def _some(self, format: Any, value: Any) -> Any:
-        return value if self._plain_options and self._plain_options.is_plain(format) else {"some": value}
-
-    def _content(self, kind: str, inner: Any, found: Any) -> Any:
-        if kind == "NEWTYPE":
-            return self.value(inner, found)
-        if kind in ("TUPLESTRUCT", "TUPLE"):
-            return self._row(inner, found)
-        if kind == "STRUCT":
-            return {name: self.value(of, found[name]) for field in inner for name, of in field.items()}
-        return found if isinstance(found, str) else self._variant(inner, found)
-
-    def _variant(self, variants: Mapping[str, Any], found: Any) -> Any:
-        ((name, payload),) = found.items()
-        (carried,) = [variant[name] for variant in variants.values() if name in variant]
-        ((kind, inner),) = carried.items()
-        return {name: self._content(kind, inner, payload)}
-
-    def _row(self, formats: list[Any], found: list[Any]) -> list[Any]:
-        return [self.value(format, part) for format, part in zip(formats, found)]

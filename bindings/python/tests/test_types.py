@@ -33,7 +33,7 @@ class NoValue(Exception):
 
 
 class Values:
-    """Random values of a registry's containers, as `decode` with `native` gives them."""
+    """Random values of a registry's containers, as `decode` returns them."""
 
     def __init__(self, containers: dict[str, Any]) -> None:
         self._containers = containers
@@ -117,7 +117,7 @@ def random_values(name: str, containers: dict[str, Any], plain_options: bool = F
             except TextError as fault:
                 assert fault.reason == "RepeatedKey", fault
                 continue
-            back = registry.decode(Name[Any](container), data, native=True, plain_options=plain_options)
+            back = registry.decode(Name[Any](container), data, plain_options=plain_options)
             assert registry.encode({"TYPENAME": container}, back) == data
             lines.append(f"value{len(lines)}: {module}.{own} = {ascii(back)}")
     return lines
@@ -183,8 +183,8 @@ class Types(unittest.TestCase):
         usage = "Usage: python -m bcs_proved.types [--plain-options] REGISTRY > registry.py\n"
         unknown = '{"A":{"NEWTYPESTRUCT":{"TYPENAME":"B"}}}'
         cases: list[tuple[int, str, list[str]]] = [
-            (2, "no registry: UnknownName at A: no container is called B\n", [unknown]),
-            (2, "no registry: NotJson at line 1, column 1: the text stops being JSON there\n", ["{"]),
+            (2, "refused: UnknownName at A: no container is called B\n", [unknown]),
+            (2, "refused: NotJson at line 1, column 1: the text stops being JSON there\n", ["{"]),
             (3, usage, []),
             (3, usage, ["a.json", "b.json"]),
             (3, usage, ["--other"]),

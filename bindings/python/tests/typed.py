@@ -56,13 +56,13 @@ def width_of(tag: aptos.TypeTag) -> int:
 
 def right() -> None:
     assert APTOS.encode("RawTransaction", transfer) == bytes_of("aptos_transfer.hex")
-    back: aptos.RawTransaction = APTOS.decode("RawTransaction", bytes_of("aptos_transfer.hex"), native=True)
+    back: aptos.RawTransaction = APTOS.decode("RawTransaction", bytes_of("aptos_transfer.hex"))
     assert back == transfer and back["sequence_number"] + 1 == 12 and name_of(back["payload"]) == "coin"
     assert (width_of("U8"), width_of({"Vector": "U64"}), width_of(coin)) == (8, 64, 9)
-    staked: sui.TransactionData = SUI.decode("TransactionData", bytes_of("sui_stake.hex"), native=True)
+    staked: sui.TransactionData = SUI.decode("TransactionData", bytes_of("sui_stake.hex"))
     assert staked["V1"]["gas_data"]["budget"] > 0 and SUI.encode("TransactionData", staked) == bytes_of("sui_stake.hex")
     prices: shapes.Prices = [["a", {"some": 7}], ["b", None]]
-    assert SHAPES.decode("Prices", SHAPES.encode("Prices", prices), native=True) == prices
+    assert SHAPES.decode("Prices", SHAPES.encode("Prices", prices)) == prices
     some: list[shapes.Shape] = [
         "Dot",
         {"Box": [1, 2]},
@@ -71,7 +71,7 @@ def right() -> None:
         {"Maybe": {"some": "Dot"}},
     ]
     assert (
-        SHAPES.decode({"SEQ": {"TYPENAME": "Shape"}}, SHAPES.encode({"SEQ": {"TYPENAME": "Shape"}}, some), native=True)
+        SHAPES.decode({"SEQ": {"TYPENAME": "Shape"}}, SHAPES.encode({"SEQ": {"TYPENAME": "Shape"}}, some))
         == some
     )
     chain: shapes.Chain = {"value": 1, "next": {"some": {"value": 2, "next": None}}}
@@ -82,9 +82,9 @@ def right() -> None:
 
 def named(data: bytes) -> None:
     """The names as formats have the types of the values."""
-    back = APTOS.decode(aptos.RAW_TRANSACTION, data, native=True)
+    back = APTOS.decode(aptos.RAW_TRANSACTION, data)
     assert back["sequence_number"] + 1 == 12 and APTOS.encode(aptos.RAW_TRANSACTION, back) == data
-    front, length = APTOS.decode_prefix(aptos.RAW_TRANSACTION, data + b"more", native=True)
+    front, length = APTOS.decode_prefix(aptos.RAW_TRANSACTION, data + b"more")
     assert front["chain_id"] == 4 and length == len(data)
     plain = SHAPES.decode(plain_shapes.CHAIN, b"\1\1\2\0", plain_options=True)
     assert plain["next"] == {"value": 2, "next": None} and SHAPES.encode(plain_shapes.CHAIN, plain) == b"\1\1\2\0"
@@ -96,9 +96,9 @@ def wrong_names(data: bytes, chain: plain_shapes.Chain) -> None:
     APTOS.encode(aptos.RAW_TRANSACTION, {"sender": one})  # error: Cannot infer type argument 1 of "encode"
     APTOS.encode(aptos.RAW_TRANSACTION, 7)  # error: Cannot infer type argument 1 of "encode"
     SHAPES.encode(shapes.CHAIN, chain)  # error: Cannot infer type argument 1 of "encode"
-    one_field: str = APTOS.decode(aptos.RAW_TRANSACTION, data, native=True)["chain_id"]  # error: Incompatible types
-    APTOS.decode(aptos.RAW_TRANSACTION, data, native=True)["fee"]  # error: has no key "fee"
-    APTOS.decode_prefix(aptos.RAW_TRANSACTION, data, native=True)[0]["fee"]  # error: has no key "fee"
+    one_field: str = APTOS.decode(aptos.RAW_TRANSACTION, data)["chain_id"]  # error: Incompatible types
+    APTOS.decode(aptos.RAW_TRANSACTION, data)["fee"]  # error: has no key "fee"
+    APTOS.decode_prefix(aptos.RAW_TRANSACTION, data)[0]["fee"]  # error: has no key "fee"
     SHAPES.decode(plain_shapes.CHAIN, data, plain_options=True)["fee"]  # error: has no key "fee"
     some: plain_shapes.Prices = [["a", {"some": 7}]]  # error: List item 1 has incompatible type
     print(one_field, some)
