@@ -22,7 +22,7 @@ __all__ = [
 class BcsError(Exception):
     """A refusal. As a string it is one line: "refused: BadNumber at /amount: wanted a whole number ..".
 
-    `kind` is what is refused, one word for each subclass. `reason` is the fault's name, such as "BadBool", and empty for
+    `kind` is what is refused, a word for each subclass. `reason` is the fault's name, such as "BadBool", and empty for
     limits and stacks. `place` is the offset where bytes stop being a value, and None for everything else.
 
     `at` says where the fault is: a JSON Pointer, such as "/payload/args/1", for values and JSON; a field path, such as

@@ -154,7 +154,9 @@ class Library:
             raise KeyError(fault)
         return str(name, "ascii")
 
-    def require(self, answer: Answer, refused: type[BcsError], report: Optional[Report] = None, prefix: str = "") -> None:
+    def require(
+        self, answer: Answer, refused: type[BcsError], report: Optional[Report] = None, prefix: str = ""
+    ) -> None:
         """Raises the error that an answer means, unless it is DONE. `refused` is the error for the input, and `report`
         makes the call that says where it is refused; `prefix` is how that location begins, whatever the input is."""
         if answer.status == Status.DONE:

@@ -100,7 +100,10 @@ class Readers:
 
 
 def _each(read: Read) -> Read:
-    return None if read is None else lambda found: [*map(read, found)]
+    if read is None:
+        return None
+    of_one = read
+    return lambda found: [*map(of_one, found)]
 
 
 def _option(read: Read, is_plain: bool) -> Read:

@@ -348,9 +348,7 @@ class Registry:
     def normalise_json(self, format: Format, text: Text, limits: Optional[Limits] = None) -> str:
         """The one normal JSON document of the value that a JSON document represents. Raises TextError if it represents
         none."""
-        return str(
-            self._put_text(self._question(format, limits), "bcs_handle_normalise", bytes_of_text(text)), "utf-8"
-        )
+        return str(self._put_text(self._question(format, limits), "bcs_handle_normalise", bytes_of_text(text)), "utf-8")
 
     def equal(self, format: Format, first: Any, second: Any, limits: Optional[Limits] = None) -> bool:
         """Whether two values are equal, maps being finite maps. Raises TextError if one isn't a value of the format."""
@@ -389,9 +387,7 @@ class Registry:
         question = self._question(format, limits, data)
         answer = question.ask("bcs_handle_part", data, len(data), steps, len(steps))
         if answer.status == Status.PATH:
-            self._library.require(
-                answer, BytesError, self._library.report("bcs_path_place", steps, len(steps)), "PATH"
-            )
+            self._library.require(answer, BytesError, self._library.report("bcs_path_place", steps, len(steps)), "PATH")
         return self._part(question, answer, data)
 
     def part_by_name(self, format: Format, data: Data, name: str, limits: Optional[Limits] = None) -> Optional[Part]:

@@ -22,8 +22,8 @@ _NESTING = 100
 _FORMAT_NESTING = 130
 # No format has wider numbers, and Python doesn't print very wide ones.
 _WIDEST = 128
-# The items of arrays that are read element by element, in the words of the module `struct`. "O" is any object. The second
-# ones are rejected, by their type where there is an item.
+# The items of arrays that are read element by element, in the words of the module `struct`. "O" is any object. Items
+# of the second kind are rejected by their own type, and an array without items as it is.
 _INTEGER_ITEMS = {*"bBhHiIlLqQnN", "O"}
 _OTHER_ITEMS = {*"efdg?"}
 # An error shows at most this much of a string.

@@ -1,7 +1,6 @@
 """The transactions of examples/, and the README's example."""
 
 import doctest
-import json
 import pathlib
 import threading
 import unittest

@@ -184,7 +184,7 @@ class Handles(unittest.TestCase):
                 registry.close()
                 return answer
 
-            library.ask = closing  # type: ignore[method-assign]
+            library.ask = closing  # type: ignore[assignment]
             with self.subTest(call=number):
                 self.assertEqual(told(call, registry), told(call, Registry("{}")))
                 self.assertIsNone(registry._handle)

@@ -451,7 +451,6 @@ class Memory(unittest.TestCase):
         self.assertEqual(len(registry.encode(self.UNITS, units)), 3)
         self.assertEqual((Limits.standard().depth, Limits.standard().nodes), (500, 2**32 - 1))
 
-
     def test_long_names(self) -> None:
         """Three bytes announce 40,000 structs of 20 units, and a decoded value repeats their names. The longer these
         are, the fewer nodes are allowed."""
@@ -485,7 +484,8 @@ class Memory(unittest.TestCase):
             "assert found == (data if sys.argv[1:] else value)\n"
             "print((peak() - before) / 2 ** 25)\n"
         )
-        for words in [["encode"], []]:
+        calls: list[list[str]] = [["encode"], []]
+        for words in calls:
             told = run("-c", script, *words)
             self.assertEqual((told.returncode, told.stderr), (0, ""))
             self.assertLess(float(told.stdout), 5.2)

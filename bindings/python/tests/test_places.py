@@ -16,9 +16,7 @@ class Places(unittest.TestCase):
     def setUp(self) -> None:
         self.registry = Registry(SHAPES)
 
-    def tells(
-        self, error: type[BcsError], at: str, message: str, call: Any, *words: Any
-    ) -> BcsError:
+    def tells(self, error: type[BcsError], at: str, message: str, call: Any, *words: Any) -> BcsError:
         with self.assertRaises(error) as raised:
             call(*words)
         self.assertEqual((raised.exception.at, raised.exception.message), (at, message))

@@ -133,7 +133,8 @@ class Values:
     def _integer(self, bits: int, is_signed: bool) -> int:
         least = -(2 ** (bits - 1)) if is_signed else 0
         most = least + 2**bits - 1
-        return self._draw.choice([0, 1, least, most, self._draw.randint(least, most)])
+        number: int = self._draw.choice([0, 1, least, most, self._draw.randint(least, most)])
+        return number
 
     def _leaf(self, word: str) -> Drawn:
         if word == "UNIT":

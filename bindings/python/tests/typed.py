@@ -6,6 +6,8 @@ import sys
 from typing import Any, Union
 
 import aptos
+import move
+import plain_move
 import plain_shapes
 import shapes
 import sui
@@ -16,6 +18,7 @@ EXAMPLES = ROOT / "examples"
 APTOS = Registry(EXAMPLES / "aptos_registry.json")
 SUI = Registry(EXAMPLES / "sui_registry.json")
 SHAPES = Registry(ROOT / "bindings/web/tests/shapes.json")
+MOVE = Registry(ROOT / "bindings/python/tests/move.json", names={"address": ["address", "Account"]})
 
 
 def bytes_of(name: str) -> bytes:
@@ -70,10 +73,7 @@ def right() -> None:
         {"Bare": {}},
         {"Maybe": {"some": "Dot"}},
     ]
-    assert (
-        SHAPES.decode({"SEQ": {"TYPENAME": "Shape"}}, SHAPES.encode({"SEQ": {"TYPENAME": "Shape"}}, some))
-        == some
-    )
+    assert SHAPES.decode({"SEQ": {"TYPENAME": "Shape"}}, SHAPES.encode({"SEQ": {"TYPENAME": "Shape"}}, some)) == some
     chain: shapes.Chain = {"value": 1, "next": {"some": {"value": 2, "next": None}}}
     tree: shapes.Tree = [[], [[]]]
     assert SHAPES.encode("Chain", chain) == b"\1\1\2\0" and SHAPES.encode("Tree", tree) == b"\2\0\1\0"
@@ -90,6 +90,33 @@ def named(data: bytes) -> None:
     assert plain["next"] == {"value": 2, "next": None} and SHAPES.encode(plain_shapes.CHAIN, plain) == b"\1\1\2\0"
     prices: plain_shapes.Prices = [["a", 7], ["b", None]]
     assert SHAPES.decode(plain_shapes.PRICES, SHAPES.encode(plain_shapes.PRICES, prices), plain_options=True) == prices
+
+
+def moved() -> None:
+    """Addresses are strings, and integers of 256 bits are int, also within other types."""
+    coin: move.Coin = {
+        "owner": f"0x{2:064x}",
+        "value": 2**255,
+        "digest": bytes(32),
+        "next": {"some": f"0x{1:064x}"},
+        "debts": [[f"0x{1:064x}", -1]],
+        "history": [1, 2],
+    }
+    data = MOVE.encode(move.COIN, coin)
+    back = MOVE.decode(move.COIN, data)
+    assert back == coin and back["value"] + sum(back["history"]) == 2**255 + 3 and back["owner"].startswith("0x")
+    plain = MOVE.decode(plain_move.COIN, data, plain_options=True)
+    assert plain["next"] == f"0x{1:064x}" and MOVE.encode(plain_move.COIN, plain) == data
+    sent: move.Event = {"Sent": [f"0x{1:064x}", 7]}
+    assert MOVE.decode("Event", MOVE.encode("Event", sent)) == sent
+
+
+def wrong_moves(coin: move.Coin) -> None:
+    owner: move.Account = bytes(32)  # error: (expression has type "bytes", variable has type "str")
+    value: move.u256 = "7"  # error: (expression has type "str", variable has type "int")
+    history: list[bytes] = coin["history"]  # error: Incompatible types
+    digest: str = coin["digest"]  # error: Incompatible types
+    print(owner, value, history, digest)
 
 
 def wrong_names(data: bytes, chain: plain_shapes.Chain) -> None:
@@ -156,3 +183,4 @@ def wrong(script: aptos.Script, back: aptos.RawTransaction, prices: shapes.Price
 
 if __name__ == "__main__":
     right()
+    moved()
