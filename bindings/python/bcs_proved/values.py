@@ -9,8 +9,8 @@ import dataclasses
 import itertools
 import json
 import re
-from collections.abc import Mapping
-from typing import Any, Iterator, Optional, Union
+from collections.abc import Generator, Mapping
+from typing import Any, Optional, Union
 
 from .names import BYTES_OF_OWN_FORM
 
@@ -26,12 +26,14 @@ _WIDEST = 128
 # of the second kind are rejected by their own type, and an array without items as it is.
 _INTEGER_ITEMS = {*"bBhHiIlLqQnN", "O"}
 _OTHER_ITEMS = {*"efdg?"}
+# So often the limit on nodes is checked in a list.
+_UNCHECKED = 1000
 # An error shows at most this much of a string.
 _SHOWN = 80
 _ADDRESS = re.compile(f"0x([0-9a-fA-F]{{1,{2 * BYTES_OF_OWN_FORM}}})")
-# A part of a value, with its step in a JSON Pointer and its format.
-_Part = tuple[Union[str, int], "Format", Any]
-_Parts = Optional[Iterator[_Part]]
+# What writes the parts of an array or object: it comes to each part that is one, too. Where a part is rejected, it adds
+# the step to it.
+_Writing = Generator["_Writing", None, None]
 # (`ensure_ascii` would turn two lone surrogates into one character)
 _quoted = json.JSONEncoder(ensure_ascii=False).encode
 
@@ -49,14 +51,19 @@ class Hex:
 
 class Rejected(Exception):
     """A value isn't passed to the library: the format doesn't accept its type, and then `found` is that type; or the
-    library couldn't tell what is wrong with it. `at` is its JSON Pointer."""
+    library couldn't tell what is wrong with it. `at` is its JSON Pointer, which `steps` has from its end."""
 
     def __init__(self, reason: str, message: str, found: Optional[type] = None) -> None:
         super().__init__(reason, message, found)
         self.reason = reason
         self.message = message if found is None else f"{message}, not {name_of(found)}"
         self.is_type = found is not None
-        self.at = ""
+        # from the value to the one that holds it all
+        self.steps: list[Union[str, int]] = []
+
+    @property
+    def at(self) -> str:
+        return "".join(f"/{str(step).replace('~', '~0').replace('/', '~1')}" for step in reversed(self.steps))
 
 
 def name_of(found: type) -> str:
@@ -68,9 +75,9 @@ class Format:
 
     takes = ""
 
-    def open(self, value: Any, out: list[str]) -> _Parts:
-        """Writes a scalar, or returns the parts of an array or object, which writes brackets and commas as they are
-        taken. The value itself is copied first, since converting its parts may run the caller's code."""
+    def open(self, value: Any, out: list[str]) -> Optional[_Writing]:
+        """Writes a scalar, or returns what writes an array or object. The value itself is copied first, since
+        converting its parts may run the caller's code."""
         raise NotImplementedError
 
     def resolved(self) -> Format:
@@ -85,35 +92,44 @@ def json_of(format: Format, value: Any, nodes: int) -> bytes:
     """The JSON of a value, unless it surely has more nodes than this. Raises Rejected. It doesn't recurse, so deep
     values need no stack."""
     out: list[str] = []
-    # (a node has at most four pieces of text, like an empty list that is the key or value in a map)
-    most = 4 * nodes + 4
-    levels: list[Iterator[_Part]] = [iter([("", format, value)])]
-    steps: list[Union[str, int]] = [""]
-    try:
-        while levels:
-            for steps[-1], format, value in levels[-1]:
-                parts = format.open(value, out)
-                if parts is not None:
-                    levels.append(parts)
-                    steps.append("")
-                    break
-            else:
-                levels.pop()
-                steps.pop()
-            if len(levels) > _NESTING + 1:
-                del steps[1:]
-                raise Rejected("TooNested", f"arrays and objects nest more than {_NESTING} deep")
-            if len(out) > most:
-                del steps[1:]
-                raise Rejected("TooManyNodes", f"the value has more nodes than --nodes allows, {nodes}")
-    except Rejected as fault:
-        fault.at = "".join(f"/{str(step).replace('~', '~0').replace('/', '~1')}" for step in steps[1:])
-        raise
+    # (a node has at most five pieces of text, like bytes that are the key or value in a map)
+    most = 5 * nodes + 5
+    inner = format.open(value, out)
+    levels = [] if inner is None else [inner]
+    while levels:
+        if len(levels) > _NESTING:
+            raise Rejected("TooNested", f"arrays and objects nest more than {_NESTING} deep")
+        if len(out) > most:
+            raise Rejected("TooManyNodes", f"the value has more nodes than --nodes allows, {nodes}")
+        try:
+            inner = next(levels[-1], None)
+        except Rejected as fault:
+            raise _with_steps(levels[:-1], fault) from fault.__cause__
+        if inner is None:
+            levels.pop()
+        else:
+            levels.append(inner)
+    if len(out) > most:
+        raise Rejected("TooManyNodes", f"the value has more nodes than --nodes allows, {nodes}")
     text = "".join(out)
     # (a large value has little room for its pieces beside its text)
     out.clear()
     # (the library rejects lone surrogates, which aren't UTF-8 and so not JSON)
     return text.encode("utf-8", "surrogatepass")
+
+
+def _with_steps(levels: list[_Writing], fault: Rejected) -> Rejected:
+    """Passes a rejection through what it is in."""
+    for level in reversed(levels):
+        try:
+            level.throw(fault)
+        except Rejected:
+            continue
+    return fault
+
+
+def _nothing() -> _Writing:
+    yield from ()
 
 
 def _text_of(value: str) -> str:
@@ -160,12 +176,11 @@ def octets_of(value: Any) -> Optional[bytes]:
 
 def _put_octets(value: Any, out: list[str]) -> bool:
     """Writes bytes, or Hex. Large ones are hundreds of megabytes, so their digits aren't copied here."""
-    if isinstance(value, Hex):
-        out.append(_text_of(value.digits))
-        return True
-    octets = octets_of(value)
+    octets = value if type(value) is bytes else octets_of(value)
     if octets is None:
-        return False
+        if isinstance(value, Hex):
+            out.append(_text_of(value.digits))
+        return isinstance(value, Hex)
     out += ['"', octets.hex(), '"']
     return True
 
@@ -192,7 +207,7 @@ def _elements_of(value: Any) -> Optional[list[Any]]:
 class _Unit(Format):
     takes = "UNIT takes None"
 
-    def open(self, value: Any, out: list[str]) -> _Parts:
+    def open(self, value: Any, out: list[str]) -> Optional[_Writing]:
         if value is not None:
             raise self.wrong(value)
         out.append("null")
@@ -202,7 +217,7 @@ class _Unit(Format):
 class _Bool(Format):
     takes = "BOOL takes a bool"
 
-    def open(self, value: Any, out: list[str]) -> _Parts:
+    def open(self, value: Any, out: list[str]) -> Optional[_Writing]:
         if value is not True and value is not False:
             raise self.wrong(value)
         out.append("true" if value else "false")
@@ -212,7 +227,7 @@ class _Bool(Format):
 class _Text(Format):
     takes = "STR takes a str"
 
-    def open(self, value: Any, out: list[str]) -> _Parts:
+    def open(self, value: Any, out: list[str]) -> Optional[_Writing]:
         if not isinstance(value, str):
             raise self.wrong(value)
         out.append(_text_of(value))
@@ -222,7 +237,7 @@ class _Text(Format):
 class _Unsupported(Format):
     """`F32`, `F64`, `CHAR`, and newtypes that hold themselves. The library rejects every value of these."""
 
-    def open(self, value: Any, out: list[str]) -> _Parts:
+    def open(self, value: Any, out: list[str]) -> Optional[_Writing]:
         out.append("null")
         return None
 
@@ -236,7 +251,7 @@ class _Number(Format):
         self.least = -(2 ** (bits - 1)) if is_signed else 0
         self.most = self.least + 2**bits - 1
 
-    def open(self, value: Any, out: list[str]) -> _Parts:
+    def open(self, value: Any, out: list[str]) -> Optional[_Writing]:
         number = self.int_of(value)
         # (the library checks the range)
         if number.bit_length() > _WIDEST:
@@ -279,7 +294,7 @@ class _OwnInteger(_Number):
         super().__init__(word, 8 * BYTES_OF_OWN_FORM, is_signed)
         self._is_signed = is_signed
 
-    def open(self, value: Any, out: list[str]) -> _Parts:
+    def open(self, value: Any, out: list[str]) -> Optional[_Writing]:
         number = self.in_range(value)
         out.append(f'"{number.to_bytes(BYTES_OF_OWN_FORM, "little", signed=self._is_signed).hex()}"')
         return None
@@ -292,7 +307,7 @@ class _Address(Format):
         self._word = word
         self.takes = f'{word} takes a str "0x.." or {BYTES_OF_OWN_FORM} bytes'
 
-    def open(self, value: Any, out: list[str]) -> _Parts:
+    def open(self, value: Any, out: list[str]) -> Optional[_Writing]:
         if isinstance(value, str):
             out.append(f'"{self._digits_of(str.__str__(value))}"')
         elif not _put_octets(value, out):
@@ -313,37 +328,29 @@ class _Octets(Format):
     def __init__(self, word: str) -> None:
         self.takes = f"{word} takes bytes, or Hex(…) for digits"
 
-    def open(self, value: Any, out: list[str]) -> _Parts:
-        items = _items_of(value)
-        if items is None and _put_octets(value, out):
+    def open(self, value: Any, out: list[str]) -> Optional[_Writing]:
+        if not isinstance(value, (list, tuple)) and _put_octets(value, out):
             return None
+        items = _items_of(value)
         if items is None:
             items = _elements_of(value)
         if items is None:
             raise self.wrong(value)
-        return self._parts(items, out)
-
-    def _parts(self, items: list[Any], out: list[str]) -> Iterator[_Part]:
-        """Items are converted one by one, if not all are bytes; their digits are written at the end."""
-        octets = _Octet()
-        try:
-            octets.found += bytes(items) if {*map(type, items)} <= {int} else b""
-        except ValueError:
-            pass
-        for number, item in enumerate(items[len(octets.found) :]):
-            yield number, octets, item
-        out += ['"', octets.found.hex(), '"']
-
-
-class _Octet(Format):
-    """Bytes that are given as ints."""
-
-    def __init__(self) -> None:
-        self.found = bytearray()
-
-    def open(self, value: Any, out: list[str]) -> _Parts:
-        self.found.append(_U8.in_range(value))
+        out += ['"', _octets_of_items(items).hex(), '"']
         return None
+
+
+def _octets_of_items(items: list[Any]) -> bytes:
+    octets = bytearray()
+    try:
+        if {*map(type, items)} <= {int} and 0 <= min(items, default=0) and max(items, default=0) <= _U8.most:
+            return bytes(items)
+        for item in items:
+            octets.append(_U8.in_range(item))
+    except Rejected as fault:
+        fault.steps.append(len(octets))
+        raise
+    return bytes(octets)
 
 
 class _List(Format):
@@ -353,23 +360,32 @@ class _List(Format):
         self._element = element
         self.takes = f"{word} takes a list"
 
-    def open(self, value: Any, out: list[str]) -> _Parts:
+    def open(self, value: Any, out: list[str]) -> Optional[_Writing]:
         items = _items_of(value)
         if items is None and isinstance(self._element.resolved(), (_Number, _List, _Octets)):
             items = _elements_of(value)
         if items is None:
             raise self.wrong(value)
         if not (type(self._element) is _Number and _are_plain(items)):
-            return self._parts(items, out)
+            return self._writing(items, out)
         out.append('["' + '","'.join(map(str, items)) + '"]' if items else "[]")
         return None
 
-    def _parts(self, items: list[Any], out: list[str]) -> Iterator[_Part]:
+    def _writing(self, items: list[Any], out: list[str]) -> _Writing:
+        number, element = 0, self._element
         out.append("[")
-        for number, item in enumerate(items):
-            if number:
-                out.append(",")
-            yield number, self._element, item
+        try:
+            for number, item in enumerate(items):
+                if number:
+                    out.append(",")
+                inner = element.open(item, out)
+                if inner is not None:
+                    yield inner
+                elif number % _UNCHECKED == _UNCHECKED - 1:
+                    yield _nothing()
+        except Rejected as fault:
+            fault.steps.append(number)
+            raise
         out.append("]")
 
 
@@ -385,20 +401,27 @@ class _Row(Format):
         self._formats = formats
         self.takes = takes
 
-    def open(self, value: Any, out: list[str]) -> _Parts:
+    def open(self, value: Any, out: list[str]) -> Optional[_Writing]:
         items = _items_of(value)
         if items is None:
             raise self.wrong(value)
-        return self._parts(items, out)
+        return self._writing(items, out)
 
-    def _parts(self, items: list[Any], out: list[str]) -> Iterator[_Part]:
+    def _writing(self, items: list[Any], out: list[str]) -> _Writing:
         """If the number of items is wrong, the library gets nulls, and rejects their number."""
+        number = 0
         out.append("[")
         formats = self._formats if len(items) == len(self._formats) else [_UNSUPPORTED] * len(items)
-        for number, (format, item) in enumerate(zip(formats, items)):
-            if number:
-                out.append(",")
-            yield number, format, item
+        try:
+            for number, item in enumerate(items):
+                if number:
+                    out.append(",")
+                inner = formats[number].open(item, out)
+                if inner is not None:
+                    yield inner
+        except Rejected as fault:
+            fault.steps.append(number)
+            raise
         out.append("]")
 
 
@@ -408,7 +431,7 @@ class _Map(Format):
     def __init__(self, key: Format, value: Format) -> None:
         self._entries = _List("MAP", _Row([key, value], "an entry of a MAP takes a pair"))
 
-    def open(self, value: Any, out: list[str]) -> _Parts:
+    def open(self, value: Any, out: list[str]) -> Optional[_Writing]:
         if isinstance(value, Mapping):
             value = [(key, value[key]) for key in [*value]]
         elif not isinstance(value, (list, tuple)):
@@ -451,22 +474,28 @@ class _Struct(_Object):
     takes = "STRUCT takes a dict"
 
     def __init__(self, fields: list[tuple[str, Format]]) -> None:
-        self._fields = [(name, f"{_quoted(name)}:", format) for name, format in fields]
+        self._fields = [(name, f"{{{_quoted(name)}:", f",{_quoted(name)}:", format) for name, format in fields]
 
-    def open(self, value: Any, out: list[str]) -> _Parts:
-        return self._parts(self._members_of(value), out)
+    def open(self, value: Any, out: list[str]) -> Optional[_Writing]:
+        return self._writing(self._members_of(value), out)
 
-    def _parts(self, members: dict[str, Any], out: list[str]) -> Iterator[_Part]:
-        before = "{"
-        for name, head, format in self._fields:
-            if name in members:
-                out.append(before + head)
-                before = ","
-                yield name, format, members.pop(name)
+    def _writing(self, members: dict[str, Any], out: list[str]) -> _Writing:
+        name, is_first = "", True
+        try:
+            for name, first_head, head, format in self._fields:
+                if name in members:
+                    out.append(first_head if is_first else head)
+                    is_first = False
+                    inner = format.open(members.pop(name), out)
+                    if inner is not None:
+                        yield inner
+        except Rejected as fault:
+            fault.steps.append(name)
+            raise
         for name in members:
-            out.append(f"{before}{_quoted(name)}:null")
-            before = ","
-        out.append("}" if before == "," else "{}")
+            out.append(f"{'{' if is_first else ','}{_quoted(name)}:null")
+            is_first = False
+        out.append("{}" if is_first else "}")
 
 
 class _Tagged(_Object):
@@ -476,23 +505,29 @@ class _Tagged(_Object):
         self._word = word
         self._variants = variants
 
-    def _parts(self, members: dict[str, Any], out: list[str]) -> Iterator[_Part]:
-        before = "{"
-        for name, part in members.items():
-            out.append(f"{before}{_quoted(name)}:")
-            before = ","
-            yield name, self._variants.get(name, _UNSUPPORTED), part
+    def _writing(self, members: dict[str, Any], out: list[str]) -> _Writing:
+        name, before = "", "{"
+        try:
+            for name, part in members.items():
+                out.append(f"{before}{_quoted(name)}:")
+                before = ","
+                inner = self._variants.get(name, _UNSUPPORTED).open(part, out)
+                if inner is not None:
+                    yield inner
+        except Rejected as fault:
+            fault.steps.append(name)
+            raise
         out.append("}" if members else "{}")
 
 
 class _Enum(_Tagged):
     takes = "ENUM takes a variant's name or a dict of one variant"
 
-    def open(self, value: Any, out: list[str]) -> _Parts:
+    def open(self, value: Any, out: list[str]) -> Optional[_Writing]:
         if isinstance(value, str):
             out.append(_text_of(value))
             return None
-        return self._parts(self._members_of(value), out)
+        return self._writing(self._members_of(value), out)
 
 
 class _Option(_Tagged):
@@ -504,18 +539,18 @@ class _Option(_Tagged):
         self._is_plain = is_plain
         self.takes = f'OPTION takes None{", a value" if is_plain else ""} or {{"some": value}}'
 
-    def open(self, value: Any, out: list[str]) -> _Parts:
+    def open(self, value: Any, out: list[str]) -> Optional[_Writing]:
         if value is None:
             out.append("null")
             return None
         if not self._is_plain:
-            return self._parts(self._members_of(value), out)
+            return self._writing(self._members_of(value), out)
         if isinstance(value, Mapping):
             # (it is read once, since reading it may run the caller's code)
             value = self._members_of(value)
             if [*value] == ["some"] or not isinstance(self._inner.resolved(), _Object):
-                return self._parts(value, out)
-        return self._parts({"some": value}, out)
+                return self._writing(value, out)
+        return self._writing({"some": value}, out)
 
 
 class _Named(Format):
@@ -526,7 +561,7 @@ class _Named(Format):
         self._name = name
         self._held: Optional[Format] = None
 
-    def open(self, value: Any, out: list[str]) -> _Parts:
+    def open(self, value: Any, out: list[str]) -> Optional[_Writing]:
         return (self._held or self.resolved()).open(value, out)
 
     def resolved(self) -> Format:
