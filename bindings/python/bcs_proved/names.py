@@ -8,7 +8,7 @@ from typing import Any, Optional
 __all__ = ["BYTES_OF_OWN_FORM", "own_forms"]
 
 BYTES_OF_OWN_FORM = 32
-# Each kind is also its default name, as `bcs from-move` writes it.
+# Each kind is also its default name, which is that of Move's type.
 _KINDS = ("address", "u256", "i256")
 _OF_32_BYTES = {"NEWTYPESTRUCT": {"TUPLEARRAY": {"CONTENT": "U8", "SIZE": BYTES_OF_OWN_FORM}}}
 

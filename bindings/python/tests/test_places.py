@@ -4,7 +4,28 @@ import pickle
 import unittest
 from typing import Any
 
-from bcs_proved import BcsError, BytesError, Hex, Registry, RegistryError, TextError, ValueTypeError
+from bcs_proved import (
+    BcsError,
+    BytesError,
+    ExampleError,
+    FormatError,
+    GrowthError,
+    Hex,
+    LimitsError,
+    PathError,
+    Registry,
+    RegistryError,
+    StackError,
+    TextError,
+    ValueTypeError,
+)
+
+REFUSALS: list[type[BcsError]] = [
+    *[RegistryError, FormatError, LimitsError, TextError, ValueTypeError, BytesError, PathError, GrowthError],
+    *[ExampleError, StackError],
+]
+# The words that all languages have. A newer registry is refused when it is opened, as "registry".
+KINDS = ["registry", "growth", "format", "limits", "text", "bytes", "path", "example", "value", "stack"]
 
 SHAPES = {
     "Point": {"STRUCT": [{"x": "U8"}, {"~/": {"SEQ": "BYTES"}}]},
@@ -76,6 +97,48 @@ class Places(unittest.TestCase):
             b"\1",
         )
         self.tells(BytesError, "[0]", "wanted BOOL", self.registry.part, {"SEQ": "BOOL"}, b"\1\2", ".")
+
+    def test_strings_are_strings(self) -> None:
+        """Whether a string is accepted doesn't depend on what it looks like."""
+        registry = Registry({"Note": {"STRUCT": [{"memo": {"SEQ": "U8"}}, {"fee": "U64"}]}})
+        for digits in ["1234", "cafe", "000000", "69b71d", "hello", ""]:
+            with self.assertRaises(ValueTypeError) as raised:
+                registry.encode("Note", {"memo": digits, "fee": 7})
+            words = "SEQ of U8 takes bytes, or Hex(…) for digits, not str"
+            self.assertEqual(str(raised.exception), f"refused: WrongType at /memo: {words}")
+            with self.assertRaises(ValueTypeError) as raised:
+                registry.encode("Note", {"memo": b"", "fee": digits})
+            self.assertEqual(str(raised.exception), "refused: WrongType at /fee: U64 takes an int, not str")
+        self.assertEqual(registry.encode("Note", {"memo": Hex("cafe"), "fee": 7})[:3], b"\2\xca\xfe")
+        with self.assertRaises(TypeError):
+            Hex(b"cafe")  # type: ignore[arg-type]
+
+    def test_hints(self) -> None:
+        """A format without parts isn't a container's name."""
+        for word in ["U64", "BYTES", "F32"]:
+            hint = f"""; for the format {word}, write '"{word}"'"""
+            self.tells(FormatError, "", f"no container is called {word}{hint}", self.registry.encode, word, 5)
+        self.tells(FormatError, "", "no container is called Payment", self.registry.encode, "Payment", 5)
+
+    def test_kinds(self) -> None:
+        """Each class of refusals has a kind of its own, and is pickled with all that it says."""
+        kinds = [error.kind for error in REFUSALS]
+        self.assertEqual(sorted(kinds), sorted(KINDS))
+        for error in REFUSALS:
+            fault = error("BadBool", 7, ".a", "wanted BOOL")
+            again = pickle.loads(pickle.dumps(fault))
+            self.assertEqual((type(again), again.args, str(again)), (error, fault.args, str(fault)))
+        for fault, line in [
+            (BytesError("BadBool", 7, ".a", "wanted BOOL"), "refused: BadBool at byte 7, .a: wanted BOOL"),
+            (BytesError("BadBool", 0), "refused: BadBool at byte 0"),
+            (TextError("BadNumber", None, "/a", "found 7"), "refused: BadNumber at /a: found 7"),
+            (
+                TextError("MissingField", message="no member is called a"),
+                "refused: MissingField: no member is called a",
+            ),
+            (StackError("", message="too little stack"), "refused: too little stack"),
+        ]:
+            self.assertEqual(str(fault), line)
 
     def test_registries(self) -> None:
         for text, at, message in [

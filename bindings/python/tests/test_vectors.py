@@ -62,6 +62,8 @@ class Lines(unittest.TestCase):
             if text is not None:
                 self.assertEqual(registry.encode_json(format, text), data)
             self.assertEqual(registry.scan(format, data, limits), len(data))
+            if "json" in line:
+                self.assertEqual(registry.encode(format, registry.decode(format, data)), data)
         elif "text" in line:
             with self.assertRaises(TextError) as raised:
                 registry.encode_json(format, line["text"])
