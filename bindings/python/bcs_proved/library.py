@@ -95,6 +95,9 @@ _LARGE = 1 << 18
 _IS_WINDOWS = sys.platform == "win32"
 _LIBRARY, _BUILD = ("bcs.dll", "bindings/windows/build.sh") if _IS_WINDOWS else ("libbcs.so", "bindings/c/build.sh")
 
+# A mapping of memory that other processes don't see.
+_PRIVATE: dict[str, int] = {} if _IS_WINDOWS else {"flags": mmap.MAP_PRIVATE | mmap.MAP_ANONYMOUS}
+
 # Makes a call that reports where an input is refused.
 Report = Callable[[], "tuple[Answer, memoryview]"]
 
@@ -200,7 +203,7 @@ def _room_of(size: int) -> Union[bytearray, mmap.mmap]:
     if size < _LARGE:
         return bytearray(max(size, 1))
     try:
-        return mmap.mmap(-1, size)
+        return mmap.mmap(-1, size, **_PRIVATE)
     except (OSError, OverflowError) as fault:
         raise MemoryError from fault
 

@@ -75,11 +75,11 @@ class Registry:
         else:
             self._library = library if isinstance(library, Library) else Library(library)
         self._handle: Optional[Handle] = self._opened(text)
-        self._names = names
+        self._names: Optional[Names] = None
         if names is not None:
             self._names = {kind: own if isinstance(own, str) else [*own] for kind, own in names.items()}
             # (names that the registry doesn't have are rejected at once)
-            self._own_forms  # noqa: B018
+            own_forms(self._containers, self._names)
         self._known_formats: dict[bytes, values.Format] = {}
         self._known_readers: dict[tuple[bytes, bool], Read] = {}
 
@@ -433,19 +433,23 @@ class Registry:
 
     def _read(self, question: Question, text: memoryview, plain_options: bool) -> Any:
         """The value of a format that normal JSON represents."""
-        wanted = question.format, plain_options
-        if wanted not in self._known_readers:
-            if len(self._known_readers) >= _MOST_FORMATS:
-                self._known_readers.clear()
-            readers = self._readers[plain_options]
-            self._known_readers[wanted] = readers.format(json.loads(question.format.decode()))
-        read = self._known_readers[wanted]
+        read = self._reader_of(question.format, plain_options)
         # (a large document has little room for copies of itself)
         with text:
             document = str(text, "utf-8")
         found = json.loads(document)
         del document
         return found if read is None else read(found)
+
+    def _reader_of(self, format: bytes, plain_options: bool) -> Read:
+        try:
+            return self._known_readers[format, plain_options]
+        except KeyError:
+            if len(self._known_readers) >= _MOST_FORMATS:
+                self._known_readers.clear()
+            read = self._readers[plain_options].format(json.loads(format.decode()))
+            self._known_readers[format, plain_options] = read
+            return read
 
     def _json_of(self, question: Question, value: Any) -> bytes:
         """The JSON of a value. The library's answer about the format comes before what is wrong with the value."""

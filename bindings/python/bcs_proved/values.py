@@ -10,7 +10,7 @@ import itertools
 import json
 import re
 from collections.abc import Generator, Mapping
-from typing import Any, Optional, Union
+from typing import Any, Optional, Union, final
 
 from .names import BYTES_OF_OWN_FORM
 
@@ -38,6 +38,7 @@ _Writing = Generator["_Writing", None, None]
 _quoted = json.JSONEncoder(ensure_ascii=False).encode
 
 
+@final
 @dataclasses.dataclass(frozen=True)
 class Hex:
     """Bytes as hexadecimal digits of either case, for `encode`: Hex("0aff"). A str is never bytes."""
@@ -109,8 +110,6 @@ def json_of(format: Format, value: Any, nodes: int) -> bytes:
             levels.pop()
         else:
             levels.append(inner)
-    if len(out) > most:
-        raise Rejected("TooManyNodes", f"the value has more nodes than --nodes allows, {nodes}")
     text = "".join(out)
     # (a large value has little room for its pieces beside its text)
     out.clear()
@@ -178,9 +177,10 @@ def _put_octets(value: Any, out: list[str]) -> bool:
     """Writes bytes, or Hex. Large ones are hundreds of megabytes, so their digits aren't copied here."""
     octets = value if type(value) is bytes else octets_of(value)
     if octets is None:
-        if isinstance(value, Hex):
-            out.append(_text_of(value.digits))
-        return isinstance(value, Hex)
+        if type(value) is not Hex:
+            return False
+        out.append(_text_of(value.digits))
+        return True
     out += ['"', octets.hex(), '"']
     return True
 
