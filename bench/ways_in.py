@@ -16,6 +16,7 @@ import sys
 import tempfile
 import time
 from collections.abc import Callable
+from typing import Any
 
 ROOT = pathlib.Path(__file__).resolve().parent.parent
 DIST = ROOT / "dist/x86_64-linux"
@@ -112,16 +113,27 @@ def in_c(rounds: int) -> list[float]:
         return printed(program, REGISTRY, EXAMPLES / "aptos_transfer.json", rounds)
 
 
-def in_python(rounds: int) -> list[float]:
+def opened_in_python() -> Any:
     os.environ["BCS_LIBRARY"] = str(DIST / "libbcs.so")
     sys.path.insert(0, str(ROOT / "bindings/python"))
     from bcs_proved import Registry
 
-    registry = Registry.from_file(REGISTRY)
+    return Registry.from_file(REGISTRY)
+
+
+def in_python(rounds: int) -> list[float]:
+    registry = opened_in_python()
     text = (EXAMPLES / "aptos_transfer.json").read_text(encoding="utf-8")
-    data = registry.encode_text(FORMAT, text)
-    encoded = least(lambda: registry.encode_text(FORMAT, text), rounds)
-    return [encoded, least(lambda: registry.decode_text(FORMAT, data), rounds)]
+    data = registry.encode_json(FORMAT, text)
+    encoded = least(lambda: registry.encode_json(FORMAT, text), rounds)
+    return [encoded, least(lambda: registry.decode_json(FORMAT, data), rounds)]
+
+
+def in_python_with_values(rounds: int) -> list[float]:
+    registry, data = opened_in_python(), bytes.fromhex((EXAMPLES / "aptos_transfer.hex").read_text(encoding="utf-8"))
+    value = registry.decode(FORMAT, data)
+    encoded = least(lambda: registry.encode(FORMAT, value), rounds)
+    return [encoded, least(lambda: registry.decode(FORMAT, data), rounds)]
 
 
 def in_javascript(rounds: int) -> list[float]:
@@ -159,7 +171,8 @@ def by_lines(rounds: int) -> list[float]:
 
 WAYS: dict[str, Callable[[int], list[float]]] = {
     "C, static library": in_c,
-    "Python": in_python,
+    "Python, JSON": in_python,
+    "Python, values": in_python_with_values,
     "JavaScript, Node": in_javascript,
     "program, `--lines`": by_lines,
     "program, a start each": by_program,

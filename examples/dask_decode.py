@@ -45,7 +45,7 @@ def decoded(registry: Registry, format: str, line: bytes) -> tuple[str, bool]:
     if not DIGITS.fullmatch(digits):
         return "refused: BadHex", False
     try:
-        return registry.decode_text(format, bytes.fromhex(digits.decode())), True
+        return registry.decode_json(format, bytes.fromhex(digits.decode())), True
     except BytesError as fault:
         place = "" if fault.place is None else f" at {fault.place}"
         return f"refused: {fault.reason}{place}", False

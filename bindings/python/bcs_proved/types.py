@@ -2,11 +2,15 @@
 
     python -m bcs_proved.types [--plain-options] registry.json > payments.py
 
-REGISTRY is a file, or the registry's JSON, which begins with `{`. Each container becomes a type: `decode(..,
-native=True)` returns its values, and `encode` accepts them. With --plain-options they are what `decode(..,
-plain_options=True)` returns. For each container there is also its name as a format, such as PAYMENT for Payment, which
-gives `encode` and `decode` the type. The status is 2 if the registry is refused, 3 for invalid arguments, and 4 if a
-file can't be read; standard error says why.
+REGISTRY is a file, or the registry's JSON, which begins with `{`. Each container becomes a type: `decode` returns its
+values, and `encode` accepts them. With --plain-options they are what `decode(.., plain_options=True)` returns. For each
+container there is also its name as a format, such as PAYMENT for Payment, which gives `encode` and `decode` the type.
+
+--address NAME, --u256 NAME and --i256 NAME are the names that the registry is opened with, such as
+names={"address": ["AccountAddress"]}. Repeat an option for each name.
+
+The status is 2 if the registry is refused, 3 for invalid arguments, and 4 if a file can't be read; standard error says
+why.
 """
 
 from __future__ import annotations
@@ -21,12 +25,13 @@ import re
 import sys
 from typing import Any, Iterable, Iterator, Mapping, Optional
 
-from bcs_proved import Registry, RegistryError, Text
+from bcs_proved import Names, Registry, RegistryError, Text
+from bcs_proved.names import own_forms
 from bcs_proved.values import Formats
 
 __all__ = ["module_of"]
 
-_HEAD = '''"""Made from a registry by bcs_proved.types: what `decode(.., {flag}=True)` returns, and `encode` accepts."""
+_HEAD = '''"""Made from a registry by bcs_proved.types: what `{decode}` returns, and `encode` accepts."""
 
 from __future__ import annotations
 
@@ -79,10 +84,11 @@ _PLAIN = re.compile(r"[A-Za-z][A-Za-z0-9_]*")
 _FIELD = re.compile(r"_?[A-Za-z][A-Za-z0-9_]*")
 
 
-def module_of(text: Text, plain_options: bool = False) -> str:
-    """The module for a registry, from its JSON. Raises RegistryError if it is invalid."""
-    with Registry(text):
-        return _Writer(json.loads(text), plain_options).text()
+def module_of(text: Text, plain_options: bool = False, names: Optional[Names] = None) -> str:
+    """The module for a registry that is opened with these names, from its JSON. Raises RegistryError if it is invalid,
+    and ValueError if it doesn't have the names."""
+    with Registry(text, names=names):
+        return _Writer(json.loads(text), plain_options, names).text()
 
 
 def _only(thing: Mapping[str, Any]) -> tuple[str, Any]:
@@ -120,9 +126,10 @@ class _Writer:
     """Writes the types of containers. In expressions that Python evaluates a type's name stands in quotes, since it may
     come later."""
 
-    def __init__(self, containers: Mapping[str, Any], plain_options: bool) -> None:
+    def __init__(self, containers: Mapping[str, Any], plain_options: bool, names: Optional[Names]) -> None:
         self._containers = containers
-        self._formats = Formats(containers) if plain_options else None
+        self._own_forms = own_forms(containers, names)
+        self._formats = Formats(containers, self._own_forms) if plain_options else None
         self._identifiers = _Identifiers()
         self._names = self._identifiers.of_all(containers)
         # what options hold, and the type of each
@@ -131,8 +138,8 @@ class _Writer:
     def text(self) -> str:
         declared = [self._container(name) for name in sorted(self._containers)]
         options = [self._dict(own, {"some": held}, is_final=True) for held, own in self._options.items()]
-        flag, name = ("plain_options", "PlainName") if self._formats else ("native", "Name")
-        head = _HEAD.format(flag=flag, name=name)
+        decode, name = ("decode(.., plain_options=True)", "PlainName") if self._formats else ("decode", "Name")
+        head = _HEAD.format(decode=decode, name=name)
         return "\n\n".join([head, *declared, *options, "".join(self._constants(name))])
 
     def _constants(self, kind: str) -> Iterator[str]:
@@ -149,6 +156,8 @@ class _Writer:
             return f"{note}# It has no values, since it holds itself.\n{own}: TypeAlias = NoReturn\n"
         if container == "UNITSTRUCT":
             return f"{note}{own}: TypeAlias = None\n"
+        if name in self._own_forms:
+            return f"{note}{own}: TypeAlias = {'str' if self._own_forms[name] == 'address' else 'int'}\n"
         kind, inner = _only(container)
         if kind == "ENUM":
             return note + self._enum(own, [_only(inner[number]) for number in sorted(inner, key=int)])
@@ -251,7 +260,7 @@ class _Writer:
             if kind != "TYPENAME":
                 return "" if self._format(format) == "bytes" else "list"
             container = self._containers[inner]
-            if container == "UNITSTRUCT" or self._holds_itself(inner):
+            if container == "UNITSTRUCT" or inner in self._own_forms or self._holds_itself(inner):
                 return ""
             kind, format = _only(container)
             if kind != "NEWTYPESTRUCT":
@@ -259,19 +268,33 @@ class _Writer:
         return ""
 
 
+def _names_of(words: list[str]) -> dict[str, list[str]]:
+    """Takes the options with names from the beginning of the arguments."""
+    names: dict[str, list[str]] = {}
+    while len(words) > 1 and words[0] in ("--address", "--u256", "--i256"):
+        option, name = words.pop(0), words.pop(0)
+        names.setdefault(option[2:], []).append(name)
+    return names
+
+
 def main(words: list[str]) -> int:
-    """Prints the module, and gives the status."""
+    """Prints the module, and returns the status."""
     if words in (["--help"], ["-h"]):
         print(__doc__)
         return 0
     plain_options = words[:1] == ["--plain-options"]
     words = words[1:] if plain_options else words
+    names = _names_of(words)
     if len(words) != 1 or words[0].startswith("-"):
-        print("Usage: python -m bcs_proved.types [--plain-options] REGISTRY > registry.py", file=sys.stderr)
+        usage = "[--plain-options] [--address NAME] [--u256 NAME] [--i256 NAME] REGISTRY > registry.py"
+        print(f"Usage: python -m bcs_proved.types {usage}", file=sys.stderr)
         return 3
     try:
         text = os.fsencode(words[0]) if words[0].startswith("{") else pathlib.Path(words[0]).read_bytes()
-        print(module_of(text, plain_options), end="")
+        print(module_of(text, plain_options, names), end="")
+    except ValueError as fault:
+        print(fault, file=sys.stderr)
+        return 3
     except OSError as fault:
         print(f"fault: {fault}", file=sys.stderr)
         return 4

@@ -1,17 +1,20 @@
 """Converts Python values to the JSON of docs/FORMAT.md. The format decides what each value becomes.
 
-`Formats` reads the formats of a registry, `json_of` converts a value of one of them, and `Native` converts back.
+`Formats` reads the formats of a registry, and `json_of` converts a value of one of them. `reading` converts back.
 """
 
 from __future__ import annotations
 
+import dataclasses
 import itertools
 import json
-import operator
-from collections.abc import Mapping
-from typing import Any, Iterator, Optional, Union
+import re
+from collections.abc import Generator, Mapping
+from typing import Any, Optional, Union, final
 
-__all__ = ["Format", "Formats", "Native", "Rejected", "json_of", "json_of_format", "name_of", "octets_of"]
+from .names import BYTES_OF_OWN_FORM
+
+__all__ = ["Format", "Formats", "Hex", "Rejected", "WORDS", "json_of", "json_of_format", "name_of", "octets_of"]
 
 # The JSON of a value nests at most this deep.
 _NESTING = 100
@@ -19,25 +22,49 @@ _NESTING = 100
 _FORMAT_NESTING = 130
 # No format has wider numbers, and Python doesn't print very wide ones.
 _WIDEST = 128
-# The items of arrays that are read element by element, in the words of the module `struct`. "O" is any object.
-_ITEMS = {*"bBhHiIlLqQnN", "O", *"efdg?"}
-# A part of a value, with its step in a JSON Pointer and its format.
-_Part = tuple[Union[str, int], "Format", Any]
-_Parts = Optional[Iterator[_Part]]
+# The items of arrays that are read element by element, in the words of the module `struct`. "O" is any object. Items
+# of the second kind are rejected by their own type, and an array without items as it is.
+_INTEGER_ITEMS = {*"bBhHiIlLqQnN", "O"}
+_OTHER_ITEMS = {*"efdg?"}
+# So often the limit on nodes is checked in a list.
+_UNCHECKED = 1000
+# An error shows at most this much of a string.
+_SHOWN = 80
+_ADDRESS = re.compile(f"0x([0-9a-fA-F]{{1,{2 * BYTES_OF_OWN_FORM}}})")
+# What writes the parts of an array or object: it comes to each part that is one, too. Where a part is rejected, it adds
+# the step to it.
+_Writing = Generator["_Writing", None, None]
 # (`ensure_ascii` would turn two lone surrogates into one character)
 _quoted = json.JSONEncoder(ensure_ascii=False).encode
 
 
-class Rejected(Exception):
-    """A value isn't passed to the library: its type is none that the format takes, and then `found` is that type; or it
-    is too wide or nests too deep for any format. `pointer` is its JSON Pointer."""
+@final
+@dataclasses.dataclass(frozen=True)
+class Hex:
+    """Bytes as hexadecimal digits of either case, for `encode`: Hex("0aff"). A str is never bytes."""
 
-    def __init__(self, reason: str, expected: str, found: Optional[type] = None) -> None:
-        super().__init__(reason, expected, found)
+    digits: str
+
+    def __post_init__(self) -> None:
+        if not isinstance(self.digits, str):
+            raise TypeError(f"Hex takes a str of digits, not {name_of(type(self.digits))}")
+
+
+class Rejected(Exception):
+    """A value isn't passed to the library: the format doesn't accept its type, and then `found` is that type; or the
+    library couldn't tell what is wrong with it. `at` is its JSON Pointer, which `steps` has from its end."""
+
+    def __init__(self, reason: str, message: str, found: Optional[type] = None) -> None:
+        super().__init__(reason, message, found)
         self.reason = reason
-        self.expected = expected if found is None else f"{expected}, not {name_of(found)}"
+        self.message = message if found is None else f"{message}, not {name_of(found)}"
         self.is_type = found is not None
-        self.pointer = ""
+        # from the value to the one that holds it all
+        self.steps: list[Union[str, int]] = []
+
+    @property
+    def at(self) -> str:
+        return "".join(f"/{str(step).replace('~', '~0').replace('/', '~1')}" for step in reversed(self.steps))
 
 
 def name_of(found: type) -> str:
@@ -49,9 +76,9 @@ class Format:
 
     takes = ""
 
-    def open(self, value: Any, out: list[str]) -> _Parts:
-        """Writes a scalar, or returns the parts of an array or object, which writes brackets and commas as they are
-        taken. The value itself is copied first, since converting its parts may run the caller's code."""
+    def open(self, value: Any, out: list[str]) -> Optional[_Writing]:
+        """Writes a scalar, or returns what writes an array or object. The value itself is copied first, since
+        converting its parts may run the caller's code."""
         raise NotImplementedError
 
     def resolved(self) -> Format:
@@ -59,39 +86,49 @@ class Format:
         return self
 
     def wrong(self, value: Any) -> Rejected:
-        return Rejected("BadType", self.takes, type(value))
+        return Rejected("WrongType", self.takes, type(value))
 
 
 def json_of(format: Format, value: Any, nodes: int) -> bytes:
     """The JSON of a value, unless it surely has more nodes than this. Raises Rejected. It doesn't recurse, so deep
     values need no stack."""
     out: list[str] = []
-    # (a node has at most four pieces of text, like an empty list that is the key or value in a map)
-    most = 4 * nodes + 4
-    levels: list[Iterator[_Part]] = [iter([("", format, value)])]
-    steps: list[Union[str, int]] = [""]
-    try:
-        while levels:
-            for steps[-1], format, value in levels[-1]:
-                parts = format.open(value, out)
-                if parts is not None:
-                    levels.append(parts)
-                    steps.append("")
-                    break
-            else:
-                levels.pop()
-                steps.pop()
-            if len(levels) > _NESTING + 1:
-                del steps[1:]
-                raise Rejected("TooNested", f"arrays and objects nest more than {_NESTING} deep")
-            if len(out) > most:
-                del steps[1:]
-                raise Rejected("TooManyNodes", f"the value has more nodes than --nodes allows, {nodes}")
-    except Rejected as fault:
-        fault.pointer = "".join(f"/{str(step).replace('~', '~0').replace('/', '~1')}" for step in steps[1:])
-        raise
+    # (a node has at most five pieces of text, like bytes that are the key or value in a map)
+    most = 5 * nodes + 5
+    inner = format.open(value, out)
+    levels = [] if inner is None else [inner]
+    while levels:
+        if len(levels) > _NESTING:
+            raise Rejected("TooNested", f"arrays and objects nest more than {_NESTING} deep")
+        if len(out) > most:
+            raise Rejected("TooManyNodes", f"the value has more nodes than --nodes allows, {nodes}")
+        try:
+            inner = next(levels[-1], None)
+        except Rejected as fault:
+            raise _with_steps(levels[:-1], fault) from fault.__cause__
+        if inner is None:
+            levels.pop()
+        else:
+            levels.append(inner)
+    text = "".join(out)
+    # (a large value has little room for its pieces beside its text)
+    out.clear()
     # (the library rejects lone surrogates, which aren't UTF-8 and so not JSON)
-    return "".join(out).encode("utf-8", "surrogatepass")
+    return text.encode("utf-8", "surrogatepass")
+
+
+def _with_steps(levels: list[_Writing], fault: Rejected) -> Rejected:
+    """Passes a rejection through what it is in."""
+    for level in reversed(levels):
+        try:
+            level.throw(fault)
+        except Rejected:
+            continue
+    return fault
+
+
+def _nothing() -> _Writing:
+    yield from ()
 
 
 def _text_of(value: str) -> str:
@@ -136,12 +173,16 @@ def octets_of(value: Any) -> Optional[bytes]:
         return view.tobytes() if _is_octets(view) and not hasattr(value, "mask") else None
 
 
-def _digits_of(value: Any) -> Optional[str]:
-    """The JSON of bytes, or of a string of their hexadecimal digits."""
-    if isinstance(value, str):
-        return _text_of(value)
-    octets = octets_of(value)
-    return None if octets is None else f'"{octets.hex()}"'
+def _put_octets(value: Any, out: list[str]) -> bool:
+    """Writes bytes, or Hex. Large ones are hundreds of megabytes, so their digits aren't copied here."""
+    octets = value if type(value) is bytes else octets_of(value)
+    if octets is None:
+        if type(value) is not Hex:
+            return False
+        out.append(_text_of(value.digits))
+        return True
+    out += ['"', octets.hex(), '"']
+    return True
 
 
 def _elements_of(value: Any) -> Optional[list[Any]]:
@@ -150,9 +191,12 @@ def _elements_of(value: Any) -> Optional[list[Any]]:
     if view is None:
         return None
     with view:
-        if not view.shape or _is_octets(view) or _item_of(view) not in _ITEMS:
+        item = _item_of(view)
+        if not view.shape or _is_octets(view) or item not in _INTEGER_ITEMS | _OTHER_ITEMS:
             return None
         count = view.shape[0]
+        if item in _OTHER_ITEMS and 0 in view.shape:
+            return None
     try:
         found = list(itertools.islice(value, count + 1))
     except (TypeError, NotImplementedError):
@@ -163,7 +207,7 @@ def _elements_of(value: Any) -> Optional[list[Any]]:
 class _Unit(Format):
     takes = "UNIT takes None"
 
-    def open(self, value: Any, out: list[str]) -> _Parts:
+    def open(self, value: Any, out: list[str]) -> Optional[_Writing]:
         if value is not None:
             raise self.wrong(value)
         out.append("null")
@@ -173,7 +217,7 @@ class _Unit(Format):
 class _Bool(Format):
     takes = "BOOL takes a bool"
 
-    def open(self, value: Any, out: list[str]) -> _Parts:
+    def open(self, value: Any, out: list[str]) -> Optional[_Writing]:
         if value is not True and value is not False:
             raise self.wrong(value)
         out.append("true" if value else "false")
@@ -183,28 +227,17 @@ class _Bool(Format):
 class _Text(Format):
     takes = "STR takes a str"
 
-    def open(self, value: Any, out: list[str]) -> _Parts:
+    def open(self, value: Any, out: list[str]) -> Optional[_Writing]:
         if not isinstance(value, str):
             raise self.wrong(value)
         out.append(_text_of(value))
         return None
 
 
-class _Bytes(Format):
-    takes = "BYTES takes bytes or hexadecimal digits"
-
-    def open(self, value: Any, out: list[str]) -> _Parts:
-        digits = _digits_of(value)
-        if digits is None:
-            raise self.wrong(value)
-        out.append(digits)
-        return None
-
-
 class _Unsupported(Format):
     """`F32`, `F64`, `CHAR`, and newtypes that hold themselves. The library rejects every value of these."""
 
-    def open(self, value: Any, out: list[str]) -> _Parts:
+    def open(self, value: Any, out: list[str]) -> Optional[_Writing]:
         out.append("null")
         return None
 
@@ -212,72 +245,147 @@ class _Unsupported(Format):
 class _Number(Format):
     """Numbers become strings of digits, since the library's JSON numbers end at 64 bits."""
 
-    def __init__(self, word: str) -> None:
+    def __init__(self, word: str, bits: int, is_signed: bool) -> None:
         self._word = word
         self.takes = f"{word} takes an int"
+        self.least = -(2 ** (bits - 1)) if is_signed else 0
+        self.most = self.least + 2**bits - 1
 
-    def open(self, value: Any, out: list[str]) -> _Parts:
-        if type(value) is int:
-            number = value
-        elif isinstance(value, str):
-            out.append(_text_of(value))
-            return None
-        else:
-            number = self._int_of(value)
+    def open(self, value: Any, out: list[str]) -> Optional[_Writing]:
+        number = self.int_of(value)
+        # (the library checks the range)
         if number.bit_length() > _WIDEST:
             raise self._out_of_range()
         out.append(f'"{number}"')
         return None
 
-    def _int_of(self, value: Any) -> int:
+    def int_of(self, value: Any) -> int:
+        if type(value) is int:
+            return value
         if isinstance(value, int) and not isinstance(value, bool):
             return int.__index__(value)
         # (numpy.bool_ has an __index__ in some versions, and an array of numpy that hides its one item)
         if type(value).__name__ in ("bool", "bool_") or hasattr(value, "mask"):
             raise self.wrong(value)
         try:
-            return int.__index__(operator.index(value))
-        except TypeError as fault:
+            # (`operator.index` makes an int of a bool)
+            number = type(value).__index__(value)
+        except (AttributeError, TypeError) as fault:
             raise self.wrong(value) from fault
+        if isinstance(number, bool) or not isinstance(number, int):
+            raise self.wrong(value)
+        return int.__index__(number)
+
+    def in_range(self, value: Any) -> int:
+        """The same, where the library can't check the range."""
+        number = self.int_of(value)
+        if not self.least <= number <= self.most:
+            raise self._out_of_range()
+        return number
 
     def _out_of_range(self) -> Rejected:
-        bits, least = int(self._word[1:]), 0
-        if self._word[0] == "I":
-            bits, least = bits - 1, -(2 ** (bits - 1))
-        return Rejected("BadNumber", f"wanted a whole number from {least} to {2**bits - 1} ({self._word})")
+        return Rejected("BadNumber", f"wanted a whole number from {self.least} to {self.most} ({self._word})")
 
 
-class _List(Format):
-    """SEQ and TUPLEARRAY. The library checks the number of items."""
+class _OwnInteger(_Number):
+    """A container of 32 bytes that is an integer."""
 
-    def __init__(self, word: str, element: Format, is_of_octets: bool) -> None:
-        self._element = element
-        self._is_of_octets = is_of_octets
-        self.takes = (
-            f"{word} of U8 takes bytes, hexadecimal digits or a list of int" if is_of_octets else f"{word} takes a list"
-        )
+    def __init__(self, word: str, is_signed: bool) -> None:
+        super().__init__(word, 8 * BYTES_OF_OWN_FORM, is_signed)
+        self._is_signed = is_signed
 
-    def open(self, value: Any, out: list[str]) -> _Parts:
-        items = _items_of(value)
-        digits = _digits_of(value) if items is None and self._is_of_octets else None
-        if digits is not None:
-            out.append(digits)
+    def open(self, value: Any, out: list[str]) -> Optional[_Writing]:
+        number = self.in_range(value)
+        out.append(f'"{number.to_bytes(BYTES_OF_OWN_FORM, "little", signed=self._is_signed).hex()}"')
+        return None
+
+
+class _Address(Format):
+    """A container of 32 bytes that is an address."""
+
+    def __init__(self, word: str) -> None:
+        self._word = word
+        self.takes = f'{word} takes a str "0x.." or {BYTES_OF_OWN_FORM} bytes'
+
+    def open(self, value: Any, out: list[str]) -> Optional[_Writing]:
+        if isinstance(value, str):
+            out.append(f'"{self._digits_of(str.__str__(value))}"')
+        elif not _put_octets(value, out):
+            raise self.wrong(value)
+        return None
+
+    def _digits_of(self, text: str) -> str:
+        found = _ADDRESS.fullmatch(text)
+        if found is None:
+            shown = f", not {ascii(text)}" if len(text) <= _SHOWN else ""
+            raise Rejected("BadHex", f"{self._word} takes 0x and 1 to {2 * BYTES_OF_OWN_FORM} digits{shown}")
+        return found[1].zfill(2 * BYTES_OF_OWN_FORM)
+
+
+class _Octets(Format):
+    """BYTES, and SEQ and TUPLEARRAY of U8. The library checks the number of bytes."""
+
+    def __init__(self, word: str) -> None:
+        self.takes = f"{word} takes bytes, or Hex(…) for digits"
+
+    def open(self, value: Any, out: list[str]) -> Optional[_Writing]:
+        if not isinstance(value, (list, tuple)) and _put_octets(value, out):
             return None
-        if items is None and isinstance(self._element.resolved(), (_Number, _List)):
+        items = _items_of(value)
+        if items is None:
             items = _elements_of(value)
         if items is None:
             raise self.wrong(value)
-        if not (isinstance(self._element, _Number) and _are_plain(items)):
-            return self._parts(items, out)
+        out += ['"', _octets_of_items(items).hex(), '"']
+        return None
+
+
+def _octets_of_items(items: list[Any]) -> bytes:
+    octets = bytearray()
+    try:
+        if {*map(type, items)} <= {int} and 0 <= min(items, default=0) and max(items, default=0) <= _U8.most:
+            return bytes(items)
+        for item in items:
+            octets.append(_U8.in_range(item))
+    except Rejected as fault:
+        fault.steps.append(len(octets))
+        raise
+    return bytes(octets)
+
+
+class _List(Format):
+    """SEQ and TUPLEARRAY of other formats. The library checks the number of items."""
+
+    def __init__(self, word: str, element: Format) -> None:
+        self._element = element
+        self.takes = f"{word} takes a list"
+
+    def open(self, value: Any, out: list[str]) -> Optional[_Writing]:
+        items = _items_of(value)
+        if items is None and isinstance(self._element.resolved(), (_Number, _List, _Octets)):
+            items = _elements_of(value)
+        if items is None:
+            raise self.wrong(value)
+        if not (type(self._element) is _Number and _are_plain(items)):
+            return self._writing(items, out)
         out.append('["' + '","'.join(map(str, items)) + '"]' if items else "[]")
         return None
 
-    def _parts(self, items: list[Any], out: list[str]) -> Iterator[_Part]:
+    def _writing(self, items: list[Any], out: list[str]) -> _Writing:
+        number, element = 0, self._element
         out.append("[")
-        for number, item in enumerate(items):
-            if number:
-                out.append(",")
-            yield number, self._element, item
+        try:
+            for number, item in enumerate(items):
+                if number:
+                    out.append(",")
+                inner = element.open(item, out)
+                if inner is not None:
+                    yield inner
+                elif number % _UNCHECKED == _UNCHECKED - 1:
+                    yield _nothing()
+        except Rejected as fault:
+            fault.steps.append(number)
+            raise
         out.append("]")
 
 
@@ -293,20 +401,27 @@ class _Row(Format):
         self._formats = formats
         self.takes = takes
 
-    def open(self, value: Any, out: list[str]) -> _Parts:
+    def open(self, value: Any, out: list[str]) -> Optional[_Writing]:
         items = _items_of(value)
         if items is None:
             raise self.wrong(value)
-        return self._parts(items, out)
+        return self._writing(items, out)
 
-    def _parts(self, items: list[Any], out: list[str]) -> Iterator[_Part]:
+    def _writing(self, items: list[Any], out: list[str]) -> _Writing:
         """If the number of items is wrong, the library gets nulls, and rejects their number."""
+        number = 0
         out.append("[")
         formats = self._formats if len(items) == len(self._formats) else [_UNSUPPORTED] * len(items)
-        for number, (format, item) in enumerate(zip(formats, items)):
-            if number:
-                out.append(",")
-            yield number, format, item
+        try:
+            for number, item in enumerate(items):
+                if number:
+                    out.append(",")
+                inner = formats[number].open(item, out)
+                if inner is not None:
+                    yield inner
+        except Rejected as fault:
+            fault.steps.append(number)
+            raise
         out.append("]")
 
 
@@ -314,9 +429,9 @@ class _Map(Format):
     takes = "MAP takes a dict or a list of pairs"
 
     def __init__(self, key: Format, value: Format) -> None:
-        self._entries = _List("MAP", _Row([key, value], "an entry of a MAP takes a pair"), False)
+        self._entries = _List("MAP", _Row([key, value], "an entry of a MAP takes a pair"))
 
-    def open(self, value: Any, out: list[str]) -> _Parts:
+    def open(self, value: Any, out: list[str]) -> Optional[_Writing]:
         if isinstance(value, Mapping):
             value = [(key, value[key]) for key in [*value]]
         elif not isinstance(value, (list, tuple)):
@@ -345,7 +460,7 @@ class _Object(Format):
             return members
         for kind in kinds:
             if not issubclass(kind, str):
-                raise Rejected("BadType", f"{self._word} takes names that are str", kind)
+                raise Rejected("WrongType", f"{self._word} takes names that are str", kind)
         named = {str.__str__(name): part for name, part in members.items()}
         if len(named) < len(members):
             raise self.wrong(value)
@@ -359,22 +474,28 @@ class _Struct(_Object):
     takes = "STRUCT takes a dict"
 
     def __init__(self, fields: list[tuple[str, Format]]) -> None:
-        self._fields = [(name, f"{_quoted(name)}:", format) for name, format in fields]
+        self._fields = [(name, f"{{{_quoted(name)}:", f",{_quoted(name)}:", format) for name, format in fields]
 
-    def open(self, value: Any, out: list[str]) -> _Parts:
-        return self._parts(self._members_of(value), out)
+    def open(self, value: Any, out: list[str]) -> Optional[_Writing]:
+        return self._writing(self._members_of(value), out)
 
-    def _parts(self, members: dict[str, Any], out: list[str]) -> Iterator[_Part]:
-        before = "{"
-        for name, head, format in self._fields:
-            if name in members:
-                out.append(before + head)
-                before = ","
-                yield name, format, members.pop(name)
+    def _writing(self, members: dict[str, Any], out: list[str]) -> _Writing:
+        name, is_first = "", True
+        try:
+            for name, first_head, head, format in self._fields:
+                if name in members:
+                    out.append(first_head if is_first else head)
+                    is_first = False
+                    inner = format.open(members.pop(name), out)
+                    if inner is not None:
+                        yield inner
+        except Rejected as fault:
+            fault.steps.append(name)
+            raise
         for name in members:
-            out.append(f"{before}{_quoted(name)}:null")
-            before = ","
-        out.append("}" if before == "," else "{}")
+            out.append(f"{'{' if is_first else ','}{_quoted(name)}:null")
+            is_first = False
+        out.append("{}" if is_first else "}")
 
 
 class _Tagged(_Object):
@@ -384,23 +505,29 @@ class _Tagged(_Object):
         self._word = word
         self._variants = variants
 
-    def _parts(self, members: dict[str, Any], out: list[str]) -> Iterator[_Part]:
-        before = "{"
-        for name, part in members.items():
-            out.append(f"{before}{_quoted(name)}:")
-            before = ","
-            yield name, self._variants.get(name, _UNSUPPORTED), part
+    def _writing(self, members: dict[str, Any], out: list[str]) -> _Writing:
+        name, before = "", "{"
+        try:
+            for name, part in members.items():
+                out.append(f"{before}{_quoted(name)}:")
+                before = ","
+                inner = self._variants.get(name, _UNSUPPORTED).open(part, out)
+                if inner is not None:
+                    yield inner
+        except Rejected as fault:
+            fault.steps.append(name)
+            raise
         out.append("}" if members else "{}")
 
 
 class _Enum(_Tagged):
     takes = "ENUM takes a variant's name or a dict of one variant"
 
-    def open(self, value: Any, out: list[str]) -> _Parts:
+    def open(self, value: Any, out: list[str]) -> Optional[_Writing]:
         if isinstance(value, str):
             out.append(_text_of(value))
             return None
-        return self._parts(self._members_of(value), out)
+        return self._writing(self._members_of(value), out)
 
 
 class _Option(_Tagged):
@@ -412,18 +539,18 @@ class _Option(_Tagged):
         self._is_plain = is_plain
         self.takes = f'OPTION takes None{", a value" if is_plain else ""} or {{"some": value}}'
 
-    def open(self, value: Any, out: list[str]) -> _Parts:
+    def open(self, value: Any, out: list[str]) -> Optional[_Writing]:
         if value is None:
             out.append("null")
             return None
         if not self._is_plain:
-            return self._parts(self._members_of(value), out)
+            return self._writing(self._members_of(value), out)
         if isinstance(value, Mapping):
             # (it is read once, since reading it may run the caller's code)
             value = self._members_of(value)
             if [*value] == ["some"] or not isinstance(self._inner.resolved(), _Object):
-                return self._parts(value, out)
-        return self._parts({"some": value}, out)
+                return self._writing(value, out)
+        return self._writing({"some": value}, out)
 
 
 class _Named(Format):
@@ -434,7 +561,7 @@ class _Named(Format):
         self._name = name
         self._held: Optional[Format] = None
 
-    def open(self, value: Any, out: list[str]) -> _Parts:
+    def open(self, value: Any, out: list[str]) -> Optional[_Writing]:
         return (self._held or self.resolved()).open(value, out)
 
     def resolved(self) -> Format:
@@ -451,9 +578,11 @@ def _is_like_some(kind: str, inner: Any) -> bool:
 
 _UNSUPPORTED = _Unsupported()
 _UNSUPPORTED_WORDS = ("CHAR", "F32", "F64")
-_WORDS: dict[str, Format] = {
-    **{"UNIT": _Unit(), "BOOL": _Bool(), "STR": _Text(), "BYTES": _Bytes()},
-    **{word: _Number(word) for word in (f"{sign}{8 << width}" for sign in "UI" for width in range(5))},
+_U8 = _Number("U8", 8, False)
+# The formats without parts.
+WORDS: dict[str, Format] = {
+    **{"UNIT": _Unit(), "BOOL": _Bool(), "STR": _Text(), "BYTES": _Octets("BYTES")},
+    **{f"{sign}{bits}": _Number(f"{sign}{bits}", bits, sign == "I") for sign in "UI" for bits in (8, 16, 32, 64, 128)},
     **{word: _UNSUPPORTED for word in _UNSUPPORTED_WORDS},
 }
 
@@ -461,17 +590,19 @@ _WORDS: dict[str, Format] = {
 class Formats:
     """The formats of a registry. The library has checked the registry, and each format that is asked for."""
 
-    def __init__(self, containers: Mapping[str, Any]) -> None:
+    def __init__(self, containers: Mapping[str, Any], own_forms: Mapping[str, str]) -> None:
+        """`own_forms` has the kinds of the containers with a form of their own."""
         self._containers = containers
         self._named: dict[str, Format] = {}
+        self._own = {name: _own_format(name, kind) for name, kind in own_forms.items()}
 
     def format(self, format: Any) -> Format:
         """Of a format's JSON."""
         if isinstance(format, str):
-            return _WORDS[format]
+            return WORDS[format]
         ((kind, inner),) = format.items()
         if kind == "TYPENAME":
-            return self._named.setdefault(inner, _Named(self, inner))
+            return self._own.get(inner) or self._named.setdefault(inner, _Named(self, inner))
         if kind == "OPTION":
             return _Option(self.format(inner), self.is_plain(inner))
         if kind == "TUPLE":
@@ -479,7 +610,7 @@ class Formats:
         if kind == "MAP":
             return _Map(self.format(inner["KEY"]), self.format(inner["VALUE"]))
         element = inner["CONTENT"] if kind == "TUPLEARRAY" else inner
-        return _List(kind, self.format(element), element == "U8")
+        return _Octets(f"{kind} of U8") if element == "U8" else _List(kind, self.format(element))
 
     def is_plain(self, format: Any) -> bool:
         """Whether an option of this format may be written as None or its value: the value is never None, and never a
@@ -508,13 +639,15 @@ class Formats:
             seen.add(name)
             container = self._containers[name]
             if container == "UNITSTRUCT":
-                return _WORDS["UNIT"]
+                return WORDS["UNIT"]
             ((kind, inner),) = container.items()
             if kind != "NEWTYPESTRUCT":
                 return self._content(kind, inner)
             if isinstance(inner, str) or "TYPENAME" not in inner:
                 return self.format(inner)
             name = inner["TYPENAME"]
+            if name in self._own:
+                return self._own[name]
         return _UNSUPPORTED
 
     def _content(self, kind: str, inner: Any) -> Format:
@@ -529,12 +662,16 @@ class Formats:
 
     def _payload(self, payload: Any) -> Format:
         if isinstance(payload, str):
-            return _WORDS[payload]
+            return WORDS[payload]
         ((kind, inner),) = payload.items()
         return self._content(kind, inner)
 
     def _row(self, kind: str, formats: list[Any]) -> Format:
         return _Row([self.format(format) for format in formats], f"{kind} takes a list or tuple")
+
+
+def _own_format(name: str, kind: str) -> Format:
+    return _Address(name) if kind == "address" else _OwnInteger(name, kind[0] == "i")
 
 
 def json_of_format(format: Mapping[str, Any]) -> bytes:
@@ -570,63 +707,3 @@ def _name_in_format(name: Any) -> str:
     if not isinstance(name, str):
         raise TypeError(f"names in a registry or format are str, not {name_of(type(name))}")
     return str.__str__(name)
-
-
-_WIDE_NUMBERS = {"U64", "U128", "I64", "I128"}
-
-
-class Native:
-    """Walks through a format and the JSON of one of its values, which the library made. It recurses at most 100 levels
-    deep, like the JSON; the loop follows newtypes of newtypes."""
-
-    def __init__(self, containers: Mapping[str, Any], plain_options: Optional[Formats] = None) -> None:
-        """With `plain_options`, an option is None or its value wherever these formats say that this is clear."""
-        self._containers = containers
-        self._plain_options = plain_options
-
-    def value(self, format: Any, found: Any) -> Any:
-        while not isinstance(format, str):
-            ((kind, inner),) = format.items()
-            if kind != "TYPENAME":
-                return self._part(kind, inner, found)
-            container = self._containers[inner]
-            if container == "UNITSTRUCT":
-                return found
-            ((kind, inner),) = container.items()
-            if kind != "NEWTYPESTRUCT":
-                return self._content(kind, inner, found)
-            format = inner
-        if format in _WIDE_NUMBERS:
-            return int(found)
-        return bytes.fromhex(found) if format == "BYTES" else found
-
-    def _part(self, kind: str, inner: Any, found: Any) -> Any:
-        if kind == "OPTION":
-            return None if found is None else self._some(inner, self.value(inner, found["some"]))
-        if kind == "TUPLE":
-            return self._row(inner, found)
-        if kind == "MAP":
-            return [[self.value(inner["KEY"], key), self.value(inner["VALUE"], held)] for key, held in found]
-        element = inner["CONTENT"] if kind == "TUPLEARRAY" else inner
-        return bytes.fromhex(found) if isinstance(found, str) else [self.value(element, part) for part in found]
-
-    def _some(self, format: Any, value: Any) -> Any:
-        return value if self._plain_options and self._plain_options.is_plain(format) else {"some": value}
-
-    def _content(self, kind: str, inner: Any, found: Any) -> Any:
-        if kind == "NEWTYPE":
-            return self.value(inner, found)
-        if kind in ("TUPLESTRUCT", "TUPLE"):
-            return self._row(inner, found)
-        if kind == "STRUCT":
-            return {name: self.value(of, found[name]) for field in inner for name, of in field.items()}
-        return found if isinstance(found, str) else self._variant(inner, found)
-
-    def _variant(self, variants: Mapping[str, Any], found: Any) -> Any:
-        ((name, payload),) = found.items()
-        (carried,) = [variant[name] for variant in variants.values() if name in variant]
-        ((kind, inner),) = carried.items()
-        return {name: self._content(kind, inner, payload)}
-
-    def _row(self, formats: list[Any], found: list[Any]) -> list[Any]:
-        return [self.value(format, part) for format, part in zip(formats, found)]

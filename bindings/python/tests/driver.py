@@ -72,16 +72,17 @@ def refused_by(call: Callable[[], object]) -> Optional[bcs_proved.BcsError]:
 
 
 def place(fault: Optional[bcs_proved.BcsError], what: str) -> Answer:
-    told = None if fault is None else fault.pointer if what == "where" else fault.expected
-    return Answer("no") if told is None else output(told.encode())
+    if fault is None:
+        return Answer("no")
+    return output((fault.at if what == "where" else fault.message).encode())
 
 
 def text_place(registry: Registry, format: bytes, limits: Limits, text: bytes, what: str) -> Answer:
     """Each call that takes a text tells the same."""
-    encoded = refused_by(lambda: registry.encode_text(format, text, limits))
+    encoded = refused_by(lambda: registry.encode_json(format, text, limits))
     for other in (
-        refused_by(lambda: registry.normalise_text(format, text, limits)),
-        refused_by(lambda: registry.equal_text(format, text, text, limits)),
+        refused_by(lambda: registry.normalise_json(format, text, limits)),
+        refused_by(lambda: registry.equal_json(format, text, text, limits)),
     ):
         assert (other and other.args) == (encoded and encoded.args), f"{other}, {encoded}"
     return place(encoded, what)
@@ -89,7 +90,7 @@ def text_place(registry: Registry, format: bytes, limits: Limits, text: bytes, w
 
 def stop_place(registry: Registry, format: bytes, limits: Limits, data: bytes, what: str) -> Answer:
     """Where the value at the front is refused, `scan` tells the same."""
-    decoded = refused_by(lambda: registry.decode_text(format, data, limits))
+    decoded = refused_by(lambda: registry.decode_json(format, data, limits))
     scanned = refused_by(lambda: registry.scan(format, data, limits))
     assert scanned is None or (decoded and decoded.args) == scanned.args, f"{decoded}, {scanned}"
     return place(decoded, what)
@@ -98,10 +99,10 @@ def stop_place(registry: Registry, format: bytes, limits: Limits, data: bytes, w
 # What takes a registry, a format, limits and what comes behind them.
 CALLS: dict[str, Callable[..., Answer]] = {
     "check": check,
-    "to_bcs": lambda registry, *words: output(registry.encode_text(words[0], words[2], words[1])),
-    "from_bcs": lambda registry, *words: output(registry.decode_text(words[0], words[2], words[1]).encode()),
-    "normalise": lambda registry, *words: output(registry.normalise_text(words[0], words[2], words[1]).encode()),
-    "compare": lambda registry, *words: truth(registry.equal_text(words[0], words[2], words[3], words[1])),
+    "to_bcs": lambda registry, *words: output(registry.encode_json(words[0], words[2], words[1])),
+    "from_bcs": lambda registry, *words: output(registry.decode_json(words[0], words[2], words[1]).encode()),
+    "normalise": lambda registry, *words: output(registry.normalise_json(words[0], words[2], words[1]).encode()),
+    "compare": lambda registry, *words: truth(registry.equal_json(words[0], words[2], words[3], words[1])),
     "scan": lambda registry, *words: Answer("done", length=registry.scan(words[0], words[2], words[1])),
     "part": part,
     "part_named": part_named,
@@ -129,16 +130,13 @@ def answer(words: list[str]) -> Answer:
     registry = registry_of(bytes.fromhex(words[1]))
     word = {"explain": 1, "text_place": 1, "stop_place": 1, "part_named": 2}.get(words[0])
     rest = [text if place == word else bytes.fromhex(text) for place, text in enumerate(words[5:])]
-    try:
-        limits = Limits(int(words[3]), int(words[4]))
-    except ValueError:
-        return Answer("limits")
+    limits = Limits(int(words[3]), int(words[4]))
     return CALLS[words[0]](registry, bytes.fromhex(words[2]), limits, *rest)
 
 
 def refusal(fault: bcs_proved.BcsError) -> Answer:
-    statuses = {bcs_proved.RegistryError: "registry", bcs_proved.FormatError: "format", bcs_proved.PathError: "path"}
-    return Answer(statuses.get(type(fault), "refused"), fault.reason, fault.place or 0)
+    kind = fault.kind if fault.kind in ("registry", "format", "path", "limits", "stack") else "refused"
+    return Answer(kind, fault.reason or "-", fault.place or 0)
 
 
 for line in sys.stdin:

@@ -6,7 +6,7 @@ import sys
 import threading
 from typing import Any, Callable
 
-from bcs_proved import Registry
+from bcs_proved import Registry, StackError
 
 CHAIN = 500
 LIST = {"L": {"STRUCT": [{"next": {"OPTION": {"TYPENAME": "L"}}}]}}
@@ -50,18 +50,17 @@ def calls() -> dict[str, Callable[[], object]]:
     return {
         "encode a number": lambda: registry.encode('"U8"', 7) == b"\7",
         "encode a list of 10": lambda: registry.encode("L", nested(10)) == b"\1" * 9 + b"\0",
-        "decode 31 levels natively": lambda: registry.decode(levels, b"\1" * 30 + b"\0", native=True) == levels_of(31),
+        "decode 31 levels": lambda: registry.decode(levels, b"\1" * 30 + b"\0") == levels_of(31),
         "encode a list of 50": lambda: registry.encode("L", value) == data,
-        "encode a text of 50": lambda: registry.encode_text("L", text) == data,
+        "encode a text of 50": lambda: registry.encode_json("L", text) == data,
         "normalise a list of 50": lambda: registry.normalise("L", value) == value,
         "compare lists of 50": lambda: registry.equal("L", value, value),
         "decode a list of 50": lambda: registry.decode("L", data) == value,
-        "decode a list of 50 natively": lambda: registry.decode("L", data, native=True) == value,
         "encode a tree of 100": lambda: registry.encode("T", tree(100)) == b"\1" * 99 + b"\0",
-        "decode a tree of 100 natively": lambda: registry.decode("T", b"\1" * 99 + b"\0", native=True) == tree(100),
-        "decode a wide tree": lambda: registry.decode("W", b"\1\7\1\1" * 18 + b"\0", native=True) is not None,
+        "decode a tree of 100": lambda: registry.decode("T", b"\1" * 99 + b"\0") == tree(100),
+        "decode a wide tree": lambda: registry.decode("W", b"\1\7\1\1" * 18 + b"\0") is not None,
         "encode 500 newtypes": lambda: registry.encode("N0", 7) == b"\7",
-        "decode 500 newtypes": lambda: registry.decode("N0", b"\7", native=True) == 7,
+        "decode 500 newtypes": lambda: registry.decode("N0", b"\7") == 7,
         "scan a list of 500": lambda: registry.scan("L", deep) == 500,
         "scan a tree of 500": lambda: registry.scan("T", deep) == 500,
         "explain a list of 500": lambda: registry.explain_text("L", deep).count("\n") == 500,
@@ -78,8 +77,8 @@ def run(size: int) -> None:
         def tell(call: Callable[[], object] = call, told: list[str] = told) -> None:
             try:
                 told.append("done" if call() else "wrong")
-            except MemoryError:
-                told.append("MemoryError")
+            except StackError:
+                told.append("StackError")
 
         thread = threading.Thread(target=tell)
         thread.start()

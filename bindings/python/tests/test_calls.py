@@ -13,7 +13,9 @@ from bcs_proved import (
     Form,
     Format,
     FormatError,
+    Hex,
     Limits,
+    LimitsError,
     Part,
     PathError,
     Registry,
@@ -37,19 +39,19 @@ class Done(unittest.TestCase):
     def test_a_value_and_its_bytes(self) -> None:
         self.assertEqual(self.registry.encode("Payment", {"amount": 7, "to": "bob"}), self.bytes)
         value = self.registry.decode("Payment", self.bytes)
-        self.assertEqual(value, {"amount": "7", "to": "bob"})
-        self.assertEqual(list(value), ["amount", "to"])
+        self.assertEqual(value, {"amount": 7, "to": "bob"})
+        self.assertEqual(list(value), ["to", "amount"])
         self.assertEqual(self.registry.encode("Payment", value), self.bytes)
 
     def test_texts(self) -> None:
-        self.assertEqual(self.registry.encode_text("Payment", ' {"to": "bob", "amount": "7"}'), self.bytes)
-        self.assertEqual(self.registry.decode_text("Payment", self.bytes), '{"amount":"7","to":"bob"}')
-        self.assertEqual(self.registry.normalise_text(MAP, '[["aa",2],["b",1]]'), '[["b",1],["aa",2]]')
-        self.assertTrue(self.registry.equal_text('"U64"', "7", '"7"'))
-        self.assertFalse(self.registry.equal_text('"U64"', "7", "8"))
+        self.assertEqual(self.registry.encode_json("Payment", ' {"to": "bob", "amount": "7"}'), self.bytes)
+        self.assertEqual(self.registry.decode_json("Payment", self.bytes), '{"amount":"7","to":"bob"}')
+        self.assertEqual(self.registry.normalise_json(MAP, '[["aa",2],["b",1]]'), '[["b",1],["aa",2]]')
+        self.assertTrue(self.registry.equal_json('"U64"', "7", '"7"'))
+        self.assertFalse(self.registry.equal_json('"U64"', "7", "8"))
 
     def test_values(self) -> None:
-        self.assertEqual(self.registry.normalise(MAP, [("aa", "2"), ("b", 1)]), [["b", 1], ["aa", 2]])
+        self.assertEqual(self.registry.normalise(MAP, [("aa", 2), ("b", 1)]), [["b", 1], ["aa", 2]])
         self.assertTrue(self.registry.equal(MAP, [["aa", 2], ["b", 1]], [["b", 1], ["aa", 2]]))
         self.assertFalse(self.registry.equal(MAP, [["aa", 2]], []))
 
@@ -57,7 +59,7 @@ class Done(unittest.TestCase):
         """A value that is a string isn't taken for JSON."""
         self.assertEqual(self.registry.encode('"STR"', '"a"'), b'\x03"a"')
         self.assertEqual(self.registry.decode('"STR"', b'\x03"a"'), '"a"')
-        self.assertEqual(self.registry.encode_text('"STR"', '"a"'), b"\x01a")
+        self.assertEqual(self.registry.encode_json('"STR"', '"a"'), b"\x01a")
         self.assertEqual(self.registry.encode('"STR"', "\u20ac\0"), b"\x04\xe2\x82\xac\0")
 
     def test_formats(self) -> None:
@@ -87,7 +89,7 @@ class Done(unittest.TestCase):
         registry = Registry({"Coin": {"NEWTYPESTRUCT": "U8"}, "coin": {"NEWTYPESTRUCT": "U64"}})
         for name in ["Coin", "coin"]:
             self.assertEqual(registry.encode(Caseless(name), 1), registry.encode(name, 1))
-        self.assertEqual(registry.encode_text("Coin", Caseless("7")), b"\7")
+        self.assertEqual(registry.encode_json("Coin", Caseless("7")), b"\7")
 
     def test_registries(self) -> None:
         one = '{"E":{"ENUM":{"0":{"A":"UNIT"}}}}'
@@ -109,13 +111,13 @@ class Done(unittest.TestCase):
         for data in [b"", b"\xc0\xde", bytearray(b"\xc0\xde"), memoryview(b"\0")]:
             encoded = self.registry.encode('"BYTES"', data)
             self.assertEqual(encoded, bytes([len(data)]) + bytes(data))
-            self.assertEqual(self.registry.decode('"BYTES"', memoryview(encoded)), bytes(data).hex())
+            self.assertEqual(self.registry.decode('"BYTES"', memoryview(encoded)), bytes(data))
 
     def test_large_values(self) -> None:
         data = bytes(range(256)) * 4096
         encoded = self.registry.encode('"BYTES"', data)
         self.assertEqual(encoded, b"\x80\x80\x40" + data)
-        self.assertEqual(self.registry.decode('"BYTES"', encoded), data.hex())
+        self.assertEqual(self.registry.decode('"BYTES"', encoded), data)
         many = [list(range(200))] * 1000
         encoded = self.registry.encode({"SEQ": {"SEQ": "U64"}}, many)
         self.assertEqual(len(encoded), 2 + 1000 * (2 + 200 * 8))
@@ -242,7 +244,7 @@ class Refused(unittest.TestCase):
         for format, value, reason in [
             ('"U8"', 256, "BadNumber"),
             ('"U128"', 2**128, "BadNumber"),
-            ('"BYTES"', "c0d", "BadHex"),
+            ('"BYTES"', Hex("c0d"), "BadHex"),
             ('"STR"', "\udc80", "NotJson"),
             ('"F64"', 1.5, "Unsupported"),
             ('"F64"', float("nan"), "Unsupported"),
@@ -253,12 +255,12 @@ class Refused(unittest.TestCase):
             self.refuses(TextError, reason, None, self.registry.encode, format, value)
             self.refuses(TextError, reason, None, self.registry.normalise, format, value)
             self.refuses(TextError, reason, None, self.registry.equal, format, value, value)
-        self.refuses(TextError, "NotJson", None, self.registry.encode_text, '"U8"', "x")
-        self.refuses(TextError, "NotJson", None, self.registry.encode_text, '"STR"', b'"\xff"')
+        self.refuses(TextError, "NotJson", None, self.registry.encode_json, '"U8"', "x")
+        self.refuses(TextError, "NotJson", None, self.registry.encode_json, '"STR"', b'"\xff"')
         for format, value in [('"U8"', 1.0), ('"U8"', True), ('"BOOL"', 1), ('"STR"', b"bob"), ("Payment", [1])]:
-            self.refuses(ValueTypeError, "BadType", None, self.registry.encode, format, value)
-            self.refuses(ValueTypeError, "BadType", None, self.registry.normalise, format, value)
-            self.refuses(ValueTypeError, "BadType", None, self.registry.equal, format, value, value)
+            self.refuses(ValueTypeError, "WrongType", None, self.registry.encode, format, value)
+            self.refuses(ValueTypeError, "WrongType", None, self.registry.normalise, format, value)
+            self.refuses(ValueTypeError, "WrongType", None, self.registry.equal, format, value, value)
 
     def test_bytes(self) -> None:
         rows: list[tuple[Format, str, str, int]] = [
@@ -293,7 +295,7 @@ class Refused(unittest.TestCase):
                 self.registry.decode,
                 self.registry.scan,
                 self.registry.explain,
-                self.registry.encode_text,
+                self.registry.encode_json,
             ]
             for call in calls:
                 with self.assertRaises(TypeError):
@@ -320,8 +322,11 @@ class Refused(unittest.TestCase):
         self.refuses(BytesError, "TooManyNodes", 0, self.registry.scan, "L", b"\0", Limits(nodes=2))
         self.assertEqual(self.registry.encode("L", {"next": None}, Limits(depth=1, nodes=3)), b"\0")
         for depth, nodes in [(501, 1), (-1, 1), (1, -1), (1, 2**32)]:
-            with self.assertRaises(ValueError):
+            with self.assertRaises(ValueError) as raised:
                 Limits(depth, nodes)
+            assert isinstance(raised.exception, LimitsError)
+            self.assertEqual((raised.exception.kind, raised.exception.reason, raised.exception.at), ("limits", "", ""))
+            self.assertRegex(str(raised.exception), "^refused: a (depth|number of nodes) is from 0 to [0-9]+, not ")
         for number in [1.5, 1e6, "5", decimal.Decimal(5)]:
             with self.assertRaises(TypeError):
                 Limits(depth=number)  # type: ignore[arg-type]

@@ -3,7 +3,7 @@
 import json
 import pathlib
 import unittest
-from typing import Any, Callable, Optional
+from typing import Any, Callable
 
 from bcs_proved import BcsError, ExampleError, FormatError, GrowthError, Limits, PathError, Registry, RegistryError
 
@@ -12,16 +12,16 @@ SHAPE = Registry({"Shape": {"ENUM": {"0": {"Dot": "UNIT"}, "1": {"Ring": {"NEWTY
 NEWER = Registry({"Shape": {"ENUM": {"0": {"Dot": {"NEWTYPE": "U8"}}}}, "a: Missing: b": "UNITSTRUCT"})
 NO_FORMAT = "wanted a format"
 PATHS = "wanted a number, inner, or key: and hexadecimal digits"
-# A call that is refused, its error and reason, the pointer, and the words.
-REFUSED: list[tuple[Callable[[], object], type[BcsError], str, Optional[str], Optional[str]]] = [
+# A call that is refused, its error and reason, where it is refused, and the beginning of the message.
+REFUSED: list[tuple[Callable[[], object], type[BcsError], str, str, str]] = [
     (lambda: SHAPE.check('{"SEQ":"U7"}'), FormatError, "BadShape", "/SEQ", NO_FORMAT),
     (lambda: SHAPE.encode({"SEQ": "U7"}, []), FormatError, "BadShape", "/SEQ", NO_FORMAT),
-    (lambda: SHAPE.decode_text({"TUPLE": ["U8", {}]}, b""), FormatError, "BadShape", "/TUPLE/1", NO_FORMAT),
+    (lambda: SHAPE.decode_json({"TUPLE": ["U8", {}]}, b""), FormatError, "BadShape", "/TUPLE/1", NO_FORMAT),
     (lambda: SHAPE.schema({"a: BadShape: b": 1}), FormatError, "BadShape", "", NO_FORMAT),
     (lambda: SHAPE.decode("Nope", b""), FormatError, "UnknownName", "", "no container is called Nope"),
     (lambda: SHAPE.scan({"SEQ": {"TYPENAME": "x"}}, b""), FormatError, "UnknownName", "", "no container is called x"),
     (lambda: SHAPE.explain("No", b""), FormatError, "UnknownName", "", "no container is called No"),
-    (lambda: SHAPE.equal_text("No", "1", "1"), FormatError, "UnknownName", "", "no container is called No"),
+    (lambda: SHAPE.equal_json("No", "1", "1"), FormatError, "UnknownName", "", "no container is called No"),
     (lambda: SHAPE.example("No"), FormatError, "UnknownName", "", "no container is called No"),
     (lambda: SHAPE.show("No"), FormatError, "UnknownName", "", "no container is called No"),
     (lambda: SHAPE.part("Shape", b"\0", "a"), PathError, "BadPath", "step 1 a", PATHS),
@@ -41,23 +41,23 @@ REFUSED: list[tuple[Callable[[], object], type[BcsError], str, Optional[str], Op
         "a: Missing: b",
         "the newer registry has no container of that name",
     ),
-    (lambda: SHAPE.example('"F32"'), ExampleError, "NoValue", None, None),
-    (lambda: SHAPE.example("Shape", variant="Oval"), ExampleError, "UnknownVariant", None, None),
-    (lambda: SHAPE.example("Shape", Limits(nodes=0)), ExampleError, "TooManyNodes", None, None),
+    (lambda: SHAPE.example('"F32"'), ExampleError, "NoValue", "", ""),
+    (lambda: SHAPE.example("Shape", variant="Oval"), ExampleError, "UnknownVariant", "", ""),
+    (lambda: SHAPE.example("Shape", Limits(nodes=0)), ExampleError, "TooManyNodes", "", ""),
 ]
 NEWER_SHAPE: Any = {"ENUM": {"0": {"Dot": {"NEWTYPE": "U8"}}}}
 
 
 class Refusals(unittest.TestCase):
     def test_each(self) -> None:
-        for number, (call, error, reason, pointer, expected) in enumerate(REFUSED):
+        for number, (call, error, reason, at, message) in enumerate(REFUSED):
             with self.subTest(row=number):
                 with self.assertRaises(BcsError) as raised:
                     call()
                 fault = raised.exception
-                self.assertEqual((type(fault), fault.reason, fault.pointer), (error, reason, pointer))
-                self.assertTrue((fault.expected or "").startswith(expected or ""), fault.expected)
-                self.assertEqual(fault.expected is None, expected is None)
+                self.assertEqual((type(fault), fault.reason, fault.at), (error, reason, at))
+                self.assertTrue(fault.message.startswith(message), fault.message)
+                self.assertEqual(bool(fault.message), bool(message))
 
 
 class Documents(unittest.TestCase):
@@ -71,17 +71,17 @@ class Documents(unittest.TestCase):
             registry = Registry.from_file(EXAMPLES / f"{name}_registry.json")
             for container in registry.names:
                 for full in [False, True]:
-                    value = registry.example(container, full=full, native=True)
+                    value = registry.example(container, full=full)
                     data = registry.encode(container, value)
-                    self.assertEqual(data, registry.encode_text(container, registry.example_text(container, full=full)))
-                    self.assertEqual(registry.decode(container, data, native=True), value)
+                    self.assertEqual(data, registry.encode_json(container, registry.example_json(container, full=full)))
+                    self.assertEqual(registry.decode(container, data), value)
 
     def test_example(self) -> None:
         self.assertEqual(SHAPE.example("Shape"), "Dot")
         self.assertEqual(SHAPE.example("Shape", variant="Ring"), {"Ring": None})
-        self.assertEqual(SHAPE.example("Shape", variant="Ring", full=True, native=True), {"Ring": {"some": 0}})
+        self.assertEqual(SHAPE.example("Shape", variant="Ring", full=True), {"Ring": {"some": 0}})
         self.assertEqual(SHAPE.example("Shape", variant="Ring", full=True, plain_options=True), {"Ring": 0})
-        self.assertEqual(SHAPE.example_text({"SEQ": "BOOL"}, full=True), "[false]")
+        self.assertEqual(SHAPE.example_json({"SEQ": "BOOL"}, full=True), "[false]")
 
     def test_show(self) -> None:
         self.assertEqual(SHAPE.show("Shape"), SHAPE.show())

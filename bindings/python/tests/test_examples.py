@@ -1,7 +1,6 @@
 """The transactions of examples/, and the README's example."""
 
 import doctest
-import json
 import pathlib
 import threading
 import unittest
@@ -34,13 +33,13 @@ class Examples(unittest.TestCase):
                 registry = registry_of(registry_name)
                 text, normal = text_of(f"{name}.json"), text_of(f"{name}_normal.json").rstrip("\n")
                 data = bytes.fromhex(text_of(f"{name}.hex"))
-                self.assertEqual(registry.encode_text(format, text), data)
-                self.assertEqual(registry.encode(format, json.loads(text)), data)
-                self.assertEqual(registry.decode_text(format, data), normal)
-                self.assertEqual(registry.decode(format, data), json.loads(normal))
-                self.assertEqual(registry.normalise_text(format, text), normal)
-                self.assertEqual(registry.normalise(format, json.loads(text)), json.loads(normal))
-                self.assertTrue(registry.equal_text(format, text, normal))
+                self.assertEqual(registry.encode_json(format, text), data)
+                value = registry.decode(format, data)
+                self.assertEqual(registry.encode(format, value), data)
+                self.assertEqual(registry.decode_json(format, data), normal)
+                self.assertEqual(registry.normalise_json(format, text), normal)
+                self.assertEqual(registry.normalise(format, value), value)
+                self.assertTrue(registry.equal_json(format, text, normal))
                 self.assertEqual(registry.scan(format, data), len(data))
                 self.assertEqual(registry.explain_text(format, data), text_of(f"{name}.explained"))
                 pieces = registry.explain(format, data)
@@ -50,10 +49,10 @@ class Examples(unittest.TestCase):
     def test_damaged_transactions(self) -> None:
         aptos, sui = registry_of("aptos_registry"), registry_of("sui_registry")
         with self.assertRaises(TextError) as raised:
-            aptos.encode_text("RawTransaction", text_of("aptos_transfer_damaged.json"))
+            aptos.encode_json("RawTransaction", text_of("aptos_transfer_damaged.json"))
         self.assertEqual(raised.exception.reason, "BadHex")
         with self.assertRaises(TextError) as raised:
-            sui.encode_text("TransactionData", text_of("sui_stake_damaged.json"))
+            sui.encode_json("TransactionData", text_of("sui_stake_damaged.json"))
         self.assertEqual(raised.exception.reason, "MissingField")
         for registry, format, name, reason, place in [
             (aptos, "RawTransaction", "aptos_transfer_damaged", "LongForm", 73),
@@ -91,8 +90,8 @@ class Threads(unittest.TestCase):
                 for step in range(100):
                     registry_name, format, name = TRANSACTIONS[(first + step) % len(TRANSACTIONS)]
                     registry, data = registries[registry_name], bytes.fromhex(texts[f"{name}.hex"])
-                    assert registry.encode_text(format, texts[f"{name}.json"]) == data
-                    assert registry.decode_text(format, data) == texts[f"{name}_normal.json"].rstrip("\n")
+                    assert registry.encode_json(format, texts[f"{name}.json"]) == data
+                    assert registry.decode_json(format, data) == texts[f"{name}_normal.json"].rstrip("\n")
                     assert registry.scan(format, data) == len(data)
             except BaseException as fault:
                 faults.append(fault)

@@ -2,14 +2,64 @@
 
 import gc
 import os
+import pathlib
+import subprocess
+import sys
 import threading
 import unittest
 import unittest.mock
-from typing import Any
+from typing import Any, Callable
 
-from bcs_proved import FormatError, Library, Registry, RegistryError, _Answer
+from bcs_proved import BcsError, FormatError, Library, Registry, RegistryError
+from bcs_proved.library import Answer
 
+HERE = pathlib.Path(__file__).resolve().parent
 NUMBER = '"U8"'
+# Calls of each method that uses a handle: some are answered, and some are refused, by the format or by the input.
+CALLS: list[Callable[[Registry], object]] = [
+    lambda registry: registry.check("None"),
+    lambda registry: registry.check(NUMBER),
+    lambda registry: registry.encode(NUMBER, 7),
+    lambda registry: registry.encode(NUMBER, 256),
+    lambda registry: registry.encode("None", 7),
+    lambda registry: registry.encode_json(NUMBER, "x"),
+    lambda registry: registry.decode(NUMBER, b"\7"),
+    lambda registry: registry.decode(NUMBER, b""),
+    lambda registry: registry.decode("None", b""),
+    lambda registry: registry.decode_prefix(NUMBER, b"\7\7"),
+    lambda registry: registry.decode_prefix({"SEQ": "BOOL"}, b"\1\2"),
+    lambda registry: registry.decode_json({"SEQ": "U64"}, b"\1" + bytes(8)),
+    lambda registry: registry.decode_prefix_json(NUMBER, b"\7\7"),
+    lambda registry: registry.normalise(NUMBER, 7),
+    lambda registry: registry.normalise_json(NUMBER, "-1"),
+    lambda registry: registry.equal(NUMBER, 7, 8),
+    lambda registry: registry.equal(NUMBER, 7, 256),
+    lambda registry: registry.equal_json(NUMBER, "7", "x"),
+    lambda registry: registry.scan(NUMBER, b"\7"),
+    lambda registry: registry.scan("None", b"\7"),
+    lambda registry: registry.part({"SEQ": "U8"}, b"\1\7", "0"),
+    lambda registry: registry.part({"SEQ": "U8"}, b"\1", "0"),
+    lambda registry: registry.part(NUMBER, b"\7", "x"),
+    lambda registry: registry.part_by_name({"SEQ": "U8"}, b"\1\7", "[0]"),
+    lambda registry: registry.part_by_pointer({"SEQ": "BOOL"}, b"\1\2", "/0"),
+    lambda registry: registry.explain(NUMBER, b""),
+    lambda registry: registry.explain_text("None", b""),
+    lambda registry: registry.schema(NUMBER),
+    lambda registry: registry.schema("None"),
+    lambda registry: registry.example({"SEQ": "U64"}, full=True),
+    lambda registry: registry.example('"F32"'),
+    lambda registry: registry.example_json(NUMBER, variant="x"),
+    lambda registry: registry.show(),
+    lambda registry: registry.show("None"),
+]
+
+
+def told(call: Callable[[Registry], object], registry: Registry) -> object:
+    """What a call returns or raises."""
+    try:
+        return call(registry)
+    except BcsError as fault:
+        return type(fault), str(fault)
 
 
 class CountingLibrary(Library):
@@ -53,8 +103,8 @@ class Outputs(unittest.TestCase):
                 return b""
 
         library = CountingLibrary()
-        library.ask = lambda *_: _Answer(status=0, length=2**32 + 3)  # type: ignore[assignment]
-        with unittest.mock.patch("bcs_proved.memoryview", Copied, create=True):
+        library.ask = lambda *_: Answer(status=0, length=2**32 + 3)  # type: ignore[assignment]
+        with unittest.mock.patch("bcs_proved.library.memoryview", Copied, create=True):
             library.put("bcs_fault_name", 40, 1)
         self.assertEqual(asked, [2**32 + 3])
 
@@ -119,6 +169,35 @@ class Handles(unittest.TestCase):
         self.library.calls["bcs_handle_scan"] = close_and_scan
         self.assertEqual(registry.scan(NUMBER, b"\x07"), 1)
         self.assertEqual(self.library.counts, (1, 1))
+
+    def test_closing_while_each_method_runs(self) -> None:
+        """Whenever it is closed, even between a refusal and the request for its message, the call ends with its own
+        answer."""
+        for number, call in enumerate(CALLS):
+            library = CountingLibrary()
+            registry = Registry("{}", library)
+            ask = library.ask
+
+            def closing(name: str, *words: Any, registry: Registry = registry, ask: Any = ask) -> Any:
+                registry.close()
+                answer = ask(name, *words)
+                registry.close()
+                return answer
+
+            library.ask = closing  # type: ignore[assignment]
+            with self.subTest(call=number):
+                self.assertEqual(told(call, registry), told(call, Registry("{}")))
+                self.assertIsNone(registry._handle)
+                self.assertEqual(library.counts, (1, 1))
+                with self.assertRaisesRegex(ValueError, "closed"):
+                    call(registry)
+
+    def test_closing_in_another_thread(self) -> None:
+        """Freed memory is overwritten, so a call that reads it fails or ends the process."""
+        environment = {**os.environ, "MALLOC_PERTURB_": "165"}
+        words = [sys.executable, str(HERE / "closing_threads.py")]
+        ran = subprocess.run(words, env=environment, capture_output=True, text=True, check=False)
+        self.assertEqual((ran.returncode, ran.stderr, ran.stdout), (0, "", "400 threads, and no other end\n"))
 
     def test_closing_while_other_threads_call(self) -> None:
         """The last of eight calls frees the handle, and later ones raise."""

@@ -151,9 +151,9 @@ class Reentrant(unittest.TestCase):
             self.registry.encode({"SEQ": "U64"}, [self.runs] * 100),
             bytes([100]) + self.runs.to_bytes(8, "little") * 100,
         )
-        self.assertEqual(self.registry.normalise("Payment", ALICE), {"to": "alice", "amount": "5000"})
+        self.assertEqual(self.registry.normalise("Payment", ALICE), ALICE)
         self.assertTrue(self.registry.equal("Payment", ALICE, ALICE))
-        self.assertEqual(self.registry.decode("Payment", ALICE_BYTES, native=True), ALICE)
+        self.assertEqual(self.registry.decode("Payment", ALICE_BYTES), ALICE)
         with self.assertRaises(ValueTypeError):
             self.registry.encode("Payment", {"to": "eve", "amount": b"7"})
         with self.assertRaises(TextError):
@@ -164,7 +164,7 @@ class Reentrant(unittest.TestCase):
         mapping = RunningMapping(self.calls, BOB)
         for value in [running, mapping, RunningMapping(self.calls, running)]:
             self.assertEqual(self.registry.encode("Payment", value), BOB_BYTES)
-            self.assertEqual(self.registry.normalise("Payment", value), {"to": "bob", "amount": "7"})
+            self.assertEqual(self.registry.normalise("Payment", value), BOB)
             self.assertTrue(self.registry.equal("Payment", value, BOB))
             self.assertTrue(self.registry.equal("Payment", BOB, value))
             self.assertEqual(self.registry.encode(PAYMENTS, [value, BOB, value]), b"\3" + BOB_BYTES * 3)
@@ -173,7 +173,7 @@ class Reentrant(unittest.TestCase):
     def test_calls_within_formats(self) -> None:
         format = RunningMapping(self.calls, {"SEQ": RunningMapping(self.calls, {"TYPENAME": "Payment"})})
         self.assertEqual(self.registry.encode(format, [BOB]), b"\1" + BOB_BYTES)
-        self.assertEqual(self.registry.decode(format, b"\1" + BOB_BYTES, native=True), [BOB])
+        self.assertEqual(self.registry.decode(format, b"\1" + BOB_BYTES), [BOB])
         self.assertEqual(Registry(RunningMapping(self.calls, PAYMENT)).encode("Payment", BOB), BOB_BYTES)
         self.assertGreater(self.runs, 5)
 
@@ -187,8 +187,7 @@ class Reentrant(unittest.TestCase):
     def test_closing_within(self) -> None:
         for value in [{"to": "bob", "amount": Running(self.registry.close)}, RunningMapping(self.registry.close, BOB)]:
             self.setUp()
-            with self.assertRaisesRegex(ValueError, "closed"):
-                self.registry.encode("Payment", RunningMapping(self.registry.close, value))
+            self.assertEqual(self.registry.encode("Payment", RunningMapping(self.registry.close, value)), BOB_BYTES)
             with self.assertRaisesRegex(ValueError, "closed"):
                 self.registry.decode("Payment", BOB_BYTES)
 
@@ -277,10 +276,10 @@ class Nesting(unittest.TestCase):
             for call in calls:
                 with self.assertRaises(TextError) as raised:
                     call(format, value)
-                self.assertEqual((raised.exception.reason, raised.exception.pointer), ("TooNested", ""))
+                self.assertEqual((raised.exception.reason, raised.exception.at), ("TooNested", ""))
         with self.assertRaises(ValueTypeError) as wrong:
             self.registry.encode({"SEQ": {"SEQ": "U8"}}, cyclic)
-        self.assertEqual(wrong.exception.pointer, "/0/0")
+        self.assertEqual(wrong.exception.at, "/0/0")
         format_of_itself: dict[str, Any] = {}
         format_of_itself["SEQ"] = format_of_itself
         with self.assertRaises(FormatError):
@@ -297,8 +296,8 @@ class Nesting(unittest.TestCase):
         for call in calls:
             with self.assertRaises(TextError) as raised:
                 call("T", value, Limits(nodes=10000))
-            self.assertEqual((raised.exception.reason, raised.exception.pointer), ("TooManyNodes", ""))
-            self.assertEqual(raised.exception.expected, "the value has more nodes than --nodes allows, 10000")
+            self.assertEqual((raised.exception.reason, raised.exception.at), ("TooManyNodes", ""))
+            self.assertEqual(raised.exception.message, "the value has more nodes than --nodes allows, 10000")
 
     def test_depth(self) -> None:
         """The library reads 100 levels of JSON, and values have as many: here each level is one of its text."""
@@ -317,7 +316,7 @@ class Nesting(unittest.TestCase):
     def answers_as_its_text(self, format: str, value: Any) -> bool:
         """Whether it is a value, or nests too deep."""
         try:
-            data = self.registry.encode_text(format, json.dumps(value))
+            data = self.registry.encode_json(format, json.dumps(value))
         except TextError:
             return self.is_too_nested(format, value)
         self.assertEqual(self.registry.encode(format, value), data)
@@ -326,8 +325,8 @@ class Nesting(unittest.TestCase):
     def is_too_nested(self, format: str, value: Any) -> bool:
         with self.assertRaises(TextError) as raised:
             self.registry.encode(format, value)
-        self.assertEqual((raised.exception.reason, raised.exception.pointer), ("TooNested", ""))
-        self.assertEqual(raised.exception.expected, "arrays and objects nest more than 100 deep")
+        self.assertEqual((raised.exception.reason, raised.exception.at), ("TooNested", ""))
+        self.assertEqual(raised.exception.message, "arrays and objects nest more than 100 deep")
         return False
 
     def test_newtypes(self) -> None:
@@ -410,13 +409,13 @@ class Memory(unittest.TestCase):
             "registry = Registry({})\n"
             "resource.setrlimit(resource.RLIMIT_AS, (400_000_000, 400_000_000))\n"
             "limits = {'limits': eval(sys.argv[1])} if sys.argv[1:] else {}\n"
-            "calls = [registry.decode, registry.decode_text, registry.scan, registry.explain_text, registry.explain]\n"
+            "calls = [registry.decode, registry.decode_json, registry.scan, registry.explain_text, registry.explain]\n"
             "for call in [*calls, lambda format, data, **limits: registry.part(format, data, '.', **limits)]:\n"
             "    try:\n"
             "        told = call({'SEQ': 'UNIT'}, bytes.fromhex('ffffffff07'), **limits)\n"
             "        print(told if isinstance(told, str) else told[-1])\n"
             "    except BytesError as fault:\n"
-            "        print(fault.reason, fault.place, fault.pointer)\n"
+            "        print(fault.reason, fault.place, fault.at)\n"
             "    except MemoryError:\n"
             "        print('MemoryError')\n"
         )
@@ -428,10 +427,10 @@ class Memory(unittest.TestCase):
         self.assertEqual((told.returncode, told.stdout, told.stderr), (0, "MemoryError\n", ""))
 
     def test_the_limit(self) -> None:
-        """16 for each byte and 1,000,000 more; the list itself is one, and so is each unit. Three bytes are the
+        """16 for each byte and 65,536 more; the list itself is one, and so is each unit. Three bytes are the
         length."""
         registry = Registry({})
-        most = 1_000_000 + 16 * 3 - 1
+        most = 65_536 + 16 * 3 - 1
         for count, limits, is_value in [
             (most, None, True),
             (most + 1, None, False),
@@ -452,18 +451,59 @@ class Memory(unittest.TestCase):
         self.assertEqual(len(registry.encode(self.UNITS, units)), 3)
         self.assertEqual((Limits.standard().depth, Limits.standard().nodes), (500, 2**32 - 1))
 
+    def test_long_names(self) -> None:
+        """Three bytes announce 40,000 structs of 20 units, and a decoded value repeats their names. The longer these
+        are, the fewer nodes are allowed."""
+        script = (
+            "import resource, sys; from bcs_proved import BytesError, Registry\n"
+            "peak = lambda: resource.getrusage(resource.RUSAGE_SELF).ru_maxrss\n"
+            "fields = [{f'{place:02}' + 'n' * (int(sys.argv[1]) - 2): 'UNIT'} for place in range(20)]\n"
+            "registry, before = Registry({'S': {'STRUCT': fields}}), peak()\n"
+            "units = {'SEQ': {'TYPENAME': 'S'}}\n"
+            "for call in [registry.decode, registry.decode_json, registry.explain_text, registry.explain]:\n"
+            "    try:\n"
+            "        call(units, bytes.fromhex('c0b802'))\n"
+            "    except BytesError as fault:\n"
+            "        assert fault.reason == 'TooManyNodes'\n"
+            "print((peak() - before) // 1000)\n"
+        )
+        for length in [2, 64, 65, 1000, 30000]:
+            told = run("-c", script, str(length))
+            self.assertEqual((told.returncode, told.stderr), (0, ""), length)
+            self.assertLess(int(told.stdout), 50, length)
+
+    def test_large_byte_strings(self) -> None:
+        """They take five times their size."""
+        script = (
+            "import resource, sys; from bcs_proved import Registry\n"
+            "peak = lambda: resource.getrusage(resource.RUSAGE_SELF).ru_maxrss * 1024\n"
+            "data = b'\\x80\\x80\\x80\\x10' + bytes(2 ** 25)\n"
+            "value, registry = data[4:], Registry({})\n"
+            "before = peak()\n"
+            "found = registry.encode('\"BYTES\"', value) if sys.argv[1:] else registry.decode('\"BYTES\"', data)\n"
+            "assert found == (data if sys.argv[1:] else value)\n"
+            "print((peak() - before) / 2 ** 25)\n"
+        )
+        calls: list[list[str]] = [["encode"], []]
+        for words in calls:
+            told = run("-c", script, *words)
+            self.assertEqual((told.returncode, told.stderr), (0, ""))
+            self.assertLess(float(told.stdout), 5.2)
+            self.assertGreater(float(told.stdout), 2)
+
 
 class Stacks(unittest.TestCase):
     def test_small_stacks(self) -> None:
-        """Each call is done, or raises MemoryError; and with 8 MiB all are done."""
-        few = ["encode a number: done", "encode a list of 10: done", "decode 31 levels natively: done"]
+        """Each call is done, or raises StackError; and with 8 MiB all are done."""
+        few = ["encode a number: done", "encode a list of 10: done", "decode 31 levels: done"]
         for size, done in [(32768, few[:0]), (65536, few[:0]), (131072, few[:1]), (262144, few), (8388608, few)]:
             told = run(str(HERE / "small_stacks.py"), str(size))
             self.assertEqual((told.returncode, told.stderr), (0, ""), size)
             lines = told.stdout.splitlines()
-            self.assertEqual(len(lines), 19)
+            self.assertEqual(len(lines), 18)
             ends = {line.split(": ")[1] for line in lines}
-            self.assertLessEqual(ends, {"done"} if size == 8388608 else {"done", "MemoryError"}, size)
+            self.assertLessEqual(ends, {"done"} if size == 8388608 else {"done", "StackError"}, size)
+            self.assertEqual("StackError" in ends, size < 8388608, size)
             self.assertLessEqual(set(done), set(lines), size)
 
 

@@ -36,7 +36,7 @@ def encoded(registry: Registry) -> bytes:
 class Native(unittest.TestCase):
     def comes_back(self, format: Any, value: Any) -> None:
         registry = Registry(SHAPES)
-        found = registry.decode(format, registry.encode(format, value), native=True)
+        found = registry.decode(format, registry.encode(format, value))
         self.assertEqual(found, value)
         self.assertIs(type(found), type(value))
 
@@ -81,17 +81,17 @@ class Native(unittest.TestCase):
     def test_transactions(self) -> None:
         for name, format in [("aptos_transfer", "RawTransaction"), ("sui_transfer", "TransactionData")]:
             registry = Registry(EXAMPLES / f"{name.split('_')[0]}_registry.json")
-            data = registry.encode_text(format, (EXAMPLES / f"{name}.json").read_bytes())
-            value = registry.decode(format, data, native=True)
+            data = registry.encode_json(format, (EXAMPLES / f"{name}.json").read_bytes())
+            value = registry.decode(format, data)
             self.assertEqual(registry.encode(format, value), data)
-            self.assertEqual(registry.decode(format, registry.encode(format, value), native=True), value)
+            self.assertEqual(registry.decode(format, registry.encode(format, value)), value)
 
     def test_what_looks_wide(self) -> None:
         """Digits in a string stay there, and a wide number beside them goes as digits."""
         registry = Registry({})
         value = ["[1234567890123456789012", 2**100]
         data = registry.encode({"TUPLE": ["STR", "U128"]}, value)
-        self.assertEqual(registry.decode({"TUPLE": ["STR", "U128"]}, data, native=True), value)
+        self.assertEqual(registry.decode({"TUPLE": ["STR", "U128"]}, data), value)
         self.assertEqual(registry.encode('"U128"', 2**100), (2**100).to_bytes(16, "little"))
 
 

@@ -2,9 +2,30 @@
 
 import pickle
 import unittest
-from typing import Any, Optional
+from typing import Any
 
-from bcs_proved import BcsError, BytesError, Registry, RegistryError, TextError, ValueTypeError
+from bcs_proved import (
+    BcsError,
+    BytesError,
+    ExampleError,
+    FormatError,
+    GrowthError,
+    Hex,
+    LimitsError,
+    PathError,
+    Registry,
+    RegistryError,
+    StackError,
+    TextError,
+    ValueTypeError,
+)
+
+REFUSALS: list[type[BcsError]] = [
+    *[RegistryError, FormatError, LimitsError, TextError, ValueTypeError, BytesError, PathError, GrowthError],
+    *[ExampleError, StackError],
+]
+# The words that all languages have. A newer registry is refused when it is opened, as "registry".
+KINDS = ["registry", "growth", "format", "limits", "text", "bytes", "path", "example", "value", "stack"]
 
 SHAPES = {
     "Point": {"STRUCT": [{"x": "U8"}, {"~/": {"SEQ": "BYTES"}}]},
@@ -16,32 +37,30 @@ class Places(unittest.TestCase):
     def setUp(self) -> None:
         self.registry = Registry(SHAPES)
 
-    def tells(
-        self, error: type[BcsError], pointer: Optional[str], expected: Optional[str], call: Any, *words: Any
-    ) -> BcsError:
+    def tells(self, error: type[BcsError], at: str, message: str, call: Any, *words: Any) -> BcsError:
         with self.assertRaises(error) as raised:
             call(*words)
-        self.assertEqual((raised.exception.pointer, raised.exception.expected), (pointer, expected))
+        self.assertEqual((raised.exception.at, raised.exception.message), (at, message))
         return raised.exception
 
     def test_texts(self) -> None:
         of_u64 = "wanted a whole number from 0 to 18446744073709551615 (U64)"
-        for format, value, pointer, expected in [
-            ("Point", {"x": 1, "~/": [b"", "0"]}, "/~0~1/1", "an odd number of digits"),
+        for format, value, at, message in [
+            ("Point", {"x": 1, "~/": [b"", Hex("0")]}, "/~0~1/1", "an odd number of digits"),
             ("Point", {"x": 256, "~/": []}, "/x", "found 256, wanted a whole number from 0 to 255 (U8)"),
             ("Point", {"x": 1}, "", "no member is called ~/"),
-            ("Shape", {"Circle": "x"}, "/Circle", f'found "x", {of_u64}'),
+            ("Shape", {"Circle": -1}, "/Circle", f"found -1, {of_u64}"),
             ("Shape", "Disc", "", "no variant is called Disc; variants: Dot, Circle"),
             ({"MAP": {"KEY": "U8", "VALUE": "U8"}}, [[1, 2], [1, 3]], "", "two keys of a map are equal"),
         ]:
-            refused = self.tells(TextError, pointer, expected, self.registry.encode, format, value)
-            self.assertIn(expected, str(refused))
-            self.tells(TextError, pointer, expected, self.registry.normalise, format, value)
-        types = "BYTES takes bytes or hexadecimal digits, not int"
+            refused = self.tells(TextError, at, message, self.registry.encode, format, value)
+            self.assertIn(message, str(refused))
+            self.tells(TextError, at, message, self.registry.normalise, format, value)
+        types = "BYTES takes bytes, or Hex(…) for digits, not int"
         self.tells(ValueTypeError, "/~0~1/1", types, self.registry.encode, "Point", {"x": 1, "~/": [b"", 7]})
-        self.tells(TextError, "", "wanted BOOL, true or false", self.registry.encode_text, '"BOOL"', "7")
+        self.tells(TextError, "", "wanted BOOL, true or false", self.registry.encode_json, '"BOOL"', "7")
         told = self.tells(
-            TextError, "", "line 1, column 1: the text stops being JSON there", self.registry.encode_text, '"U8"', "x"
+            TextError, "", "line 1, column 1: the text stops being JSON there", self.registry.encode_json, '"U8"', "x"
         )
         self.assertEqual(told.reason, "NotJson")
 
@@ -55,13 +74,13 @@ class Places(unittest.TestCase):
             {"x": -1, "~/": []},
         )
         words = "found -1, wanted a whole number from 0 to 255 (U8)"
-        self.assertEqual(str(told), f"no value of the format: BadNumber at /x: {words}")
+        self.assertEqual(str(told), f"refused: BadNumber at /x: {words}")
         again = pickle.loads(pickle.dumps(told))
-        self.assertEqual((str(again), again.pointer, again.reason), (str(told), "/x", "BadNumber"))
+        self.assertEqual((str(again), again.at, again.reason), (str(told), "/x", "BadNumber"))
 
     def test_two_texts(self) -> None:
-        good, bad = {"x": 1, "~/": []}, {"x": "", "~/": []}
-        wanted = 'found "", wanted a whole number from 0 to 255 (U8)'
+        good, bad = {"x": 1, "~/": []}, {"x": 256, "~/": []}
+        wanted = "found 256, wanted a whole number from 0 to 255 (U8)"
         self.tells(TextError, "/x", wanted, self.registry.equal, "Point", good, bad)
         self.tells(TextError, "/x", wanted, self.registry.equal, "Point", bad, {})
 
@@ -79,13 +98,55 @@ class Places(unittest.TestCase):
         )
         self.tells(BytesError, "[0]", "wanted BOOL", self.registry.part, {"SEQ": "BOOL"}, b"\1\2", ".")
 
+    def test_strings_are_strings(self) -> None:
+        """Whether a string is accepted doesn't depend on what it looks like."""
+        registry = Registry({"Note": {"STRUCT": [{"memo": {"SEQ": "U8"}}, {"fee": "U64"}]}})
+        for digits in ["1234", "cafe", "000000", "69b71d", "hello", ""]:
+            with self.assertRaises(ValueTypeError) as raised:
+                registry.encode("Note", {"memo": digits, "fee": 7})
+            words = "SEQ of U8 takes bytes, or Hex(…) for digits, not str"
+            self.assertEqual(str(raised.exception), f"refused: WrongType at /memo: {words}")
+            with self.assertRaises(ValueTypeError) as raised:
+                registry.encode("Note", {"memo": b"", "fee": digits})
+            self.assertEqual(str(raised.exception), "refused: WrongType at /fee: U64 takes an int, not str")
+        self.assertEqual(registry.encode("Note", {"memo": Hex("cafe"), "fee": 7})[:3], b"\2\xca\xfe")
+        with self.assertRaises(TypeError):
+            Hex(b"cafe")  # type: ignore[arg-type]
+
+    def test_hints(self) -> None:
+        """A format without parts isn't a container's name."""
+        for word in ["U64", "BYTES", "F32"]:
+            hint = f"""; for the format {word}, write '"{word}"'"""
+            self.tells(FormatError, "", f"no container is called {word}{hint}", self.registry.encode, word, 5)
+        self.tells(FormatError, "", "no container is called Payment", self.registry.encode, "Payment", 5)
+
+    def test_kinds(self) -> None:
+        """Each class of refusals has a kind of its own, and is pickled with all that it says."""
+        kinds = [error.kind for error in REFUSALS]
+        self.assertEqual(sorted(kinds), sorted(KINDS))
+        for error in REFUSALS:
+            fault = error("BadBool", 7, ".a", "wanted BOOL")
+            again = pickle.loads(pickle.dumps(fault))
+            self.assertEqual((type(again), again.args, str(again)), (error, fault.args, str(fault)))
+        for fault, line in [
+            (BytesError("BadBool", 7, ".a", "wanted BOOL"), "refused: BadBool at byte 7, .a: wanted BOOL"),
+            (BytesError("BadBool", 0), "refused: BadBool at byte 0"),
+            (TextError("BadNumber", None, "/a", "found 7"), "refused: BadNumber at /a: found 7"),
+            (
+                TextError("MissingField", message="no member is called a"),
+                "refused: MissingField: no member is called a",
+            ),
+            (StackError("", message="too little stack"), "refused: too little stack"),
+        ]:
+            self.assertEqual(str(fault), line)
+
     def test_registries(self) -> None:
-        for text, pointer, expected in [
+        for text, at, message in [
             ('{"S":{"ENUM":{"x":{"A":"UNIT"}}}}', "/S/ENUM/x", "wanted a plain decimal number below 4294967296"),
             ({"S": {"STRUCT": [{"side": {"TYPENAME": "Sid"}}]}}, "S, field side", "no container is called Sid"),
             ("{", "line 1, column 1", "the text stops being JSON there"),
         ]:
-            self.tells(RegistryError, pointer, expected, Registry, text)
+            self.tells(RegistryError, at, message, Registry, text)
 
 
 if __name__ == "__main__":

@@ -8,12 +8,16 @@ from typing import Any, Callable
 
 import numpy
 
-from bcs_proved import Limits, Registry, TextError
+from bcs_proved import Hex, Limits, Registry, TextError
 
-SEED, REGISTRIES, VALUES = 20260, 400, 12
+SEED, REGISTRIES, VALUES = 20260, 4200, 12
 LEAVES = ["UNIT", "BOOL", "STR", "BYTES", *(f"{sign}{width}" for sign in "UI" for width in (8, 16, 32, 64, 128))]
 CHARACTERS = ["a", '"', "\\", "/", "~", "\0", "\n", "\x7f", "\u20ac", "\u2028", "\U0001f600", " 1", "{}"]
 NUMPY = {"U8": "u1", "U16": "u2", "U32": "u4", "U64": "u8", "I8": "i1", "I16": ">i2", "I32": "i4", "I64": ">i8"}
+OF_32_BYTES = {"NEWTYPESTRUCT": {"TUPLEARRAY": {"CONTENT": "U8", "SIZE": 32}}}
+# Containers with a form of their own in values, by their names, and the names that the registries are opened with.
+OWN_FORMS = {"address": "address", "Account": "address", "u256": "u256", "i256": "i256"}
+NAMES = {"address": ["address", "Account"]}
 ARRAYS = {"U16": "H", "U32": "I", "U64": "Q", "I16": "h", "I32": "i", "I64": "q"}
 
 
@@ -68,15 +72,14 @@ def a_payload(draw: random.Random, containers: list[str], payload: str) -> Any:
 
 def a_registry(draw: random.Random) -> dict[str, Any]:
     """A container names earlier ones, so that each value has an end."""
-    registry: dict[str, Any] = {}
+    registry: dict[str, Any] = {name: OF_32_BYTES for name in OWN_FORMS}
     for name in names(draw.randrange(1, 7), draw):
         registry[name] = a_container(draw, list(registry))
     return registry
 
 
 class Drawn:
-    """A value as `decode` with `native` returns it, the same value in other types, its bytes, and how many nodes it
-    has."""
+    """A value as `decode` returns it, the same value in other types, its bytes, and how many nodes it has."""
 
     def __init__(self, native: Any, dressed: Any, data: bytes, nodes: int = 1) -> None:
         self.native, self.dressed, self.data, self.nodes = native, dressed, data, nodes
@@ -100,6 +103,8 @@ class Values:
         if isinstance(format, str):
             return self._leaf(format)
         ((kind, inner),) = format.items()
+        if kind == "TYPENAME" and inner in OWN_FORMS:
+            return self._own(OWN_FORMS[inner])
         if kind == "TYPENAME":
             held = self._content(self._registry[inner])
             return Drawn(held.native, held.dressed, held.data, 1 + held.nodes)
@@ -113,6 +118,23 @@ class Values:
             return self._list(inner["CONTENT"], inner["SIZE"], b"")
         length = self._draw.choice([0, 1, 2, 3, 130 if isinstance(inner, str) else 0])
         return self._list(inner, length, uleb(length))
+
+    def _own(self, kind: str) -> Drawn:
+        """The container, the array, and 32 bytes are a node each."""
+        if kind != "address":
+            is_signed = kind == "i256"
+            number = self._integer(256, is_signed)
+            return Drawn(number, number, number.to_bytes(32, "little", signed=is_signed), 34)
+        number = self._draw.choice([1, 10, self._integer(256, False)])
+        data = number.to_bytes(32, "big")
+        dressed = self._draw.choice([hex(number), f"0x{number:064X}", data, Hex(data.hex())])
+        return Drawn(f"0x{number:064x}", dressed, data, 34)
+
+    def _integer(self, bits: int, is_signed: bool) -> int:
+        least = -(2 ** (bits - 1)) if is_signed else 0
+        most = least + 2**bits - 1
+        number: int = self._draw.choice([0, 1, least, most, self._draw.randint(least, most)])
+        return number
 
     def _leaf(self, word: str) -> Drawn:
         if word == "UNIT":
@@ -141,8 +163,10 @@ class Values:
             bytes,
             bytearray,
             memoryview,
-            bytes.hex,
-            lambda data: data.hex().upper(),
+            list,
+            tuple,
+            lambda data: Hex(data.hex()),
+            lambda data: Hex(data.hex().upper()),
             lambda data: array.array("B", data),
             lambda data: numpy.frombuffer(data, "u1"),
         ]
@@ -150,10 +174,8 @@ class Values:
 
     def _number(self, word: str) -> Drawn:
         bits, is_signed = int(word[1:]), word[0] == "I"
-        least = -(2 ** (bits - 1)) if is_signed else 0
-        most = least + 2**bits - 1
-        number = self._draw.choice([0, 1, least, most, self._draw.randint(least, most)])
-        shapes: list[Callable[[int], Any]] = [int, int, str]
+        number = self._integer(bits, is_signed)
+        shapes: list[Callable[[int], Any]] = [int, int]
         if word in NUMPY:
             shapes.append(numpy.dtype(NUMPY[word]).type)
         return Drawn(number, self._draw.choice(shapes)(number), number.to_bytes(bits // 8, "little", signed=is_signed))
@@ -235,7 +257,7 @@ class There(unittest.TestCase):
         for _ in range(REGISTRIES):
             containers = a_registry(draw)
             values = Values(draw, containers)
-            with Registry(containers) as registry:
+            with Registry(containers, names=NAMES) as registry:
                 for _ in range(VALUES):
                     format = draw.choice(
                         [{"TYPENAME": draw.choice(list(containers))}, a_format(draw, list(containers), 3)]
@@ -249,13 +271,13 @@ class There(unittest.TestCase):
         format = format if isinstance(format, dict) else f'"{format}"'
         self.assertEqual(registry.encode(format, drawn.dressed), drawn.data, said)
         self.assertEqual(registry.encode(format, drawn.native), drawn.data, said)
-        self.assertEqual(registry.decode(format, drawn.data, native=True), drawn.native, said)
+        self.assertEqual(registry.decode(format, drawn.data), drawn.native, said)
         self.assertEqual(registry.encode(format, registry.decode(format, drawn.data)), drawn.data, said)
         self.assertTrue(registry.equal(format, drawn.dressed, drawn.native), said)
         self.assertEqual(registry.encode(format, drawn.dressed, Limits(nodes=drawn.nodes)), drawn.data, said)
         with self.assertRaises(TextError, msg=said) as raised:
             registry.encode(format, drawn.dressed, Limits(nodes=drawn.nodes - 1))
-        self.assertEqual((raised.exception.reason, raised.exception.pointer), ("TooManyNodes", ""), said)
+        self.assertEqual((raised.exception.reason, raised.exception.at), ("TooManyNodes", ""), said)
 
 
 if __name__ == "__main__":

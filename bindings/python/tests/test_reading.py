@@ -88,7 +88,7 @@ class Prefix(unittest.TestCase):
     def test_what_follows_is_not_read(self) -> None:
         for rest in [b"", b"\0", b"\xff" * 100]:
             self.assertEqual(self.registry.decode_prefix('"U16"', b"\1\2" + rest), (513, 2))
-            self.assertEqual(self.registry.decode_prefix('"U64"', b"\7" + bytes(7) + rest, native=True), (7, 8))
+            self.assertEqual(self.registry.decode_prefix('"U64"', b"\7" + bytes(7) + rest), (7, 8))
             self.assertEqual(self.registry.decode_prefix('"UNIT"', rest), (None, 0))
         self.assertEqual(self.registry.decode_prefix({"OPTION": "U8"}, b"\1\5x", plain_options=True), (5, 2))
 
@@ -98,7 +98,7 @@ class Prefix(unittest.TestCase):
             value, length = self.registry.decode_prefix({"SEQ": "U8"}, data)
             found.append(value)
             data = data[length:]
-        self.assertEqual(found, ["616263", "", "ff"])
+        self.assertEqual(found, [b"abc", b"", b"\xff"])
 
     def test_refusals(self) -> None:
         with self.assertRaises(BytesError) as raised:
@@ -127,7 +127,7 @@ class Options(unittest.TestCase):
                 data = bytes.fromhex(digits)
                 self.assertEqual(registry.encode(format, exact), data)
                 self.assertEqual(registry.encode(format, plain), data)
-                self.assertEqual(registry.decode(format, data, native=True), exact)
+                self.assertEqual(registry.decode(format, data), exact)
                 self.assertEqual(registry.decode(format, data, plain_options=True), plain)
 
     def test_names(self) -> None:

@@ -23,7 +23,10 @@ REGISTRIES = {
     "sui": ROOT / "examples/sui_registry.json",
     "shapes": ROOT / "bindings/web/tests/shapes.json",
     "hostile": ROOT / "tests/rows/hostile_names.json",
+    "move": HERE / "move.json",
 }
+# The names that a registry is opened with.
+NAMES = {"move": {"address": ["address", "Account"]}}
 EACH = 3
 TEXTS = ["", "a", '"', "'", "\\", "\n", "\u2028", "名前", "😀", "%s", "{x}", "\0"]
 
@@ -33,11 +36,13 @@ class NoValue(Exception):
 
 
 class Values:
-    """Random values of a registry's containers, as `decode` with `native` gives them."""
+    """Random values of a registry's containers, as `decode` returns them."""
 
-    def __init__(self, containers: dict[str, Any]) -> None:
+    def __init__(self, containers: dict[str, Any], names: dict[str, list[str]]) -> None:
         self._containers = containers
         self._random = random.Random(12345)
+        own = {**{kind: [kind] for kind in ["address", "u256", "i256"]}, **names}
+        self._own_forms = {name: kind for kind, all_names in own.items() for name in all_names}
 
     def value(self, format: Any, deep: int) -> Any:
         if isinstance(format, str):
@@ -46,6 +51,8 @@ class Values:
         if kind == "TYPENAME":
             if deep == 0:
                 raise NoValue
+            if inner in self._own_forms:
+                return self._own(self._own_forms[inner])
             return self._content(self._containers[inner], deep - 1)
         if kind == "OPTION":
             return self._or(None, lambda: {"some": self.value(inner, deep)})
@@ -57,6 +64,10 @@ class Values:
             parts = [inner["KEY"], inner["VALUE"]]
             return self._or([], lambda: [self._row(parts, deep) for _ in range(self._random.randrange(3))])
         return self._row(inner, deep)
+
+    def _own(self, kind: str) -> Any:
+        data = self._random.randbytes(32)
+        return f"0x{data.hex()}" if kind == "address" else int.from_bytes(data, "big", signed=kind == "i256")
 
     def _leaf(self, word: str) -> Any:
         if word in ("CHAR", "F32", "F64"):
@@ -105,7 +116,8 @@ class Values:
 
 def random_values(name: str, containers: dict[str, Any], plain_options: bool = False) -> list[str]:
     """Lines of Python: what random values of each container are decoded to, with its type."""
-    registry, values = Registry(containers), Values(containers)
+    names = NAMES.get(name, {})
+    registry, values = Registry(containers, names=names), Values(containers, names)
     module = f"plain_{name}" if plain_options else name
     lines = [f"import {module}"]
     for container, own in _Identifiers().of_all(containers).items():
@@ -117,7 +129,7 @@ def random_values(name: str, containers: dict[str, Any], plain_options: bool = F
             except TextError as fault:
                 assert fault.reason == "RepeatedKey", fault
                 continue
-            back = registry.decode(Name[Any](container), data, native=True, plain_options=plain_options)
+            back = registry.decode(Name[Any](container), data, plain_options=plain_options)
             assert registry.encode({"TYPENAME": container}, back) == data
             lines.append(f"value{len(lines)}: {module}.{own} = {ascii(back)}")
     return lines
@@ -149,14 +161,15 @@ class Types(unittest.TestCase):
         """It takes the modules and right values, and refuses the lines that are marked."""
         files = ["typed.py", "readme.py"]
         for name, path in REGISTRIES.items():
-            told = types(str(path))
+            words = [word for kind, own in NAMES.get(name, {}).items() for each in own for word in (f"--{kind}", each)]
+            told = types(*words, str(path))
             self.assertEqual((told.returncode, told.stderr), (0, ""))
             self.write(f"{name}.py", told.stdout)
             self.assertEqual(run(sys.executable, f"{name}.py", folder=self.folder).stderr, "")
             lines = random_values(name, json.loads(path.read_text(encoding="utf-8")))
-            self.assertGreater(len(lines), 30)
+            self.assertGreater(len(lines), 20)
             self.write(f"values_of_{name}.py", "\n".join(lines) + "\n")
-            self.write(f"plain_{name}.py", types("--plain-options", str(path)).stdout)
+            self.write(f"plain_{name}.py", types("--plain-options", *words, str(path)).stdout)
             lines = random_values(name, json.loads(path.read_text(encoding="utf-8")), plain_options=True)
             self.write(f"values_of_plain_{name}.py", "\n".join(lines) + "\n")
             files += [f"{name}.py", f"values_of_{name}.py", f"plain_{name}.py", f"values_of_plain_{name}.py"]
@@ -166,7 +179,7 @@ class Types(unittest.TestCase):
         mypy = run("mypy", *options, *files, str(HERE.parent / "bcs_proved"), folder=self.folder)
         self.write("report", mypy.stdout + mypy.stderr)
         marked = run(sys.executable, str(ROOT / "tests/marked_errors.py"), "report", *files, folder=self.folder)
-        self.assertEqual((marked.stdout, marked.stderr), ("32 wrong lines are refused, and no others\n", ""))
+        self.assertEqual((marked.stdout, marked.stderr), ("36 wrong lines are refused, and no others\n", ""))
         ran = run(sys.executable, "typed.py", str(ROOT), folder=self.folder)
         self.assertEqual((ran.returncode, ran.stderr), (0, ""))
 
@@ -180,16 +193,21 @@ class Types(unittest.TestCase):
         self.assertEqual((ran.stdout, ran.stderr), ("8\n", ""))
 
     def test_the_command(self) -> None:
-        usage = "Usage: python -m bcs_proved.types [--plain-options] REGISTRY > registry.py\n"
+        options = "[--plain-options] [--address NAME] [--u256 NAME] [--i256 NAME]"
+        usage = f"Usage: python -m bcs_proved.types {options} REGISTRY > registry.py\n"
+        absent = "names: the registry has no newtype of 32 bytes called 'B'\n"
         unknown = '{"A":{"NEWTYPESTRUCT":{"TYPENAME":"B"}}}'
         cases: list[tuple[int, str, list[str]]] = [
-            (2, "no registry: UnknownName at A: no container is called B\n", [unknown]),
-            (2, "no registry: NotJson at line 1, column 1: the text stops being JSON there\n", ["{"]),
+            (2, "refused: UnknownName at A: no container is called B\n", [unknown]),
+            (2, "refused: NotJson at line 1, column 1: the text stops being JSON there\n", ["{"]),
             (3, usage, []),
             (3, usage, ["a.json", "b.json"]),
             (3, usage, ["--other"]),
             (3, usage, ["--plain-options"]),
             (3, usage, ["a.json", "--plain-options"]),
+            (3, usage, ["--address"]),
+            (3, usage, ["--address", "a.json"]),
+            (3, absent, ["--u256", "B", "{}"]),
             (4, "fault: [Errno 2] No such file or directory: '/none.json'\n", ["/none.json"]),
         ]
         for status, text, words in cases:

@@ -15,10 +15,12 @@ from typing import Any, Callable, NamedTuple, Union
 
 import numpy
 
-from bcs_proved import Registry, TextError, ValueTypeError
+from bcs_proved import Hex, Registry, TextError, ValueTypeError
 
+OF_32_BYTES = {"NEWTYPESTRUCT": {"TUPLEARRAY": {"CONTENT": "U8", "SIZE": 32}}}
 REGISTRY = Registry(
     {
+        **{name: OF_32_BYTES for name in ["address", "u256", "i256"]},
         "Unit": "UNITSTRUCT",
         "Id": {"NEWTYPESTRUCT": "U64"},
         "Byte": {"NEWTYPESTRUCT": "U8"},
@@ -38,7 +40,9 @@ REGISTRY = Registry(
     }
 )
 WIDTHS = {f"{sign}{width}": (width // 8, sign == "I") for sign in "UI" for width in (8, 16, 32, 64, 128)}
+OWN_WIDTHS = {"u256": (32, False), "i256": (32, True)}
 UNSUPPORTED = ["CHAR", "F32", "F64"]
+BYTES = "BYTES takes bytes, or Hex(…) for digits"
 DICT, SOME = "STRUCT takes a dict", 'OPTION takes None or {"some": value}'
 # Options that may also be written as None or their value: the column of the value.
 PLAIN_OPTIONS = {"OPTION": "U8", "OPTION Point": "Point", "OPTION Shape": "Shape"}
@@ -50,7 +54,7 @@ COLUMNS: dict[str, tuple[Any, str]] = {
     "UNIT": ('"UNIT"', "UNIT takes None"),
     "BOOL": ('"BOOL"', "BOOL takes a bool"),
     "STR": ('"STR"', "STR takes a str"),
-    "BYTES": ('"BYTES"', "BYTES takes bytes or hexadecimal digits"),
+    "BYTES": ('"BYTES"', BYTES),
     "OPTION": ({"OPTION": "U8"}, ""),
     "OPTION Point": ({"OPTION": {"TYPENAME": "Point"}}, ""),
     "OPTION Shape": ({"OPTION": {"TYPENAME": "Shape"}}, ""),
@@ -58,11 +62,8 @@ COLUMNS: dict[str, tuple[Any, str]] = {
     "OPTION UNIT": ({"OPTION": {"TYPENAME": "Unit"}}, SOME),
     "OPTION MAP": ({"OPTION": {"MAP": {"KEY": "STR", "VALUE": "U8"}}}, SOME),
     "OPTION Some": ({"OPTION": {"TYPENAME": "Some"}}, SOME),
-    "SEQ U8": ({"SEQ": "U8"}, "SEQ of U8 takes bytes, hexadecimal digits or a list of int"),
-    "ARRAY U8": (
-        {"TUPLEARRAY": {"CONTENT": "U8", "SIZE": 2}},
-        "TUPLEARRAY of U8 takes bytes, hexadecimal digits or a list of int",
-    ),
+    "SEQ U8": ({"SEQ": "U8"}, f"SEQ of U8 {BYTES[6:]}"),
+    "ARRAY U8": ({"TUPLEARRAY": {"CONTENT": "U8", "SIZE": 2}}, f"TUPLEARRAY of U8 {BYTES[6:]}"),
     "SEQ U64": ({"SEQ": "U64"}, "SEQ takes a list"),
     "ARRAY I16": ({"TUPLEARRAY": {"CONTENT": "I16", "SIZE": 2}}, "TUPLEARRAY takes a list"),
     "SEQ Byte": ({"SEQ": {"TYPENAME": "Byte"}}, "SEQ takes a list"),
@@ -79,6 +80,8 @@ COLUMNS: dict[str, tuple[Any, str]] = {
     "Point": ("Point", DICT),
     "Empty": ("Empty", DICT),
     "Shape": ("Shape", VARIANT),
+    "address": ("address", 'address takes a str "0x.." or 32 bytes'),
+    **{name: (name, f"{name} takes an int") for name in OWN_WIDTHS},
 }
 
 
@@ -109,26 +112,30 @@ def number(value: int) -> Cells:
         except OverflowError:
             return Refusal("BadNumber")
 
-    cells = {word: cell(*width) for word, width in WIDTHS.items()}
+    cells = {word: cell(*width) for word, width in [*WIDTHS.items(), *OWN_WIDTHS.items()]}
     return {**cells, "Id": cells["U64"]}
 
 
-def no_number(text: str) -> Cells:
-    """What isn't an int's digits is refused as such by each format of numbers."""
-    return {**{word: Refusal("BadNumber") for word in [*WIDTHS, "Id"]}, "Shape": Refusal("UnknownVariant")}
+def text(value: str) -> Cells:
+    """A string that is neither an address nor a variant."""
+    data = value.encode()
+    return {"STR": f"{len(data):02x}{data.hex()}", "Shape": Refusal("UnknownVariant"), "address": Refusal("BadHex")}
 
 
 def octets(data: bytes) -> Cells:
     """At BYTES and lists of U8."""
     listed = f"{len(data):02x}{data.hex()}"
-    return {"BYTES": listed, "SEQ U8": listed, "ARRAY U8": data.hex() if len(data) == 2 else Refusal("BadShape")}
+    return {
+        **{"BYTES": listed, "SEQ U8": listed, "ARRAY U8": data.hex() if len(data) == 2 else Refusal("BadShape")},
+        "address": data.hex() if len(data) == 32 else Refusal("BadShape"),
+    }
 
 
 # What the elements of each list are.
 ELEMENTS = {
-    **{column: "U8 takes an int" for column in ["SEQ U8", "ARRAY U8", "SEQ Byte"]},
+    **{column: "U8 takes an int" for column in ["BYTES", "SEQ U8", "ARRAY U8", "SEQ Byte"]},
     **{"SEQ U64": "U64 takes an int", "ARRAY I16": "I16 takes an int"},
-    **{"SEQ SEQ U8": "SEQ of U8 takes bytes, hexadecimal digits or a list of int", "SEQ SEQ U16": "SEQ takes a list"},
+    **{"SEQ SEQ U8": f"SEQ of U8 {BYTES[6:]}", "SEQ SEQ U16": "SEQ takes a list"},
 }
 # .. and those of what takes lists, but no arrays.
 ROW_ELEMENTS = {
@@ -143,12 +150,16 @@ def rejected_in(columns: dict[str, str], found: str) -> Cells:
 
 
 def listed(numbers: tuple[int, ...], width: int, is_signed: bool, is_array: bool) -> Cell:
-    if is_array and len(numbers) != 2:
+    has_right_length = not is_array or len(numbers) == 2
+    # (the bytes in a list are read before they are counted, and other numbers are counted first)
+    if not has_right_length and width > 1:
         return Refusal("BadShape")
     try:
         parts = [number.to_bytes(width, "little", signed=is_signed).hex() for number in numbers]
     except OverflowError:
         return Refusal("BadNumber", f"/{fitting(numbers, width, is_signed)}")
+    if not has_right_length:
+        return Refusal("BadShape")
     return "".join(parts if is_array else [f"{len(numbers):02x}", *parts])
 
 
@@ -163,7 +174,7 @@ def array_of(found: str, *numbers: int) -> Cells:
     cells: Cells = rejected_in(ELEMENTS, found)
     if not numbers:
         cells |= {"SEQ SEQ U8": "00", "SEQ SEQ U16": "00"}
-    cells |= {column: listed(numbers, 1, False, False) for column in ["SEQ U8", "SEQ Byte"]}
+    cells |= {column: listed(numbers, 1, False, False) for column in ["BYTES", "SEQ U8", "SEQ Byte"]}
     cells |= {"ARRAY U8": listed(numbers, 1, False, True), "ARRAY I16": listed(numbers, 2, True, True)}
     return {**cells, "SEQ U64": listed(numbers, 8, False, False)}
 
@@ -174,7 +185,7 @@ def list_of(found: str, first: int, second: int) -> Cells:
         **rejected_in(ROW_ELEMENTS, found),
         **array_of(found, first, second),
         "TUPLE": (first.to_bytes(1, "little") + second.to_bytes(2, "little")).hex(),
-        "Pair": Wrong("/1", f"BYTES takes bytes or hexadecimal digits, not {found}"),
+        "Pair": Wrong("/1", f"{BYTES}, not {found}"),
     }
 
 
@@ -197,8 +208,9 @@ def members(*names: str) -> Cells:
     }
 
 
-def in_maps(cell: Cell) -> Cells:
-    return {"MAP": cell, "MAP U8": cell}
+def in_maps(cell: Cell, name: str = "str") -> Cells:
+    """Where names of this type are keys."""
+    return {"MAP": cell, "MAP U8": Wrong("/0/0", f"U8 takes an int, not {name}")}
 
 
 # Options of what isn't a dict: a dict is always the option itself.
@@ -275,6 +287,16 @@ class Index:
         return 5
 
 
+class TrueIndex:
+    def __index__(self) -> bool:
+        return True
+
+
+class TextIndex:
+    def __index__(self) -> str:
+        return "5"
+
+
 class FailingIndex:
     def __index__(self) -> int:
         raise TypeError("none")
@@ -295,17 +317,19 @@ class Value(NamedTuple):
 
 
 HERE = __name__
-NO_DIGITS: Cells = {column: Refusal("BadHex") for column in ["BYTES", "SEQ U8", "ARRAY U8"]}
-BOB: Cells = {**no_number("bob"), **NO_DIGITS, "STR": "03626f62"}
-DOT: Cells = {**BOB, "STR": "03446f74", "Shape": "00"}
+NO_DIGITS: Cells = {column: Refusal("BadHex") for column in ["BYTES", "SEQ U8", "ARRAY U8", "address"]}
+DOT: Cells = {**text("Dot"), "Shape": "00"}
+ONES = "11" * 32
+NO_TEXT: Cells = {**{column: Refusal("NotJson") for column in ["STR", "Shape"]}, "address": Refusal("BadHex")}
 EMPTY_LIST: Cells = {
     **{column: "00" for column in [*ELEMENTS, *ROW_ELEMENTS]},
     **{column: Refusal("BadShape") for column in ["ARRAY I16", "ARRAY U8", "TUPLE", "Pair"]},
 }
-POINT: Cells = {**members("x", "y"), "Point": "0101", **in_maps(Wrong("/1/1", "U8 takes an int, not bool"))}
+NO_BYTE = Wrong("/1/1", "U8 takes an int, not bool")
+POINT: Cells = {**members("x", "y"), "Point": "0101", **in_maps(NO_BYTE)}
 NO_OPTION: Cells = {column: "00" for column in COLUMNS if column.startswith("OPTION")}
 # A name at a map with numbers as keys.
-NAMED = Refusal("BadNumber", "/0/0")
+NAMED = Wrong("/0/0", "U8 takes an int, not str")
 NUMPY_INTS = ["u1", "u2", "u4", "u8", "i1", "i2", "i4", "i8", "longlong", "ulonglong"]
 NUMPY_OTHERS = ["?", "f2", "f4", "f8", "longdouble", "c16"]
 
@@ -338,6 +362,8 @@ SCALARS: dict[str, Value] = {
     "IntEnum": Value(Color.RED, f"{HERE}.Color", number(5)),
     "an int subclass": Value(Loud(5), f"{HERE}.Loud", number(5)),
     "__index__": Value(Index(), f"{HERE}.Index", number(5)),
+    "an __index__ that is True": Value(TrueIndex(), f"{HERE}.TrueIndex", {}),
+    "an __index__ that is a str": Value(TextIndex(), f"{HERE}.TextIndex", {}),
     "an __index__ that raises": Value(FailingIndex(), f"{HERE}.FailingIndex", {}),
     "True": Value(True, "bool", {"BOOL": "01"}),
     "False": Value(False, "bool", {"BOOL": "00"}),
@@ -355,21 +381,31 @@ SCALARS: dict[str, Value] = {
     "...": Value(..., "ellipsis", {}),
 }
 STRINGS: dict[str, Value] = {
-    "'bob'": Value("bob", "str", BOB),
-    "''": Value("", "str", {**no_number(""), **octets(b""), "STR": "00"}),
-    "'12'": Value("12", "str", {**no_number("12"), **number(12), **octets(b"\x12"), "STR": "023132"}),
-    "'-5'": Value("-5", "str", {**no_number("-5"), **number(-5), **NO_DIGITS, "STR": "022d35"}),
-    "'05'": Value("05", "str", {**no_number("05"), **octets(b"\x05"), "STR": "023035"}),
-    "'C0de'": Value("C0de", "str", {**no_number("C0de"), **octets(b"\xc0\xde"), "STR": "0443306465"}),
+    **{
+        repr(value): Value(value, "str", text(value))
+        for value in ["bob", "", "12", "-5", "05", "C0de", "cafe", "000000", ONES, "0x", "0X1", "0xg", f"0x{ONES}0"]
+    },
     "'Dot'": Value("Dot", "str", DOT),
-    "'Circle'": Value("Circle", "str", {**BOB, "STR": "06436972636c65", "Shape": Refusal("BadShape")}),
-    "not ASCII": Value("\u20ac\0", "str", {**BOB, "STR": "04e282ac00"}),
-    "a lone surrogate": Value("\udc80", "str", {column: Refusal("NotJson") for column in BOB}),
-    "two lone surrogates": Value("\ud83d\ude00", "str", {column: Refusal("NotJson") for column in BOB}),
+    "'Circle'": Value("Circle", "str", {**text("Circle"), "Shape": Refusal("BadShape")}),
+    "not ASCII": Value("\u20ac\0", "str", text("\u20ac\0")),
+    "a lone surrogate": Value("\udc80", "str", NO_TEXT),
+    "two lone surrogates": Value("\ud83d\ude00", "str", NO_TEXT),
+    "0x1": Value("0x1", "str", {**text("0x1"), "address": "1".zfill(64)}),
+    "0xAb of a subclass": Value(Shout("0xAb"), f"{HERE}.Shout", {**text("0xAb"), "address": "ab".zfill(64)}),
+    "0x and 64 digits": Value(f"0x{ONES}", "str", {**text(f"0x{ONES}"), "address": ONES}),
     "a str enum": Value(Name.DOT, f"{HERE}.Name", DOT),
     "a str subclass": Value(Shout("Dot"), f"{HERE}.Shout", DOT),
 }
+HEXES: dict[str, Value] = {
+    f"Hex({digits!r})": Value(Hex(digits), "bcs_proved.values.Hex", octets(bytes.fromhex(digits)))
+    for digits in ["", "12", "C0de", "000000", ONES]
+}
+HEXES |= {
+    f"Hex({digits!r})": Value(Hex(digits), "bcs_proved.values.Hex", NO_DIGITS)
+    for digits in ["0", "c0d", "0x12", "c0 de", "bob", "\0\0"]
+}
 BUFFERS: dict[str, Value] = {
+    "32 bytes": Value(bytes.fromhex(ONES), "bytes", octets(bytes.fromhex(ONES))),
     "b'bob'": Value(b"bob", "bytes", octets(b"bob")),
     "b''": Value(b"", "bytes", octets(b"")),
     "5000 as bytes": Value((5000).to_bytes(8, "little"), "bytes", octets(b"\x88\x13\0\0\0\0\0\0")),
@@ -391,6 +427,8 @@ BUFFERS: dict[str, Value] = {
     "array d": Value(array.array("d", [1, 2]), "array.array", rejected_array("float")),
     "array u": Value(array.array("u", "12"), "array.array", {}),
     "an empty array": Value(array.array("Q"), "array.array", array_of("int")),
+    "an empty array d": Value(array.array("d"), "array.array", {}),
+    "an empty memoryview of ?": Value(memoryview(b"").cast("?"), "memoryview", {}),
     "c_uint8": Value(ctypes.c_uint8(5), "ctypes.c_ubyte", {}),
     "c_uint64": Value(ctypes.c_uint64(5000), "ctypes.c_ulong", {}),
     "c_bool": Value(ctypes.c_bool(True), "ctypes.c_bool", {}),
@@ -415,7 +453,7 @@ NUMPY: dict[str, Value] = {
     "numpy int64 -5": Value(numpy.int64(-5), "numpy.int64", number(-5)),
     "numpy datetime64": Value(numpy.datetime64(5, "s"), "numpy.datetime64", {}),
     "numpy timedelta64": Value(numpy.timedelta64(5, "s"), "numpy.timedelta64", {}),
-    "numpy str_": Value(numpy.str_("bob"), "numpy.str_", BOB),
+    "numpy str_": Value(numpy.str_("bob"), "numpy.str_", text("bob")),
     "numpy bytes_": Value(numpy.bytes_(b"bob"), "numpy.bytes_", octets(b"bob")),
     "numpy void": Value(numpy.void(b"bob"), "numpy.void", {}),
     "numpy array u1": numpy_array([1, 2], "u1", octets(b"\1\2")),
@@ -431,7 +469,10 @@ NUMPY: dict[str, Value] = {
     "numpy array u8 5000": numpy_array([5000, 1, 2], "u8", array_of("numpy.uint64", 5000, 1, 2)),
     "numpy array i8 -5": numpy_array([1, -5], "i8", array_of("numpy.int64", 1, -5)),
     "numpy array O": numpy_array([1, 2], "O", array_of("int", 1, 2)),
-    "numpy array, empty": numpy_array([], "f8", array_of("int")),
+    "numpy array, empty": numpy_array([], "u8", array_of("int")),
+    "numpy array O, empty": numpy_array([], "O", array_of("int")),
+    **{f"numpy array {dtype}, empty": numpy_array([], dtype, {}) for dtype in ["f8", "?"]},
+    "numpy array f8 of two dimensions, empty": numpy_array([[], []], "f8", {}),
     "numpy array, every other": Value(
         numpy.array([1, 0, 2, 0], "u8")[::2], "numpy.ndarray", array_of("numpy.uint64", 1, 2)
     ),
@@ -497,10 +538,10 @@ LISTS: dict[str, Value] = {
         "list",
         {
             **{column: Wrong("/0", f"{words}, not tuple") for column, words in {**ELEMENTS, **ROW_ELEMENTS}.items()},
-            "SEQ SEQ U8": Refusal("BadNumber", "/0/0"),
-            "SEQ SEQ U16": Refusal("BadNumber", "/0/0"),
+            "SEQ SEQ U8": NAMED,
+            "SEQ SEQ U16": Wrong("/0/0", "U16 takes an int, not str"),
             "MAP": "02016102016201",
-            "MAP U8": Refusal("BadNumber", "/0/0"),
+            "MAP U8": NAMED,
         },
     ),
     "set": Value({1, 2}, "set", {}),
@@ -517,7 +558,9 @@ DICTS: dict[str, Value] = {
     "defaultdict": Value(collections.defaultdict(int, {"x": 1, "y": True}), "collections.defaultdict", POINT),
     "UserDict": Value(collections.UserDict(x=1, y=True), "collections.UserDict", POINT),
     "mappingproxy": Value(types.MappingProxyType({"x": 1, "y": True}), "mappingproxy", POINT),
-    "names of a str subclass": Value({Shout("x"): 1, Shout("y"): True}, "dict", POINT),
+    "names of a str subclass": Value(
+        {Shout("x"): 1, Shout("y"): True}, "dict", {**POINT, **in_maps(NO_BYTE, f"{HERE}.Shout")}
+    ),
     "a point with bytes": Value(
         {"x": b"\1", "y": True},
         "dict",
@@ -608,7 +651,7 @@ DICTS: dict[str, Value] = {
     "{300: 5}": Value({300: 5}, "dict", {**no_names("int"), "MAP U8": Refusal("BadNumber", "/0/0")}),
     "{numpy: numpy}": Value({numpy.uint64(1): numpy.int8(5)}, "dict", {**no_names("numpy.uint64"), "MAP U8": "010105"}),
 }
-ROWS = {**SCALARS, **STRINGS, **BUFFERS, **NUMPY, **LISTS, **DICTS}
+ROWS = {**SCALARS, **STRINGS, **HEXES, **BUFFERS, **NUMPY, **LISTS, **DICTS}
 
 
 def some(cell: Cell) -> Cell:
@@ -629,7 +672,7 @@ class Table(unittest.TestCase):
         return row.cells.get(column, Wrong("", f"{takes}, not {row.found}"))
 
     def test_all(self) -> None:
-        self.assertEqual(len(ROWS), sum(map(len, [SCALARS, STRINGS, BUFFERS, NUMPY, LISTS, DICTS])))
+        self.assertEqual(len(ROWS), sum(map(len, [SCALARS, STRINGS, HEXES, BUFFERS, NUMPY, LISTS, DICTS])))
         cells = 0
         for name, row in ROWS.items():
             self.assertLessEqual(set(row.cells), set(COLUMNS))
@@ -645,7 +688,8 @@ class Table(unittest.TestCase):
             data = bytes.fromhex(cell)
             self.assertEqual(REGISTRY.encode(format, value), data)
             self.assertEqual(REGISTRY.normalise(format, value), REGISTRY.decode(format, data))
-            self.assertTrue(REGISTRY.equal(format, value, REGISTRY.decode(format, data, native=True)))
+            self.assertEqual(REGISTRY.encode(format, REGISTRY.decode(format, data)), data)
+            self.assertTrue(REGISTRY.equal(format, value, REGISTRY.decode(format, data)))
             return
         calls: list[Callable[[], object]] = [
             lambda: REGISTRY.encode(format, value),
@@ -657,10 +701,11 @@ class Table(unittest.TestCase):
                 call()
             fault = raised.exception
             if isinstance(cell, Refusal):
-                self.assertEqual((type(fault), fault.reason, fault.pointer), (TextError, cell.reason, cell.pointer))
+                self.assertEqual((type(fault), fault.reason, fault.at), (TextError, cell.reason, cell.pointer))
+                self.assertEqual(fault.kind, "text")
             else:
-                self.assertEqual((type(fault), fault.reason, fault.pointer), (ValueTypeError, "BadType", cell.pointer))
-                self.assertEqual(fault.expected, cell.words)
+                self.assertEqual((type(fault), fault.reason, fault.at), (ValueTypeError, "WrongType", cell.pointer))
+                self.assertEqual((fault.kind, fault.message), ("value", cell.words))
 
 
 if __name__ == "__main__":

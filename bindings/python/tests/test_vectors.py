@@ -60,16 +60,18 @@ class Lines(unittest.TestCase):
             text = line["text"] if "text" in line else json.dumps(line["json"]) if "json" in line else None
             data = bytes.fromhex(line["bytes"])
             if text is not None:
-                self.assertEqual(registry.encode_text(format, text), data)
+                self.assertEqual(registry.encode_json(format, text), data)
             self.assertEqual(registry.scan(format, data, limits), len(data))
+            if "json" in line:
+                self.assertEqual(registry.encode(format, registry.decode(format, data)), data)
         elif "text" in line:
             with self.assertRaises(TextError) as raised:
-                registry.encode_text(format, line["text"])
+                registry.encode_json(format, line["text"])
             self.assertEqual(raised.exception.reason, line["refused"])
-            self.assertEqual(raised.exception.pointer, line.get("place", ""))
+            self.assertEqual(raised.exception.at, line.get("place", ""))
         else:
             with self.assertRaises(BytesError) as refused:
-                registry.decode_text(format, bytes.fromhex(line["bytes"]), limits)
+                registry.decode_json(format, bytes.fromhex(line["bytes"]), limits)
             self.assertEqual(
                 (refused.exception.reason, refused.exception.place),
                 (line["refused"], line["place"]),
@@ -270,7 +272,7 @@ class Arguments(unittest.TestCase):
                 b"A: UNITSTRUCT",
             ):
                 file.write_bytes(content)
-                self.require(2, "no registry", str(file))
+                self.require(2, "refused: ", str(file))
 
     def test_no_library(self) -> None:
         end = ran('{"A":"UNITSTRUCT"}', env={**os.environ, "BCS_LIBRARY": "/no/such/library"})

@@ -6,6 +6,8 @@ import sys
 from typing import Any, Union
 
 import aptos
+import move
+import plain_move
 import plain_shapes
 import shapes
 import sui
@@ -16,6 +18,7 @@ EXAMPLES = ROOT / "examples"
 APTOS = Registry(EXAMPLES / "aptos_registry.json")
 SUI = Registry(EXAMPLES / "sui_registry.json")
 SHAPES = Registry(ROOT / "bindings/web/tests/shapes.json")
+MOVE = Registry(ROOT / "bindings/python/tests/move.json", names={"address": ["address", "Account"]})
 
 
 def bytes_of(name: str) -> bytes:
@@ -56,13 +59,13 @@ def width_of(tag: aptos.TypeTag) -> int:
 
 def right() -> None:
     assert APTOS.encode("RawTransaction", transfer) == bytes_of("aptos_transfer.hex")
-    back: aptos.RawTransaction = APTOS.decode("RawTransaction", bytes_of("aptos_transfer.hex"), native=True)
+    back: aptos.RawTransaction = APTOS.decode("RawTransaction", bytes_of("aptos_transfer.hex"))
     assert back == transfer and back["sequence_number"] + 1 == 12 and name_of(back["payload"]) == "coin"
     assert (width_of("U8"), width_of({"Vector": "U64"}), width_of(coin)) == (8, 64, 9)
-    staked: sui.TransactionData = SUI.decode("TransactionData", bytes_of("sui_stake.hex"), native=True)
+    staked: sui.TransactionData = SUI.decode("TransactionData", bytes_of("sui_stake.hex"))
     assert staked["V1"]["gas_data"]["budget"] > 0 and SUI.encode("TransactionData", staked) == bytes_of("sui_stake.hex")
     prices: shapes.Prices = [["a", {"some": 7}], ["b", None]]
-    assert SHAPES.decode("Prices", SHAPES.encode("Prices", prices), native=True) == prices
+    assert SHAPES.decode("Prices", SHAPES.encode("Prices", prices)) == prices
     some: list[shapes.Shape] = [
         "Dot",
         {"Box": [1, 2]},
@@ -70,10 +73,7 @@ def right() -> None:
         {"Bare": {}},
         {"Maybe": {"some": "Dot"}},
     ]
-    assert (
-        SHAPES.decode({"SEQ": {"TYPENAME": "Shape"}}, SHAPES.encode({"SEQ": {"TYPENAME": "Shape"}}, some), native=True)
-        == some
-    )
+    assert SHAPES.decode({"SEQ": {"TYPENAME": "Shape"}}, SHAPES.encode({"SEQ": {"TYPENAME": "Shape"}}, some)) == some
     chain: shapes.Chain = {"value": 1, "next": {"some": {"value": 2, "next": None}}}
     tree: shapes.Tree = [[], [[]]]
     assert SHAPES.encode("Chain", chain) == b"\1\1\2\0" and SHAPES.encode("Tree", tree) == b"\2\0\1\0"
@@ -82,9 +82,9 @@ def right() -> None:
 
 def named(data: bytes) -> None:
     """The names as formats have the types of the values."""
-    back = APTOS.decode(aptos.RAW_TRANSACTION, data, native=True)
+    back = APTOS.decode(aptos.RAW_TRANSACTION, data)
     assert back["sequence_number"] + 1 == 12 and APTOS.encode(aptos.RAW_TRANSACTION, back) == data
-    front, length = APTOS.decode_prefix(aptos.RAW_TRANSACTION, data + b"more", native=True)
+    front, length = APTOS.decode_prefix(aptos.RAW_TRANSACTION, data + b"more")
     assert front["chain_id"] == 4 and length == len(data)
     plain = SHAPES.decode(plain_shapes.CHAIN, b"\1\1\2\0", plain_options=True)
     assert plain["next"] == {"value": 2, "next": None} and SHAPES.encode(plain_shapes.CHAIN, plain) == b"\1\1\2\0"
@@ -92,13 +92,40 @@ def named(data: bytes) -> None:
     assert SHAPES.decode(plain_shapes.PRICES, SHAPES.encode(plain_shapes.PRICES, prices), plain_options=True) == prices
 
 
+def moved() -> None:
+    """Addresses are strings, and integers of 256 bits are int, also within other types."""
+    coin: move.Coin = {
+        "owner": f"0x{2:064x}",
+        "value": 2**255,
+        "digest": bytes(32),
+        "next": {"some": f"0x{1:064x}"},
+        "debts": [[f"0x{1:064x}", -1]],
+        "history": [1, 2],
+    }
+    data = MOVE.encode(move.COIN, coin)
+    back = MOVE.decode(move.COIN, data)
+    assert back == coin and back["value"] + sum(back["history"]) == 2**255 + 3 and back["owner"].startswith("0x")
+    plain = MOVE.decode(plain_move.COIN, data, plain_options=True)
+    assert plain["next"] == f"0x{1:064x}" and MOVE.encode(plain_move.COIN, plain) == data
+    sent: move.Event = {"Sent": [f"0x{1:064x}", 7]}
+    assert MOVE.decode("Event", MOVE.encode("Event", sent)) == sent
+
+
+def wrong_moves(coin: move.Coin) -> None:
+    owner: move.Account = bytes(32)  # error: (expression has type "bytes", variable has type "str")
+    value: move.u256 = "7"  # error: (expression has type "str", variable has type "int")
+    history: list[bytes] = coin["history"]  # error: Incompatible types
+    digest: str = coin["digest"]  # error: Incompatible types
+    print(owner, value, history, digest)
+
+
 def wrong_names(data: bytes, chain: plain_shapes.Chain) -> None:
     APTOS.encode(aptos.RAW_TRANSACTION, {"sender": one})  # error: Cannot infer type argument 1 of "encode"
     APTOS.encode(aptos.RAW_TRANSACTION, 7)  # error: Cannot infer type argument 1 of "encode"
     SHAPES.encode(shapes.CHAIN, chain)  # error: Cannot infer type argument 1 of "encode"
-    one_field: str = APTOS.decode(aptos.RAW_TRANSACTION, data, native=True)["chain_id"]  # error: Incompatible types
-    APTOS.decode(aptos.RAW_TRANSACTION, data, native=True)["fee"]  # error: has no key "fee"
-    APTOS.decode_prefix(aptos.RAW_TRANSACTION, data, native=True)[0]["fee"]  # error: has no key "fee"
+    one_field: str = APTOS.decode(aptos.RAW_TRANSACTION, data)["chain_id"]  # error: Incompatible types
+    APTOS.decode(aptos.RAW_TRANSACTION, data)["fee"]  # error: has no key "fee"
+    APTOS.decode_prefix(aptos.RAW_TRANSACTION, data)[0]["fee"]  # error: has no key "fee"
     SHAPES.decode(plain_shapes.CHAIN, data, plain_options=True)["fee"]  # error: has no key "fee"
     some: plain_shapes.Prices = [["a", {"some": 7}]]  # error: List item 1 has incompatible type
     print(one_field, some)
@@ -156,3 +183,4 @@ def wrong(script: aptos.Script, back: aptos.RawTransaction, prices: shapes.Price
 
 if __name__ == "__main__":
     right()
+    moved()

@@ -28,12 +28,12 @@ class Verdicts:
             self._registry.scan(format, data, _LIMITS)
             if not self._is_printable(format, data):
                 return None
-            text = self._registry.decode_text(format, data, _LIMITS)
+            text = self._registry.decode_json(format, data, _LIMITS)
         except BytesError as refusal:
             # (a value whose JSON would nest too deep has no place)
             is_refused = refusal.place is not None
             return {**line, "refused": refusal.reason, "place": refusal.place} if is_refused else line
-        if self._registry.encode_text(format, text, _LIMITS) != data:
+        if self._registry.encode_json(format, text, _LIMITS) != data:
             raise AssertionError(f"{format}: {data.hex()} and {text} aren't the same value")
         return {"format": format, "json": json.loads(text), "bytes": data.hex()}
 
@@ -47,8 +47,8 @@ class Verdicts:
     def of_text(self, format: str, text: str) -> Line:
         line: Line = {"format": format, "text": text}
         try:
-            return {**line, "bytes": self._registry.encode_text(format, text, _LIMITS).hex()}
+            return {**line, "bytes": self._registry.encode_json(format, text, _LIMITS).hex()}
         except TextError as refusal:
             # The pointer of NotJson is empty. Its line and column may change between versions, so they are left out.
-            place = {} if refusal.reason == "NotJson" else {"place": refusal.pointer}
+            place = {} if refusal.reason == "NotJson" else {"place": refusal.at}
             return {**line, "refused": refusal.reason, **place}

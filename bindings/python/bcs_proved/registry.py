@@ -1,0 +1,501 @@
+"""Registries, and the methods that encode and decode by their formats."""
+
+from __future__ import annotations
+
+import enum
+import functools
+import json
+import os
+import pathlib
+from collections.abc import Iterable, Mapping
+from typing import Any, Literal, NamedTuple, Optional, TypeVar, Union, overload
+
+from . import values
+from .errors import BcsError, BytesError, ExampleError, FormatError, GrowthError, RegistryError, TextError
+from .errors import ValueTypeError
+from .formats import AnyName, Data, Format, Name, PlainName, Text, bytes_of, bytes_of_text, hint_of, json_of
+from .library import Answer, Handle, Library, Question, Report, Status, standard_library
+from .limits import MOST_NODES, Limits
+from .names import own_forms
+from .reading import Read, Readers
+
+__all__ = ["Form", "Names", "Part", "Registry"]
+
+_Value = TypeVar("_Value")
+# For "address", "u256" and "i256", the containers of a registry that are called otherwise.
+Names = Mapping[str, Iterable[str]]
+# How many formats a registry remembers, since they may come from strangers.
+_MOST_FORMATS = 1000
+# enum bcs_notation of bcs.h.
+_NAME, _POINTER = 1, 2
+
+
+class Form(enum.IntEnum):
+    """How `explain_text` prints the pieces of bytes."""
+
+    WAYS = 0
+    """a line for each: its offset, its bytes, what it is, and its field path"""
+    PATHS = 1
+    """the same, and the path that `part` takes"""
+    TREE = 2
+    """indented by the depth of the piece"""
+    JSON = 3
+    """a JSON object on each line"""
+
+
+class Part(NamedTuple):
+    """A part of a value's bytes, and how many bytes come before it."""
+
+    place: int
+    data: bytes
+
+
+class Registry:
+    """A registry: its JSON, that JSON as a dict, or a file that a `pathlib.Path` names. Raises RegistryError if it is
+    invalid. It is pickled as its JSON, so it can be sent to other processes.
+
+    `library` is a path of the dynamic library, or one that is loaded. `names` has the containers that are addresses and
+    integers of 256 bits where they aren't called "address", "u256" and "i256": names={"address": ["AccountAddress"]}.
+
+    A registry holds memory of the library, until nothing refers to it any more; or before, until `close` or the end of
+    a `with`."""
+
+    def __init__(
+        self,
+        text: Union[Text, Mapping[str, Any], os.PathLike[str]],
+        library: Union[Library, str, os.PathLike[str], None] = None,
+        names: Optional[Names] = None,
+    ) -> None:
+        if isinstance(text, os.PathLike):
+            self._text = pathlib.Path(text).read_bytes()
+        else:
+            self._text = values.json_of_format(text) if isinstance(text, Mapping) else bytes_of_text(text)
+        if library is None:
+            self._library = standard_library()
+        else:
+            self._library = library if isinstance(library, Library) else Library(library)
+        self._handle: Optional[Handle] = self._opened(text)
+        self._names: Optional[Names] = None
+        if names is not None:
+            self._names = {kind: own if isinstance(own, str) else [*own] for kind, own in names.items()}
+            # (names that the registry doesn't have are rejected at once)
+            own_forms(self._containers, self._names)
+        self._known_formats: dict[bytes, values.Format] = {}
+        self._known_readers: dict[tuple[bytes, bool], Read] = {}
+
+    @classmethod
+    def from_file(
+        cls,
+        path: Union[str, os.PathLike[str]],
+        library: Union[Library, str, os.PathLike[str], None] = None,
+        names: Optional[Names] = None,
+    ) -> Registry:
+        """The registry in a file. Raises RegistryError if it is invalid, and OSError if the file can't be read."""
+        return cls(pathlib.Path(path), library, names)
+
+    def __reduce__(self) -> tuple[Any, ...]:
+        own = None if self._library is standard_library() else self._library.path
+        return Registry, (self._text, own, self._names)
+
+    def __repr__(self) -> str:
+        count = len(self.names)
+        return f"<bcs_proved.Registry of {count} container{'' if count == 1 else 's'}>"
+
+    @property
+    def names(self) -> list[str]:
+        """The names of its containers."""
+        return list(self._containers)
+
+    @functools.cached_property
+    def _containers(self) -> dict[str, Any]:
+        containers: dict[str, Any] = json.loads(self._text.decode())
+        return containers
+
+    @functools.cached_property
+    def _own_forms(self) -> dict[str, str]:
+        return own_forms(self._containers, self._names)
+
+    @functools.cached_property
+    def _formats(self) -> values.Formats:
+        return values.Formats(self._containers, self._own_forms)
+
+    @functools.cached_property
+    def _readers(self) -> tuple[Readers, Readers]:
+        """Without and with plain options."""
+        exact = Readers(self._containers, self._own_forms)
+        return exact, Readers(self._containers, self._own_forms, self._formats)
+
+    def _opened(self, given: object) -> Handle:
+        try:
+            return Handle(self._library, self._text)
+        except RegistryError as fault:
+            # (a registry begins with a brace)
+            if fault.reason == "NotJson" and isinstance(given, str) and given.strip() and given.lstrip()[0] != "{":
+                hint = "a str is read as JSON; for the name of a file, use Registry.from_file(..)"
+                raise RegistryError(fault.reason, fault.place, fault.at, f"{fault.message}; {hint}") from None
+            raise
+
+    def close(self) -> None:
+        """Frees the registry's memory, once no running call uses it any more. Calls that are running end with their own
+        answer. Afterwards all methods except `grows`, `growth_fault`, `require_growth` and `differences` raise
+        ValueError."""
+        self._handle = None
+
+    def __enter__(self) -> Registry:
+        return self
+
+    def __exit__(self, *_: object) -> None:
+        self.close()
+
+    def check(self, format: Format) -> None:
+        """Raises FormatError unless the registry has the format."""
+        self._check(self._question(format, None))
+
+    def grows(self, newer: Registry) -> bool:
+        """Whether the newer registry keeps everything that this one has, so that every old value stays valid."""
+        return self.growth_fault(newer) is None
+
+    def growth_fault(self, newer: Registry) -> Optional[str]:
+        """Why the newer registry doesn't keep everything that this one has, such as "VariantChanged", or None if it
+        does."""
+        answer = self._library.ask("bcs_grows", *self._texts(newer))
+        if answer.status == Status.REFUSED:
+            return self._library.fault_name(answer.fault)
+        self._library.require(answer, RegistryError, self._refused_of(answer, newer))
+        return None
+
+    def require_growth(self, newer: Registry) -> None:
+        """Raises GrowthError unless the newer registry keeps everything that this one has. The error says where it
+        doesn't."""
+        answer = self._library.ask("bcs_grows", *self._texts(newer))
+        report = self._refused_of(answer, newer)
+        if answer.status == Status.REFUSED:
+            report = self._library.report("bcs_growth_place", *self._texts(newer))
+        self._library.require(answer, GrowthError, report)
+
+    def differences(self, newer: Registry) -> list[str]:
+        """All differences from this registry to a newer one, a line for each, as `bcs grows --list` prints them."""
+        answer, text = self._library.put("bcs_growth_list", 1000, *self._texts(newer))
+        self._library.require(answer, RegistryError, self._refused_of(answer, newer))
+        return str(text, "utf-8").split("\n")[:-1]
+
+    def _texts(self, newer: Registry) -> tuple[Any, ...]:
+        return self._text, len(self._text), newer._text, len(newer._text)
+
+    def _refused_of(self, answer: Answer, newer: Registry) -> Report:
+        return self._library.registry_report(newer._text if answer.status == Status.NEWER else self._text)
+
+    def schema(self, format: Format, limits: Optional[Limits] = None) -> dict[str, Any]:
+        """A JSON Schema of the JSON of the format's values."""
+        question = self._question(format, limits)
+        answer, text = question.put("bcs_handle_schema", 4000)
+        self._require(question, answer, FormatError)
+        schema: dict[str, Any] = json.loads(bytes(text))
+        return schema
+
+    def example(
+        self,
+        format: Format,
+        limits: Optional[Limits] = None,
+        *,
+        variant: str = "",
+        full: bool = False,
+        plain_options: bool = False,
+    ) -> Any:
+        """A value of the format, to start from: `decode` would return it. With `full`, each option, list and map has an
+        element. `variant` selects a variant of the enum that the format names. Raises ExampleError if the
+        format has no example."""
+        question = self._question(format, limits)
+        return self._read(question, self._example(question, variant, full), plain_options)
+
+    def example_json(
+        self, format: Format, limits: Optional[Limits] = None, *, variant: str = "", full: bool = False
+    ) -> str:
+        """The JSON of such a value, as `bcs example` prints it."""
+        return str(self._example(self._question(format, limits), variant, full), "utf-8")
+
+    def _example(self, question: Question, variant: str, full: bool) -> memoryview:
+        name = bytes_of_text(variant)
+        answer, text = question.put("bcs_handle_example", 1000, int(full), name, len(name))
+        self._require(question, answer, ExampleError)
+        return text
+
+    def show(self, name: str = "", *, as_json: bool = False) -> str:
+        """The registry in readable form, as `bcs show` prints it; or only the container of this name with what it
+        depends on. With `as_json` it is compact JSON. Raises FormatError if no container has the name."""
+        data, handle = bytes_of_text(name), self._open_handle()
+        answer, text = self._library.put(
+            "bcs_handle_show", 4000, handle.pointer, Form.JSON if as_json else 0, data, len(data)
+        )
+        if answer.status == Status.FORMAT:
+            raise FormatError(self._library.fault_name(answer.fault), message=f"no container is called {name}")
+        self._library.require(answer, FormatError)
+        return str(text, "utf-8")
+
+    @overload
+    def encode(self, format: PlainName[_Value], value: _Value, limits: Optional[Limits] = None) -> bytes:
+        ...
+
+    @overload
+    def encode(self, format: Name[_Value], value: _Value, limits: Optional[Limits] = None) -> bytes:
+        ...
+
+    @overload
+    def encode(self, format: AnyName, value: Any, limits: Optional[Limits] = None) -> bytes:
+        ...
+
+    def encode(self, format: Format, value: Any, limits: Optional[Limits] = None) -> bytes:
+        """The bytes of a value. The README has a table of the types that each format accepts. Raises TextError if it
+        isn't a value of the format, and ValueTypeError, which is one of these, if a part of it has a type that the
+        format doesn't accept there."""
+        question = self._question(format, limits)
+        return self._put_text(question, "bcs_handle_to_bcs", self._json_of(question, value)).tobytes()
+
+    def encode_json(self, format: Format, text: Text, limits: Optional[Limits] = None) -> bytes:
+        """The bytes of the value that a JSON document represents. Raises TextError if it represents none."""
+        return self._put_text(self._question(format, limits), "bcs_handle_to_bcs", bytes_of_text(text)).tobytes()
+
+    @overload
+    def decode(
+        self, format: PlainName[_Value], data: Data, limits: Optional[Limits] = None, *, plain_options: Literal[True]
+    ) -> _Value:
+        ...
+
+    @overload
+    def decode(
+        self,
+        format: Name[_Value],
+        data: Data,
+        limits: Optional[Limits] = None,
+        *,
+        plain_options: Literal[False] = False,
+    ) -> _Value:
+        ...
+
+    @overload
+    def decode(
+        self, format: Format, data: Data, limits: Optional[Limits] = None, *, plain_options: bool = False
+    ) -> Any:
+        ...
+
+    def decode(
+        self, format: Format, data: Data, limits: Optional[Limits] = None, *, plain_options: bool = False
+    ) -> Any:
+        """The value whose bytes these are: `encode` returns them again. Raises BytesError unless the bytes are exactly
+        one value's. With `plain_options`, an option is None or its value, except where that could mean two values, as
+        in nested options."""
+        data = bytes_of(data)
+        question = self._question(format, limits, data)
+        return self._read(question, self._decoded(question, data), plain_options)
+
+    @overload
+    def decode_prefix(
+        self, format: PlainName[_Value], data: Data, limits: Optional[Limits] = None, *, plain_options: Literal[True]
+    ) -> tuple[_Value, int]:
+        ...
+
+    @overload
+    def decode_prefix(
+        self,
+        format: Name[_Value],
+        data: Data,
+        limits: Optional[Limits] = None,
+        *,
+        plain_options: Literal[False] = False,
+    ) -> tuple[_Value, int]:
+        ...
+
+    @overload
+    def decode_prefix(
+        self, format: Format, data: Data, limits: Optional[Limits] = None, *, plain_options: bool = False
+    ) -> tuple[Any, int]:
+        ...
+
+    def decode_prefix(
+        self, format: Format, data: Data, limits: Optional[Limits] = None, *, plain_options: bool = False
+    ) -> tuple[Any, int]:
+        """The value at the beginning of `data`, and how many bytes it has. What follows isn't read."""
+        data = bytes_of(data)
+        question = self._question(format, limits, data)
+        length = self._scanned(question, data)
+        return self._read(question, self._decoded(question, data[:length]), plain_options), length
+
+    def decode_json(self, format: Format, data: Data, limits: Optional[Limits] = None) -> str:
+        """The one normal JSON document of the value whose bytes these are. Raises BytesError as `decode` does."""
+        data = bytes_of(data)
+        return str(self._decoded(self._question(format, limits, data), data), "utf-8")
+
+    def decode_prefix_json(self, format: Format, data: Data, limits: Optional[Limits] = None) -> tuple[str, int]:
+        """The same for the value at the beginning of `data`, and how many bytes it has."""
+        data = bytes_of(data)
+        question = self._question(format, limits, data)
+        length = self._scanned(question, data)
+        return str(self._decoded(question, data[:length]), "utf-8"), length
+
+    def _decoded(self, question: Question, data: bytes) -> memoryview:
+        answer, text = question.put("bcs_handle_from_bcs", 4 * len(data) + 100, data, len(data))
+        self._require(question, answer, BytesError, "bcs_handle_stop_refusal", data)
+        return text
+
+    def normalise(
+        self, format: Format, value: Any, limits: Optional[Limits] = None, *, plain_options: bool = False
+    ) -> Any:
+        """The value as `decode` returns it. Raises TextError if it isn't a value of the format."""
+        question = self._question(format, limits)
+        text = self._put_text(question, "bcs_handle_normalise", self._json_of(question, value))
+        return self._read(question, text, plain_options)
+
+    def normalise_json(self, format: Format, text: Text, limits: Optional[Limits] = None) -> str:
+        """The one normal JSON document of the value that a JSON document represents. Raises TextError if it represents
+        none."""
+        return str(self._put_text(self._question(format, limits), "bcs_handle_normalise", bytes_of_text(text)), "utf-8")
+
+    def equal(self, format: Format, first: Any, second: Any, limits: Optional[Limits] = None) -> bool:
+        """Whether two values are equal, maps being finite maps. Raises TextError if one isn't a value of the format."""
+        question = self._question(format, limits)
+        return self._equal(question, self._json_of(question, first), self._json_of(question, second))
+
+    def equal_json(self, format: Format, first: Text, second: Text, limits: Optional[Limits] = None) -> bool:
+        """Whether two JSON documents represent equal values. Raises TextError if one represents none."""
+        return self._equal(self._question(format, limits), bytes_of_text(first), bytes_of_text(second))
+
+    def _equal(self, question: Question, first: bytes, second: bytes) -> bool:
+        answer = question.ask("bcs_handle_compare", first, len(first), second, len(second))
+        if answer.status == Status.NO:
+            return False
+        if answer.status == Status.REFUSED:
+            # (it doesn't say which one is refused)
+            for text in (first, second):
+                self._put_text(question, "bcs_handle_normalise", text)
+        self._require(question, answer, TextError)
+        return True
+
+    def scan(self, format: Format, data: Data, limits: Optional[Limits] = None) -> int:
+        """How many bytes the value at the beginning has. Raises BytesError if there is none."""
+        data = bytes_of(data)
+        return self._scanned(self._question(format, limits, data), data)
+
+    def _scanned(self, question: Question, data: bytes) -> int:
+        answer = question.ask("bcs_handle_scan", data, len(data))
+        self._require(question, answer, BytesError, "bcs_handle_stop_refusal", data)
+        return answer.length
+
+    def part(self, format: Format, data: Data, path: str, limits: Optional[Limits] = None) -> Optional[Part]:
+        """The part of the value at the beginning to which a path leads, or None if it leads nowhere. A path is "." for
+        the whole, or steps such as "2/inner/key:0161/0". Raises BytesError, or PathError if the path is invalid."""
+        data, steps = bytes_of(data), bytes_of_text(path)
+        question = self._question(format, limits, data)
+        answer = question.ask("bcs_handle_part", data, len(data), steps, len(steps))
+        if answer.status == Status.PATH:
+            self._library.require(answer, BytesError, self._library.report("bcs_path_place", steps, len(steps)), "PATH")
+        return self._part(question, answer, data)
+
+    def part_by_name(self, format: Format, data: Data, name: str, limits: Optional[Limits] = None) -> Optional[Part]:
+        """Like `part`, with the field path of the part, as `explain` has it: ".payload::EntryFunction.args[0]"."""
+        return self._part_named(format, data, _NAME, name, limits)
+
+    def part_by_pointer(
+        self, format: Format, data: Data, pointer: str, limits: Optional[Limits] = None
+    ) -> Optional[Part]:
+        """Like `part`, with a JSON Pointer into the value's JSON, such as "/payload/EntryFunction/args/0"."""
+        return self._part_named(format, data, _POINTER, pointer, limits)
+
+    def _part_named(
+        self, format: Format, data: Data, notation: int, name: str, limits: Optional[Limits]
+    ) -> Optional[Part]:
+        data, text = bytes_of(data), bytes_of_text(name)
+        question = self._question(format, limits, data)
+        answer = question.ask("bcs_handle_part_named", notation, text, len(text), data, len(data))
+        if answer.status == Status.PATH:
+            self._library.require(answer, BytesError)
+        return self._part(question, answer, data)
+
+    def _part(self, question: Question, answer: Answer, data: bytes) -> Optional[Part]:
+        if answer.status == Status.NO:
+            return None
+        self._require(question, answer, BytesError, "bcs_handle_stop_refusal", data)
+        return Part(answer.place, data[answer.place : answer.place + answer.length])
+
+    def explain(self, format: Format, data: Data, limits: Optional[Limits] = None) -> list[dict[str, Any]]:
+        """The pieces of bytes, a dict for each with "place", "bytes", "kind", "what", "value", "name" and "path". The
+        last one is {"end": N}, or for invalid bytes a dict with "refused", "place", "want", "name" and "path"."""
+        return [json.loads(line) for line in self.explain_text(format, data, Form.JSON, limits).split("\n")[:-1]]
+
+    def explain_text(self, format: Format, data: Data, form: Form = Form.WAYS, limits: Optional[Limits] = None) -> str:
+        """The pieces of bytes as lines, as `bcs explain` prints them. Invalid bytes are no error here:
+        the last line reports them."""
+        data = bytes_of(data)
+        question = self._question(format, limits, data)
+        room = min(100 * len(data) + 1000, 1000000)
+        answer, text = question.put("bcs_handle_explain", room, int(form), data, len(data))
+        self._require(question, answer, BytesError)
+        return str(text, "utf-8")
+
+    def _read(self, question: Question, text: memoryview, plain_options: bool) -> Any:
+        """The value of a format that normal JSON represents."""
+        read = self._reader_of(question.format, plain_options)
+        # (a large document has little room for copies of itself)
+        with text:
+            document = str(text, "utf-8")
+        found = json.loads(document)
+        del document
+        return found if read is None else read(found)
+
+    def _reader_of(self, format: bytes, plain_options: bool) -> Read:
+        try:
+            return self._known_readers[format, plain_options]
+        except KeyError:
+            if len(self._known_readers) >= _MOST_FORMATS:
+                self._known_readers.clear()
+            read = self._readers[plain_options].format(json.loads(format.decode()))
+            self._known_readers[format, plain_options] = read
+            return read
+
+    def _json_of(self, question: Question, value: Any) -> bytes:
+        """The JSON of a value. The library's answer about the format comes before what is wrong with the value."""
+        known = self._known_formats.get(question.format)
+        if known is None:
+            self._check(question)
+            if len(self._known_formats) >= _MOST_FORMATS:
+                self._known_formats.clear()
+            known = self._formats.format(json.loads(question.format.decode()))
+            self._known_formats[question.format] = known
+        try:
+            return values.json_of(known, value, question.nodes)
+        except values.Rejected as fault:
+            error = ValueTypeError if fault.is_type else TextError
+            raise error(fault.reason, None, fault.at, fault.message) from fault.__cause__
+
+    def _question(self, format: Format, limits: Optional[Limits], read: Optional[bytes] = None) -> Question:
+        """`read` are the bytes that a method reads, if it doesn't read JSON or a value."""
+        handle = self._open_handle()
+        depth = Limits.depth if limits is None else limits.depth
+        nodes = None if limits is None else limits.nodes
+        if nodes is None:
+            nodes = MOST_NODES if read is None else handle.nodes_for(len(read))
+        return Question(handle, json_of(format), depth, nodes)
+
+    def _open_handle(self) -> Handle:
+        handle = self._handle
+        if handle is None:
+            raise ValueError("the registry is closed")
+        return handle
+
+    @staticmethod
+    def _require(
+        question: Question, answer: Answer, refused: type[BcsError], call: str = "", data: bytes = b""
+    ) -> None:
+        """Raises the error that an answer means, unless it is DONE."""
+        try:
+            question.require(answer, refused, call, data)
+        except FormatError as fault:
+            hint = hint_of(question.format) if fault.reason == "UnknownName" else ""
+            raise FormatError(fault.reason, fault.place, fault.at, fault.message + hint) from None
+
+    def _check(self, question: Question) -> None:
+        self._require(question, question.ask("bcs_handle_check"), FormatError)
+
+    def _put_text(self, question: Question, call: str, text: bytes) -> memoryview:
+        answer, output = question.put(call, 2 * len(text) + 100, text, len(text))
+        self._require(question, answer, TextError, "bcs_handle_text_refusal", text)
+        return output
