@@ -1,7 +1,9 @@
 // The proved calls, which bindings/c/proved.h declares, on an instance of the WebAssembly module: what is handed over is put
 // into its memory, and the answer is read from there.
+import { Interruption, interruptionOf } from './interruptions.mjs';
+
 const STATUSES = ['done', 'short', 'registry', 'format', 'limits', 'refused', 'memory', 'no', 'path', 'newer', 'closed'];
-const FORMS = ['ways', 'paths', 'tree', 'json'];
+export const FORMS = ['ways', 'paths', 'tree', 'json'];
 const WHATS = ['where', 'wanted'];
 // (their numbers begin with 1)
 const NOTATIONS = [undefined, 'name', 'pointer'];
@@ -19,14 +21,6 @@ const FIRST_PLACE = 256;
 const FIRST_DOCUMENT = 4096;
 // The least room in the memory that is kept for what calls are handed.
 const LEAST_ROOM = 4096;
-
-/** The stack or the memory of the machine didn't suffice, or the engine broke off: no answer of the calls. */
-export class Interruption extends Error {
-  constructor(kind, cause) {
-    super(kind === 'memory' ? 'memory ran out' : 'the stack ran out', { cause });
-    this.kind = kind;
-  }
-}
 
 /** A registry that is read once for many calls. Where an instance was let go, the next call reads it again. */
 export class Opened {
@@ -335,11 +329,4 @@ export class Calls {
       throw interruptionOf(error);
     }
   }
-}
-
-/** A trap means that the stack within the memory ran out. Its own stack an engine tells by the words of an error. */
-function interruptionOf(error) {
-  const isStack = error instanceof WebAssembly.RuntimeError || /call stack|recursion/.test(error.message);
-  if (isStack) return new Interruption('stack', error);
-  return error instanceof RangeError ? new Interruption('memory', error) : error;
 }

@@ -3,6 +3,7 @@
 import { BcsError } from './errors.mjs';
 import { bytesOfHex, hexOf } from './hex.mjs';
 import { copyOfBytes, copyOfIntegers, isMap } from './octets.mjs';
+import { isWellFormed } from './texts.mjs';
 
 // The limits of docs/FORMAT.md: arrays and objects in one another, and open containers.
 const MOST_NESTED = 100;
@@ -245,10 +246,6 @@ function integerText(value) {
 /** The JSON of a string, or `undefined` where half of a surrogate pair is in it, which UTF-8 doesn't have. */
 function stringText(string) {
   return isWellFormed(string) ? JSON.stringify(string) : undefined;
-}
-
-export function isWellFormed(string) {
-  return string.isWellFormed?.() ?? !/\p{Surrogate}/u.test(string);
 }
 
 /** Goes through a shape and the JSON of one of its values together. */

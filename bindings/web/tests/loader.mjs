@@ -3,12 +3,16 @@
 import assert from 'node:assert/strict';
 import { readFileSync } from 'node:fs';
 import test from 'node:test';
+import { once } from 'node:events';
+import { Worker } from 'node:worker_threads';
 import { BcsError, fromBase64, isSupported, Limits, load, toBase64 } from '../bcs.mjs';
 import { bytesOfHex, hexOf } from '../hex.mjs';
+import { longestStringOf, nodesFor } from '../limits.mjs';
 
 const module = await WebAssembly.compile(readFileSync(process.env.BCS_WASM));
 const bcs = await load(module);
 const none = bcs.registry('{}');
+const encoder = new TextEncoder();
 const MAP = '{"MAP":{"KEY":"STR","VALUE":"U8"}}';
 const SHAPES = {
   Nothing: 'UNITSTRUCT',
@@ -341,7 +345,7 @@ test('schemas, examples, registries in readable form, and differences', () => {
 // (five bytes that announce 2147483647 units, which have no bytes)
 const ANNOUNCED = bytesOfHex('ffffffff07');
 
-test('by default bytes have at most 16 nodes a byte, and a million', () => {
+test('by default bytes have at most 16 nodes a byte, and 65,536', () => {
   const calls = ['decode', 'decodeText', 'scan', 'explain', 'explainText'];
   const start = performance.now();
   for (const call of calls.slice(0, 3)) assert.throws(() => none[call]({ SEQ: 'UNIT' }, ANNOUNCED), refusal('bytes', 'TooManyNodes', 5));
@@ -351,12 +355,40 @@ test('by default bytes have at most 16 nodes a byte, and a million', () => {
   assert.ok(performance.now() - start < 2000, 'two seconds');
   // A list of `count` units has a node for itself and one for each, and its length has three bytes here.
   const units = (count) => Uint8Array.of((count & 127) | 128, ((count >> 7) & 127) | 128, count >> 14);
-  const most = 16 * 3 + 1_000_000 - 1;
+  const most = 16 * 3 + 65_536 - 1;
   assert.equal(none.scan({ SEQ: 'UNIT' }, units(most)), 3);
   assert.equal(none.decode({ SEQ: 'UNIT' }, units(most)).length, most);
   assert.throws(() => none.scan({ SEQ: 'UNIT' }, units(most + 1)), refusal('bytes', 'TooManyNodes', 3));
   assert.throws(() => none.withLimits({ depth: 9 }).scan({ SEQ: 'UNIT' }, units(most + 1)), refusal('bytes', 'TooManyNodes', 3));
   assert.equal(none.withLimits({ nodes: most + 2 }).scan({ SEQ: 'UNIT' }, units(most + 1)), 3);
+});
+
+// A name's length, a number of bytes, and the nodes that they may have: the rows of bindings/c/tests/handles.c and beside.c.
+const NODES = [
+  [1, 0, 65536], [1, 5, 65616], [64, 5, 65616], [128, 0, 32768], [128, 5, 32808], [100, 5, 41994], [4096, 0, 1024], [4096, 1000000, 2000000],
+  [1, 268431359, 4294967280], [1, 268431360, 4294967295], [128, 2 ** 40, 4294967295],
+];
+
+test('the longer the longest name, the fewer nodes, as in C', () => {
+  for (const [name, length, nodes] of NODES) {
+    const named = encoder.encode(JSON.stringify({ ['0'.repeat(name)]: 'UNITSTRUCT' }));
+    assert.equal(nodesFor(length, longestStringOf(named)), nodes, `${name}, ${length}`);
+  }
+  const rows = [['{}', 0], ['"a\\"b"', 4], ['{"é":"\\\\"}', 2], ['"abc","', 3], ['["a", "abcd"]', 4]];
+  for (const [json, longest] of rows) assert.equal(longestStringOf(encoder.encode(json)), longest, json);
+});
+
+test('three bytes that announce 40,000 structs with long names cost little', () => {
+  const names = Array.from({ length: 20 }, (_, i) => 'n'.repeat(4000 + i));
+  const long = bcs.registry(JSON.stringify({ L: { STRUCT: names.map((name) => ({ [name]: 'UNIT' })) } }));
+  const list = { SEQ: { TYPENAME: 'L' } };
+  const [before, start] = [process.memoryUsage().rss, performance.now()];
+  for (const call of ['decode', 'decodeText', 'scan']) assert.throws(() => long[call](list, bytesOfHex('c0b802')), { reason: 'TooManyNodes' });
+  // (A list has a node, and each of these structs 22. 65,552 nodes for a byte, by 64 / 4019, are 1,043.)
+  assert.equal(long.decode(list, Uint8Array.of(47)).length, 47);
+  assert.throws(() => long.decode(list, Uint8Array.of(48)), { reason: 'TooManyNodes' });
+  assert.ok(process.memoryUsage().rss - before < 64 << 20, 'tens of MiB');
+  assert.ok(performance.now() - start < 2000, 'two seconds');
 });
 
 test('what bytes announce takes no memory by default', async () => {
@@ -471,6 +503,19 @@ test('where the engine’s stack ends, it is told, and the next call is answered
   );
   bytes[32 * 100 - 1] = 0;
   assert.equal(registry.scan('L', bytes), 32 * 100);
+});
+
+test('on a thread with a small stack each call is answered, or throws the kind stack', async () => {
+  const worker = new Worker(new URL('small_stack.mjs', import.meta.url), { workerData: process.env.BCS_WASM, resourceLimits: { stackSizeMb: 1 } });
+  const [outcomes] = await once(worker, 'message');
+  await worker.terminate();
+  const counts = { answered: 0, stack: 0, engine: 0, 'at last answered': 0 };
+  for (const outcome of outcomes) {
+    assert.ok(outcome in counts, outcome);
+    counts[outcome]++;
+  }
+  assert.ok(counts.answered > 100 && counts.stack > 100 && counts.engine < 200, JSON.stringify(counts));
+  assert.equal(counts['at last answered'], 3);
 });
 
 test('where memory ends, it is told, and the next call is answered', async () => {

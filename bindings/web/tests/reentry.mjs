@@ -205,16 +205,35 @@ test('each thing is read once, and what it is later doesn’t matter', () => {
   assert.equal(count, 2);
 });
 
-test('a list that grows, a map that grows and a registry that is closed, while they are read', () => {
+test('a list that grows and a map that grows, while they are read', () => {
   const list = getter([], 0, 'one');
   const growing = new Proxy(list, { get: (target, name) => (name === '0' && (list.length = 3), Reflect.get(target, name)) });
   assert.equal(hexOf(registry.encode({ SEQ: 'STR' }, growing)), `01${DIGITS}`);
   const map = new Map();
   map.set('one', { get v() { map.set(`${map.size}`, null); return 7; }, w: 'one' });
   assert.equal(hexOf(registry.encode({ MAP: { KEY: 'STR', VALUE: { TYPENAME: 'P' } } }, map)), `01${DIGITS}07${DIGITS}`);
-  const closing = bcs.registry(SHAPES);
-  assert.throws(() => closing.encode('P', { v: 7, get w() { closing.close(); return 'one'; } }), /the registry is closed/);
-  assert.throws(() => closing.decode({ toJSON: () => TUPLE }, BYTES), /the registry is closed/);
+});
+
+test('a registry that is closed while a call runs: the call ends with its own answer, and later ones throw', () => {
+  const members = (closing) => ({ v: 7, get w() { closing.close(); return 'one'; } });
+  const format = (closing) => ({ toJSON: () => (closing.close(), TUPLE) });
+  const rows = [
+    ['encode', (closing) => hexOf(closing.encode('P', members(closing))), `07${DIGITS}`],
+    ['of other limits', (closing) => hexOf(closing.withLimits({ depth: 9 }).encode('P', members(closing))), `07${DIGITS}`],
+    ['decode', (closing) => closing.decode(format(closing), BYTES), ['one']],
+    ['part', (closing) => closing.part(format(closing), BYTES, '0').place, 0],
+    ['a call within a call', (closing) => closing.decode({ toJSON: () => (closing.decode(format(closing), BYTES), TUPLE) }, BYTES), ['one']],
+  ];
+  for (const [name, call, expected] of rows) {
+    const closing = bcs.registry(SHAPES);
+    assert.deepEqual(call(closing), expected, name);
+    assert.throws(() => closing.check('P'), /the registry is closed/, name);
+  }
+  // (the message of a refusal is asked for by another call of the module)
+  const refusing = bcs.registry(SHAPES);
+  const refused = { kind: 'text', reason: 'BadNumber', message: /0 to 255/ };
+  assert.throws(() => refusing.encode('P', { v: 256, get w() { refusing.close(); return 'one'; } }), refused);
+  assert.throws(() => refusing.decode('P', BYTES), /the registry is closed/);
   assert.equal(hexOf(registry.encode('P', { v: 7, w: 'one' })), `07${DIGITS}`);
 });
 
