@@ -80,8 +80,8 @@ export interface Limits {
   /** How many containers may be open at once: at most 500, which is the default. */
   depth?: number;
   /**
-   * How many nodes a value may have. By default the nodes of bytes are limited to 16 for each byte of the input and 1,000,000 more,
-   * at most 4294967295, and those of values and their JSON to 4294967295.
+   * How many nodes a value may have. By default the nodes of bytes are limited to 16 for each byte of the input and 65,536 more,
+   * fewer if the registry has a name of more than 64 bytes, and those of values and their JSON to 4294967295.
    */
   nodes?: number;
 }
@@ -97,38 +97,36 @@ export type Kind =
   | 'registry' | 'newer' | 'format'
   /** The depth is above 500. */
   | 'limits'
-  /** The JSON text or the bytes are no value of the format. */
+  /** The JSON or the bytes aren't a value of the format. */
   | 'text' | 'bytes'
-  /** A part of the value that `encode` got has a type that its format doesn't accept, or nests too deep. */
+  /** A part of the value that `encode` got has a type that its format doesn't accept, nests too deep, or has too many nodes. */
   | 'value'
-  /** The path is none. */
+  /** The path, the name of a part or the pointer is invalid. */
   | 'path'
   /** The newer registry doesn't keep what the older one has. */
   | 'growth'
   /** The format has no such example. */
   | 'example'
-  /** The machine's memory or stack didn't suffice. */
+  /** Too little memory, or too little stack is left for the value's depth. */
   | 'memory' | 'stack';
 
-/** What a call refuses. */
+/** A refusal. Its `message` is a line such as `refused: BadNumber at /amount: found 256, wanted ..`. */
 export class BcsError extends Error {
-  constructor(kind: Kind, reason: string, place?: number, told?: { pointer?: string; expected?: string });
+  constructor(kind: Kind, parts?: { reason?: string; place?: number; at?: string; detail?: string; cause?: unknown });
+  /** What is refused. */
   readonly kind: Kind;
-  /** The fault's name, as the program `bcs` prints it: `BadBool`. For the kind `value` it is `WrongType` or `TooNested`. */
-  readonly reason: string;
-  /** Where bytes stop being a value, counted from the front. */
+  /** The fault's name, as the program `bcs` prints it: `BadBool`. The kinds `limits`, `memory` and `stack` have none. */
+  readonly reason?: string;
+  /** The byte offset where bytes stop being a value. */
   readonly place?: number;
   /**
-   * Where it is: of a value or a text a JSON Pointer, as `/payload/args/1`, which is empty where it is refused as a whole; of bytes
-   * the way to where they stop, as `.payload.args[1]`; of a format a JSON Pointer; of a registry, a path or growth its place as the
-   * program `bcs` prints it.
+   * Where the fault is: in a value or JSON a JSON Pointer, such as `/payload/args/1`; in bytes the field path to where they stop,
+   * such as `.payload.args[1]`; in a format a JSON Pointer; in a registry, a path or growth the location as the program `bcs`
+   * prints it. It is empty for a whole document.
    */
-  readonly pointer?: string;
-  /**
-   * What was wanted there, or what is wrong with it, in words for people, which may change. For the kind `value` it names the format
-   * and the type that was found: `U64 takes an integer, not Uint8Array`.
-   */
-  readonly expected?: string;
+  readonly at?: string;
+  /** What is wrong there, or what was expected, in words for people, which may change: `U64 takes an integer, not Uint8Array`. */
+  readonly detail?: string;
 }
 
 /** A piece of a value's bytes. */

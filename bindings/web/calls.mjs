@@ -4,7 +4,6 @@ import { Interruption, interruptionOf } from './interruptions.mjs';
 
 const STATUSES = ['done', 'short', 'registry', 'format', 'limits', 'refused', 'memory', 'no', 'path', 'newer', 'closed'];
 export const FORMS = ['ways', 'paths', 'tree', 'json'];
-const WHATS = ['where', 'wanted'];
 // (their numbers begin with 1)
 const NOTATIONS = [undefined, 'name', 'pointer'];
 const ANSWER_SIZE = 24;
@@ -262,27 +261,29 @@ export class Calls {
     return this.#onHandle('show', registry, [FORMS.indexOf(form), name], FIRST_DOCUMENT);
   }
 
-  /** The line on a format that is refused. */
+  /** Where a format is refused, and why, in a line of the program on this `input`. */
   formatPlace(ask) {
-    return this.#run((room) => wholeCall(room, 'bcs_c_format_place', [ask.registry.text, ask.format], FIRST_PLACE));
+    return this.#line('FORMAT', 'bcs_c_format_place', [ask.registry.text, ask.format]);
   }
 
-  /** The same of a path, and of a newer registry. */
+  /** The same of a path, and of growth. */
   pathPlace(path) {
-    return this.#run((room) => wholeCall(room, 'bcs_c_path_place', [path], FIRST_PLACE));
+    return this.#line('PATH', 'bcs_c_path_place', [path]);
   }
 
   growthPlace(older, newer) {
-    return this.#run((room) => wholeCall(room, 'bcs_c_growth_place', [older, newer], FIRST_PLACE));
+    return this.#line('', 'bcs_c_growth_place', [older, newer]);
   }
 
   growthList(older, newer) {
     return this.#run((room) => wholeCall(room, 'bcs_c_growth_list', [older, newer], FIRST_DOCUMENT));
   }
 
-  /** `where` the text of a registry is refused, or what was `wanted` there. */
-  registryPlace(what, text) {
-    return this.#run((room) => wholeCall(room, 'bcs_c_registry_place', [WHATS.indexOf(what), text], FIRST_PLACE));
+  /** Where the text of a registry is refused with a fault, and what was expected there, with a NUL between them. */
+  registryRefusal(text, fault) {
+    const [where, wanted] = [0, 1].map((what) => this.#run((room) => wholeCall(room, 'bcs_c_registry_place', [what, text], FIRST_PLACE)));
+    const output = [where, wanted].flatMap(({ output: told = [] }, i) => (i === 0 ? [...told] : [0, ...told]));
+    return { ...where, fault, output: Uint8Array.from(output) };
   }
 
   faultName(fault) {
@@ -311,6 +312,10 @@ export class Calls {
       }
       return handleCall(room, name, registry, [{ slices: [format], depth, nodes }, ...parts], outLength);
     });
+  }
+
+  #line(input, name, parts) {
+    return { ...this.#run((room) => wholeCall(room, name, parts, FIRST_PLACE)), input };
   }
 
   #onHandle(name, registry, parts, outLength) {

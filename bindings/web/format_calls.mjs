@@ -1,6 +1,6 @@
 // The calls on one format of an open registry.
 import { ALL_NODES } from './limits.mjs';
-import { partsOfLine, partsOfRefusal } from './refusals.mjs';
+import { reported } from './refusals.mjs';
 import { stringOfUtf8 } from './texts.mjs';
 import { textOf, valueOf } from './values.mjs';
 
@@ -42,9 +42,9 @@ export class FormatCalls {
   }
 
   areEqual(first, second) {
-    const placing = (calls, ask, answer) => {
+    const placing = (calls, ask) => {
       const told = calls.textRefusal(ask, first);
-      return partsOfRefusal(told.status === 'no' ? calls.textRefusal(ask, second) : told);
+      return reported(told.status === 'no' ? calls.textRefusal(ask, second) : told, this.#bcs);
     };
     return this.#answer(ALL_NODES, (calls, ask) => calls.compare(ask, first, second), placing).status === 'done';
   }
@@ -69,7 +69,7 @@ export class FormatCalls {
 
   /** The part to which a path leads. */
   part(bytes, path) {
-    const placing = (calls) => partsOfLine(calls.pathPlace(path), this.#bcs, 'PATH');
+    const placing = (calls) => reported(calls.pathPlace(path), this.#bcs);
     return this.#partBy(bytes, (calls, ask) => calls.part(ask, bytes, path), placing);
   }
 
@@ -79,7 +79,7 @@ export class FormatCalls {
   }
 
   #partBy(bytes, call, placing) {
-    const placed = (calls, ask, { status }) => (status === 'path' ? placing?.(calls) : partsOfRefusal(calls.stopRefusal(ask, bytes)));
+    const placed = (calls, ask, { status }) => (status === 'path' ? placing?.(calls) : reported(calls.stopRefusal(ask, bytes), this.#bcs));
     const { status, place, length } = this.#answer(this.#nodesFor(bytes), call, placed);
     return status === 'no' ? undefined : { place, bytes: bytes.slice(place, place + length) };
   }
@@ -97,18 +97,18 @@ export class FormatCalls {
   }
 
   #ofText(text, call) {
-    return this.#answer(ALL_NODES, call, (calls, ask) => partsOfRefusal(calls.textRefusal(ask, text)));
+    return this.#answer(ALL_NODES, call, (calls, ask) => reported(calls.textRefusal(ask, text), this.#bcs));
   }
 
   #ofBytes(bytes, call, nodes = this.#nodesFor(bytes)) {
-    return this.#answer(nodes, call, (calls, ask) => partsOfRefusal(calls.stopRefusal(ask, bytes)));
+    return this.#answer(nodes, call, (calls, ask) => reported(calls.stopRefusal(ask, bytes), this.#bcs));
   }
 
   #answer(nodes, call, placing) {
     const limits = { depth: this.#limits.depth, nodes: this.#limits.nodes ?? nodes };
     const ask = { registry: this.#holder.opened, format: this.#format.bytes, ...limits };
     const placed = (calls, answer) => {
-      if (answer.status === 'format') return partsOfLine(calls.formatPlace(ask), this.#bcs, 'FORMAT');
+      if (answer.status === 'format') return reported(calls.formatPlace(ask), this.#bcs);
       return placing?.(calls, ask, answer);
     };
     return this.#bcs.answerOf((calls) => call(calls, ask), placed);

@@ -21,7 +21,7 @@ export function interruptible(call) {
     return call();
   } catch (error) {
     const interruption = isEndOfStack(error) ? new Interruption('stack', error) : error;
-    throw interruption instanceof Interruption ? new BcsError(interruption.kind, interruption.message) : error;
+    throw interruption instanceof Interruption ? new BcsError(interruption.kind, { detail: interruption.message, cause: error }) : error;
   }
 }
 

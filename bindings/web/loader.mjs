@@ -4,7 +4,7 @@ import { BcsError } from './errors.mjs';
 import { Holder } from './holder.mjs';
 import { interruptible } from './interruptions.mjs';
 import { isUnsigned, MOST_DEPTH } from './limits.mjs';
-import { partsOfLine } from './refusals.mjs';
+import { reported } from './refusals.mjs';
 import { Registry } from './registry.mjs';
 import { isSupported } from './support.mjs';
 import { bytesOf, stringOfUtf8 } from './texts.mjs';
@@ -51,7 +51,7 @@ class Bcs {
   registry(text) {
     const bytes = bytesOf(text);
     const holder = new Holder(this.#calls, bytes);
-    this.answerOf((calls) => calls.open(holder.opened), placesOfRegistry(bytes));
+    this.answerOf((calls) => calls.open(holder.opened), (calls, { fault }) => reported(calls.registryRefusal(bytes, fault), this));
     return new Registry(this, holder, { depth: MOST_DEPTH });
   }
 
@@ -59,16 +59,16 @@ class Bcs {
   grows(older, newer) {
     const [first, second] = [bytesOf(older), bytesOf(newer)];
     this.answerOf((calls) => calls.grows(first, second), (calls, answer) => {
-      if (answer.status === 'refused') return partsOfLine(calls.growthPlace(first, second), this, '');
-      return placesOfRegistry(answer.status === 'newer' ? second : first)(calls);
+      if (answer.status === 'refused') return reported(calls.growthPlace(first, second), this);
+      return reported(calls.registryRefusal(answer.status === 'newer' ? second : first, answer.fault), this);
     });
   }
 
   /** All differences from an older registry to a newer one, a line for each. */
   differences(older, newer) {
     const [first, second] = [bytesOf(older), bytesOf(newer)];
-    const { output } = this.answerOf((calls) => calls.growthList(first, second), (calls, { status }) =>
-      placesOfRegistry(status === 'newer' ? second : first)(calls));
+    const { output } = this.answerOf((calls) => calls.growthList(first, second), (calls, { status, fault }) =>
+      reported(calls.registryRefusal(status === 'newer' ? second : first, fault), this));
     return stringOfUtf8(output).split('\n').slice(0, -1);
   }
 
@@ -82,7 +82,7 @@ class Bcs {
     return this.#names.get(fault);
   }
 
-  /** The answer of a call that is done or says no; any other is thrown, with what `placing` tells of the refusal. */
+  /** The answer of a call that is done or says no; any other is thrown, with what `placing` reports of the refusal. */
   answerOf(call, placing) {
     const answer = interruptible(() => call(this.#calls));
     if (answer.status === 'done' || answer.status === 'no') return answer;
@@ -91,28 +91,14 @@ class Bcs {
 
   #refusal(answer, placing) {
     const { status, fault, place } = answer;
-    if (status === 'memory') return new BcsError('memory', 'memory ran out');
-    if (status === 'limits') return new BcsError('limits', 'the depth is above 500');
+    if (status === 'memory') return new BcsError('memory', { detail: 'memory ran out' });
+    if (status === 'limits') return new BcsError('limits', { detail: 'the depth is above 500' });
     const kind = status === 'refused' ? kindOfFault(fault) : status;
-    // (only where bytes stop being a value is there a place: the text that nests too deep has none)
+    const { at, detail } = (placing && interruptible(() => placing(this.#calls, answer))) ?? {};
+    // (only where bytes stop being a value is there a place: the JSON that nests too deep has none)
     const isStop = kind === 'bytes' && fault < 500;
-    return new BcsError(kind, this.faultName(fault), isStop ? place : undefined, this.#told(answer, placing));
+    return new BcsError(kind, { reason: this.faultName(fault), place: isStop ? place : undefined, at, detail: detail || undefined });
   }
-
-  #told(answer, placing) {
-    const { pointer, expected } = (placing && interruptible(() => placing(this.#calls, answer))) ?? {};
-    return { pointer, expected: expected === '' ? undefined : expected };
-  }
-}
-
-function placesOfRegistry(text) {
-  return (calls) => {
-    const [pointer, expected] = ['where', 'wanted'].map((what) => {
-      const told = calls.registryPlace(what, text);
-      return told.status === 'done' ? stringOfUtf8(told.output) : undefined;
-    });
-    return { pointer, expected };
-  };
 }
 
 function kindOfFault(fault) {

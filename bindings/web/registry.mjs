@@ -109,7 +109,7 @@ export class Registry {
   show(name = '', { json = false } = {}) {
     return this.#during(() => {
       const bytes = bytesOf(name);
-      const refused = () => ({ pointer: '', expected: `no container is called ${name}` });
+      const refused = () => ({ at: '', detail: `no container is called ${name}` });
       const call = (calls) => calls.show(this.#holder.opened, json ? 'json' : 'ways', bytes);
       return stringOfUtf8(this.#bcs.answerOf(call, refused).output);
     });

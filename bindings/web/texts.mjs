@@ -24,9 +24,9 @@ export function bytesForCall(text) {
 export function stringOfUtf8(bytes) {
   try {
     return decoder.decode(bytes);
-  } catch {
+  } catch (cause) {
     // (the module returns UTF-8, so only the length can be at fault)
-    throw new BcsError('memory', 'this engine has no string that long');
+    throw new BcsError('memory', { detail: 'this engine has no string that long', cause });
   }
 }
 

@@ -195,9 +195,9 @@ class Writer {
     throw this.#error('WrongType', `${shape.name} takes ${takes}, not ${found}`);
   }
 
-  #error(reason, expected) {
-    const pointer = this.#path.map((step) => `/${String(step).replaceAll('~', '~0').replaceAll('/', '~1')}`).join('');
-    return new BcsError('value', reason, undefined, { pointer, expected });
+  #error(reason, detail) {
+    const at = this.#path.map((step) => `/${String(step).replaceAll('~', '~0').replaceAll('/', '~1')}`).join('');
+    return new BcsError('value', { reason, at, detail });
   }
 }
 

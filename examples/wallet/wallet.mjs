@@ -19,7 +19,7 @@ function refused(call) {
     call();
   } catch (error) {
     if (!(error instanceof BcsError)) throw error;
-    console.log([error.reason, error.place, error.pointer].filter((part) => part !== undefined).join(' '));
+    console.log([error.reason, error.place, error.at].filter((part) => part !== undefined).join(' '));
   }
 }
 refused(() => registry.encodeText('RawTransaction', read('aptos_transfer_damaged.json')));

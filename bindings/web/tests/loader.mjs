@@ -205,7 +205,7 @@ test('refusals by kind, reason and place', () => {
   assert.throws(() => none.partByName('"U8"', bytesOfHex('07'), 'a'), refusal('path', 'BadPath'));
   assert.throws(() => none.partByPointer('"U8"', bytesOfHex('07'), '/~2'), refusal('path', 'BadPath'));
   assert.throws(() => none.partByName('"BOOL"', bytesOfHex('02'), '.'), refusal('bytes', 'BadBool', 0));
-  assert.throws(() => none.withLimits({ depth: 501 }).encodeText('"U8"', '7'), refusal('limits', 'the depth is above 500'));
+  assert.throws(() => none.withLimits({ depth: 501 }).encodeText('"U8"', '7'), { kind: 'limits', reason: undefined, message: 'refused: the depth is above 500' });
   assert.throws(() => shapes.withLimits({ depth: 1 }).decode('Chain', bytesOfHex('0100')), refusal('bytes', 'TooDeep', 1));
   const many = none.withLimits({ nodes: 1000 });
   assert.throws(() => many.decode({ SEQ: 'UNIT' }, bytesOfHex('ffffffff07')), refusal('bytes', 'TooManyNodes', 5));
@@ -276,8 +276,8 @@ test('base64', () => {
   for (const text of ['A', 'AA', 'AA=', 'AB==', 'A A=', 'AA==\n', '-_8=', undefined, 7]) assert.throws(() => fromBase64(text), TypeError);
 });
 
-const told = (pointer, expected) => (error) => {
-  assert.deepEqual([error.pointer, error.expected], [pointer, expected]);
+const told = (at, detail) => (error) => {
+  assert.deepEqual([error.at, error.detail], [at, detail]);
   return true;
 };
 
@@ -292,22 +292,55 @@ test('where something is refused, and what was wanted there', () => {
   assert.throws(() => registry.scan('Point', [7, 1, 2, 5]), told('.~/[0]', 'wanted 2 bytes of BYTES'));
   assert.throws(() => registry.part('Point', [7, 1, 2, 5], '.'), told('.~/[0]', 'wanted 2 bytes of BYTES'));
   for (const call of [() => registry.check('Line'), () => registry.encode('Line', 7), () => registry.decode('Line', []), () => registry.schema('Line')]) {
-    assert.throws(call, { kind: 'format', pointer: '', expected: /^no container is called Line/ });
+    assert.throws(call, { kind: 'format', at: '', detail: /^no container is called Line/ });
   }
   assert.throws(() => registry.scan({ SEQ: { TYPENAME: 'x: UnknownName: y' } }, []), told('', 'no container is called x: UnknownName: y'));
   assert.throws(() => registry.check({ TUPLE: ['U8', {}] }), told('/TUPLE/1', 'wanted a format'));
-  assert.throws(() => registry.show('Line'), { kind: 'format', reason: 'UnknownName', expected: 'no container is called Line' });
+  assert.throws(() => registry.show('Line'), { kind: 'format', reason: 'UnknownName', at: '', detail: 'no container is called Line' });
   const step = 'wanted a number, inner, or key: and hexadecimal digits';
-  assert.throws(() => registry.part('"U8"', [7], '1/x: BadPath: y'), { kind: 'path', pointer: 'step 2 x: BadPath: y', expected: step });
+  assert.throws(() => registry.part('"U8"', [7], '1/x: BadPath: y'), { kind: 'path', at: 'step 2 x: BadPath: y', detail: step });
   assert.throws(() => bcs.grows('{"a: Missing: b":"UNITSTRUCT"}', '{}'), {
-    kind: 'growth', reason: 'Missing', pointer: 'a: Missing: b', expected: 'the newer registry has no container of that name',
+    kind: 'growth', reason: 'Missing', at: 'a: Missing: b', detail: 'the newer registry has no container of that name',
   });
   assert.throws(() => bcs.registry('{"S":{"STRUCT":[{"side":{"TYPENAME":"Sid"}}]}}'), told('S, field side', 'no container is called Sid'));
   assert.throws(() => bcs.grows('{}', '{"S":7}'), told('/S', 'wanted a container'));
-  assert.throws(() => registry.encode('Point', { x: 256, '~/': [] }), { message: `text refused: BadNumber at /x: found 256, ${wanted}` });
-  assert.throws(() => registry.encode('Point', 7), { message: 'value refused: WrongType at the whole value: Point takes an object, not number' });
-  assert.throws(() => registry.encodeText('Point', '7'), { message: /^text refused: BadShape at the whole text: wanted an object/ });
-  assert.throws(() => registry.decode('Point', []), { message: 'bytes refused: EndOfInput at 0, .x: wanted U8' });
+  assert.throws(() => registry.encode('Point', { x: 256, '~/': [] }), { message: `refused: BadNumber at /x: found 256, ${wanted}` });
+  assert.throws(() => registry.encode('Point', 7), { message: 'refused: WrongType: Point takes an object, not number' });
+  assert.throws(() => registry.encodeText('Point', '7'), { message: /^refused: BadShape: wanted an object/ });
+  assert.throws(() => registry.decode('Point', []), { message: 'refused: EndOfInput at byte 0, .x: wanted U8' });
+});
+
+// A call that is refused, its kind, reason, place, `at`, and the line that begins with the same words in all languages.
+const KINDS = [
+  [() => bcs.registry('{"A":{"NEWTYPESTRUCT":{"TYPENAME":"B"}}}'), 'registry', 'UnknownName', undefined, 'A', 'refused: UnknownName at A: no container is called B'],
+  [() => bcs.registry('{"the whole text":{"NEWTYPESTRUCT":{"TYPENAME":"B"}}}'), 'registry', 'UnknownName', undefined, 'the whole text', /at the whole text: no/],
+  [() => bcs.registry('{"A":7}'), 'registry', 'BadShape', undefined, '/A', /^refused: BadShape at \/A: wanted a container/],
+  [() => bcs.grows('{}', '7'), 'newer', 'BadShape', undefined, '', /^refused: BadShape: wanted/],
+  [() => bcs.grows('{"S":"UNITSTRUCT"}', '{}'), 'growth', 'Missing', undefined, 'S', /^refused: Missing at S: the newer registry has no/],
+  [() => none.check({ SEQ: 'U7' }), 'format', 'BadShape', undefined, '/SEQ', /^refused: BadShape at \/SEQ: /],
+  [() => none.withLimits({ depth: 501 }).scan('"U8"', [7]), 'limits', undefined, undefined, undefined, 'refused: the depth is above 500'],
+  [() => none.encodeText({ SEQ: 'U8' }, '[1,256]'), 'text', 'BadNumber', undefined, '/1', /^refused: BadNumber at \/1: found 256, wanted /],
+  [() => none.encodeText('"U8"', '256'), 'text', 'BadNumber', undefined, '', /^refused: BadNumber: found 256, wanted /],
+  [() => none.decode({ TUPLE: ['U8', 'BOOL'] }, [7, 2]), 'bytes', 'BadBool', 1, '[1]', 'refused: BadBool at byte 1, [1]: wanted BOOL'],
+  [() => none.decode('"BOOL"', [2]), 'bytes', 'BadBool', 0, '.', 'refused: BadBool at byte 0, .: wanted BOOL'],
+  [() => none.part('"U8"', [7], 'a'), 'path', 'BadPath', undefined, 'step 1 a', /^refused: BadPath at step 1 a: wanted a number/],
+  [() => none.partByName('"U8"', [7], 'a'), 'path', 'BadPath', undefined, undefined, 'refused: BadPath'],
+  [() => none.example('"F32"'), 'example', 'NoValue', undefined, undefined, 'refused: NoValue'],
+  [() => none.encode({ TUPLE: ['U8'] }, [true]), 'value', 'WrongType', undefined, '/0', 'refused: WrongType at /0: U8 takes an integer, not boolean'],
+  [() => none.encode('"U8"', true), 'value', 'WrongType', undefined, '', 'refused: WrongType: U8 takes an integer, not boolean'],
+];
+
+test('the parts of each kind of refusal, and its line', () => {
+  for (const [call, kind, reason, place, at, line] of KINDS) {
+    assert.throws(call, (error) => {
+      assert.ok(error instanceof BcsError);
+      assert.deepEqual([error.kind, error.reason, error.place, error.at], [kind, reason, place, at]);
+      if (typeof line === 'string') assert.equal(error.message, line);
+      else assert.match(error.message, line);
+      assert.ok(error.detail === undefined || error.message.endsWith(error.detail));
+      return true;
+    });
+  }
 });
 
 test('schemas, examples, registries in readable form, and differences', () => {
@@ -522,9 +555,9 @@ test('where memory ends, it is told, and the next call is answered', async () =>
   const small = await load(withMostPages(readFileSync(process.env.BCS_WASM), 128));
   const registry = small.registry('{}');
   const zeros = `[${'0,'.repeat(500_000)}0]`;
-  assert.throws(() => registry.encodeText({ SEQ: 'U32' }, zeros), refusal('memory', 'memory ran out'));
+  assert.throws(() => registry.encodeText({ SEQ: 'U32' }, zeros), { kind: 'memory', reason: undefined, message: 'refused: memory ran out' });
   assert.equal(hexOf(registry.encodeText('"U8"', '7')), '07');
-  assert.throws(() => registry.encodeText('"STR"', `"${'a'.repeat(8 << 20)}"`), refusal('memory', 'memory ran out'));
+  assert.throws(() => registry.encodeText('"STR"', `"${'a'.repeat(8 << 20)}"`), { kind: 'memory', reason: undefined, message: 'refused: memory ran out' });
   assert.equal(hexOf(registry.encodeText('"U8"', '8')), '08');
   const less = `[${'0,'.repeat(10_000)}0]`;
   assert.equal(registry.encodeText({ SEQ: 'U32' }, less).length, 40_006);

@@ -252,7 +252,7 @@ test('buffers that are changed, detached or cut while other arguments are read',
   assert.deepEqual(registry.part(TUPLE, first, path(() => first.fill(0))), { place: 0, bytes: Uint8Array.from(BYTES) });
   assert.deepEqual(registry.part(TUPLE, second, path(() => detach(second))), { place: 0, bytes: Uint8Array.from(BYTES) });
   const pair = [{ get v() { detach(pair[1]); return 7; }, w: '' }, made()];
-  assert.throws(() => registry.encode({ TUPLE: [{ TYPENAME: 'P' }, 'BYTES'] }, pair), { kind: 'value', pointer: '/1', expected: /a detached Uint8Array/ });
+  assert.throws(() => registry.encode({ TUPLE: [{ TYPENAME: 'P' }, 'BYTES'] }, pair), { kind: 'value', at: '/1', detail: /a detached Uint8Array/ });
   const buffer = new ArrayBuffer(4, { maxByteLength: 1 << 20 });
   const [fixed, tracking] = [new Uint8Array(buffer, 0, 4), new Uint8Array(buffer)];
   tracking.set(BYTES);

@@ -51,8 +51,8 @@ declare_types hostile "$root/tests/rows/hostile_names.json"
 reversed=$(node -p 'JSON.stringify(Object.fromEntries(Object.entries(JSON.parse(fs.readFileSync(process.argv[1]))).reverse()))' "$aptos")
 node types.mjs "$reversed" | cmp - aptos.d.mts || fail "the order of a registry's members"
 
-refuses 2 'registry refused: UnknownName at A: no container is called B' '{"A":{"NEWTYPESTRUCT":{"TYPENAME":"B"}}}'
-refuses 2 'registry refused: NotJson at line 1, column 1: the text stops being JSON there' '{'
+refuses 2 'refused: UnknownName at A: no container is called B' '{"A":{"NEWTYPESTRUCT":{"TYPENAME":"B"}}}'
+refuses 2 'refused: NotJson at line 1, column 1: the text stops being JSON there' '{'
 refuses 3 'Usage: bcs-types [--plain-options] REGISTRY >registry.d.mts'
 refuses 3 'Usage: bcs-types [--plain-options] REGISTRY >registry.d.mts' a.json b.json
 refuses 3 'Usage: bcs-types [--plain-options] REGISTRY >registry.d.mts' --other
@@ -84,6 +84,6 @@ node made/typed.mjs bcs.wasm "$root/examples" || fail "right values of the examp
 if node made/readme.mjs >said 2>&1; then
     fail "the wrong value of the README is encoded"
 fi
-grep -q 'BcsError: text refused: MissingField at the whole text: no member is called amount' said || fail "the README: $(cat said)"
+grep -q 'BcsError: refused: MissingField: no member is called amount' said || fail "the README: $(cat said)"
 count=$(cat values_of_*.mts | grep -c "\['decode'\]") || fail "no random values"
 echo "typed: $count random values have their types; $told"

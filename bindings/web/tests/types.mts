@@ -38,9 +38,9 @@ function tell(piece: Piece | End | Stop): void {
 
 export function kindOf(error: unknown): string {
   if (!(error instanceof BcsError)) return '';
-  const words: (string | undefined)[] = [error.pointer, error.expected];
+  const words: (string | undefined)[] = [error.at, error.detail, error.reason];
   const kind: Kind = error.kind === 'value' ? 'text' : error.kind;
-  return `${kind} ${error.reason} ${error.place ?? ''} ${words.join(' ')}`;
+  return `${kind} ${error.place ?? ''} ${words.join(' ')}`;
 }
 
 export function refused(registry: Registry): void {

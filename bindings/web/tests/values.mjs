@@ -29,7 +29,7 @@ const INTEGERS = {
 const OCTETS_OR_LIST = 'bytes, hexadecimal digits or an array';
 const NUMBERS = 'an array or a typed array of integers';
 
-const at = (pointer, expected) => ({ pointer, expected });
+const at = (place, detail) => ({ at: place, detail });
 const eachColumn = (names, cell) => Object.fromEntries(names.map((name) => [name, cell]));
 
 // By the name of a column: its format, and what a rejection says that it takes.
@@ -353,9 +353,9 @@ function isExpected(outcome, column, found, cell) {
   if (/^([0-9a-f]{2})*$/.test(cell ?? '-')) return assert.equal(outcome, cell);
   assert.ok(outcome instanceof BcsError, String(outcome));
   if (typeof cell === 'string') return assert.deepEqual([outcome.kind, outcome.reason], ['text', cell]);
-  const { pointer, expected } = cell ?? at('/v', `${COLUMNS[column][1]}, not ${found}`);
-  assert.deepEqual({ ...outcome }, { name: 'BcsError', kind: 'value', reason: 'WrongType', place: undefined, pointer, expected });
-  assert.equal(outcome.message, `value refused: WrongType at ${pointer}: ${expected}`);
+  const rejected = cell ?? at('/v', `${COLUMNS[column][1]}, not ${found}`);
+  assert.deepEqual({ ...outcome }, { name: 'BcsError', kind: 'value', reason: 'WrongType', place: undefined, ...rejected });
+  assert.equal(outcome.message, `refused: WrongType at ${rejected.at}: ${rejected.detail}`);
 }
 
 /** An option of the value of a cell: its bytes, or its rejection one member deeper. */
@@ -363,8 +363,8 @@ function cellOfOption(inner, found, cell) {
   if (found === 'undefined') return undefined;
   if (/^([0-9a-f]{2})*$/.test(cell ?? '-')) return `01${cell}`;
   if (typeof cell === 'string') return cell;
-  const { pointer, expected } = cell ?? at('/v', `${COLUMNS[inner][1]}, not ${found}`);
-  return at(pointer.replace('/v', '/v/some'), expected);
+  const rejected = cell ?? at('/v', `${COLUMNS[inner][1]}, not ${found}`);
+  return at(rejected.at.replace('/v', '/v/some'), rejected.detail);
 }
 
 function cellAt(column, found, cells) {
@@ -395,7 +395,7 @@ test('every type at every format', () => {
 test('billions of holes are rejected at formats that no value has', () => {
   const empty = bcs.registry('{}');
   for (const format of ['F32', 'F64', 'CHAR']) {
-    const rejected = { kind: 'value', reason: 'WrongType', pointer: '/1000000' };
+    const rejected = { kind: 'value', reason: 'WrongType', at: '/1000000' };
     assert.throws(() => empty.encode(`{"SEQ":"${format}"}`, new Array(2 ** 32 - 1)), rejected);
   }
 });
@@ -404,18 +404,18 @@ test('no bytes, and no numbers, come from the names and numbers of other types i
   const payment = bcs.registry('{"P":{"STRUCT":[{"amount":"U64"},{"to":"STR"}]}}');
   const bytes = Uint8Array.of(0x88, 0x13, 0, 0, 0, 0, 0, 0);
   assert.throws(() => payment.encode('P', { amount: bytes, to: 'bob' }), {
-    name: 'BcsError', kind: 'value', pointer: '/amount', expected: 'U64 takes an integer, not Uint8Array',
-    message: 'value refused: WrongType at /amount: U64 takes an integer, not Uint8Array',
+    name: 'BcsError', kind: 'value', at: '/amount', detail: 'U64 takes an integer, not Uint8Array',
+    message: 'refused: WrongType at /amount: U64 takes an integer, not Uint8Array',
   });
-  assert.throws(() => payment.encode('P', { amount: 5000, to: Buffer.from('bob') }), { pointer: '/to', expected: 'STR takes a string, not Uint8Array' });
-  assert.throws(() => payment.encode('P', 7), { message: 'value refused: WrongType at the whole value: P takes an object, not number' });
+  assert.throws(() => payment.encode('P', { amount: 5000, to: Buffer.from('bob') }), { at: '/to', detail: 'STR takes a string, not Uint8Array' });
+  assert.throws(() => payment.encode('P', 7), { message: 'refused: WrongType: P takes an object, not number' });
   assert.equal(hexOf(payment.encode('P', { to: 'bob', amount: 5000 })), '881300000000000003626f62');
 });
 
 test('pointers have the escapes of JSON Pointer', () => {
   const odd = bcs.registry(JSON.stringify({ A: { STRUCT: [{ 'a/~b': { MAP: { KEY: 'U8', VALUE: { OPTION: { TYPENAME: 'A' } } } } }] } }));
   const inner = { 'a/~b': new Map([[1, null], [2, { some: { 'a/~b': [[1, { some: 'x' }]] } }]]) };
-  assert.throws(() => odd.encode('A', inner), { pointer: '/a~1~0b/1/1/some/a~1~0b/0/1/some', expected: 'A takes an object, not string' });
+  assert.throws(() => odd.encode('A', inner), { at: '/a~1~0b/1/1/some/a~1~0b/0/1/some', detail: 'A takes an object, not string' });
 });
 
 test('values within themselves, deep ones and formats without an end are rejected at once', () => {
@@ -430,8 +430,8 @@ test('values within themselves, deep ones and formats without an end are rejecte
   assert.equal(hexOf(deep.encode('T', nested(100))), '01'.repeat(99) + '00');
   for (const count of [101, 102, 100_000]) assert.throws(() => deep.encode('T', nested(count)), isTooNested);
   const words = 'arrays and objects nest more than 100 deep';
-  assert.throws(() => deep.encode('T', nested(101)), { pointer: '/0'.repeat(100), expected: words });
-  assert.throws(() => deep.encodeText('T', '['.repeat(101) + ']'.repeat(101)), { reason: 'TooNested', expected: words });
+  assert.throws(() => deep.encode('T', nested(101)), { at: '/0'.repeat(100), detail: words });
+  assert.throws(() => deep.encodeText('T', '['.repeat(101) + ']'.repeat(101)), { reason: 'TooNested', detail: words });
   assert.throws(() => deep.encode('X', null), (error) => error.kind === 'text' && error.reason === 'TooDeep');
   let reads = 0;
   const endless = new Proxy([], { get: (_, name) => (name === 'length' ? 1 : (reads++, endless)) });
