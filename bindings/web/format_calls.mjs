@@ -1,8 +1,9 @@
 // The calls on one format of an open registry.
 import { ALL_NODES } from './limits.mjs';
 import { reported } from './refusals.mjs';
-import { stringOfUtf8 } from './texts.mjs';
-import { textOf, valueOf } from './values.mjs';
+import { valueOf } from './reading.mjs';
+import { bytesForCall, stringOfUtf8 } from './texts.mjs';
+import { jsonOfValue } from './writing.mjs';
 
 /** Calls on one format within limits. They get texts as bytes, and run no code of the caller except to read a value. */
 export class FormatCalls {
@@ -22,15 +23,17 @@ export class FormatCalls {
     this.#answer(ALL_NODES, (calls, ask) => calls.check(ask));
   }
 
-  /** The JSON of a value, once the format has passed the proved check. */
+  /** The JSON of a value in UTF-8, for the next call. The format passes the proved check first. */
   jsonOf(value) {
     if (this.#format.shape === undefined) this.check();
-    return textOf(this.#holder.shapes, this.#holder.shapeOf(this.#format), value);
+    const { shapes } = this.#holder;
+    const json = jsonOfValue(shapes, this.#holder.shapeOf(this.#format), value, this.#limits.nodes ?? ALL_NODES);
+    return typeof json === 'string' ? bytesForCall(json) : json;
   }
 
   /** The value that normal JSON denotes. */
-  valueOf(json, { json: isJson = false, plainOptions = false } = {}) {
-    return isJson ? JSON.parse(json) : valueOf(this.#holder.shapes, this.#holder.shapeOf(this.#format), json, plainOptions);
+  valueOf(json, { plainOptions = false } = {}) {
+    return valueOf(this.#holder.shapes, this.#holder.shapeOf(this.#format), json, plainOptions);
   }
 
   encoded(text) {

@@ -1,6 +1,7 @@
 // Bytes as hexadecimal digits, and back.
 const DIGITS = Array.from({ length: 256 }, (_, byte) => byte.toString(16).padStart(2, '0'));
-const [HIGH, LOW] = [0, 1].map((i) => Uint8Array.from(DIGITS, (digits) => digits.charCodeAt(i)));
+// (in the order of this machine's bytes)
+const PAIRS = new Uint16Array(Uint8Array.from(DIGITS.join(''), (digit) => digit.charCodeAt(0)).buffer);
 // By the code of a digit what it adds to a byte as its first or second one; for all other codes NONE.
 const NONE = 256;
 const FIRST = Uint16Array.from({ length: 128 }, (_, code) => valueOfDigit(code, 16));
@@ -17,21 +18,25 @@ function valueOfDigit(code, factor) {
 /** Two digits for each byte, in lower case. */
 export function hexOf(bytes) {
   if (bytes.length > FEW) {
-    const room = new Uint8Array(2 * bytes.length);
-    putHex(bytes, room, 0);
-    return ascii.decode(room);
+    const pairs = new Uint16Array(bytes.length);
+    putHex(bytes, pairs);
+    return ascii.decode(pairs);
   }
   let digits = '';
   for (const byte of bytes) digits += DIGITS[byte];
   return digits;
 }
 
-/** Writes these digits in ASCII to a place in an array. */
-export function putHex(bytes, room, start) {
-  for (let i = 0, at = start; i < bytes.length; i++, at += 2) {
-    room[at] = HIGH[bytes[i]];
-    room[at + 1] = LOW[bytes[i]];
-  }
+/** Writes these digits in ASCII, two for each item of an array. */
+export function putHex(bytes, pairs) {
+  for (let i = 0; i < bytes.length; i++) pairs[i] = PAIRS[bytes[i]];
+}
+
+/** The bytes of hexadecimal digits, for values that have them: `hex('0aff')`. */
+export function hex(digits) {
+  const bytes = typeof digits === 'string' ? bytesOfHex(digits) : undefined;
+  if (bytes !== undefined) return bytes;
+  throw new TypeError('hex takes a string of two hexadecimal digits for each byte, without 0x');
 }
 
 /** The bytes of digits of either case, or `undefined` where the text is no even number of digits. */

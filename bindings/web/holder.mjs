@@ -13,6 +13,7 @@ const collected = new FinalizationRegistry(({ calls, opened }) => calls.close(op
 export class Holder {
   opened;
   #calls;
+  #moveTypes;
   #isClosed = false;
   #running = 0;
   #shapes;
@@ -20,8 +21,9 @@ export class Holder {
   // (apart, since a container may be called `null` or `7`)
   #formats = { ofStrings: new Map(), ofObjects: new Map() };
 
-  constructor(calls, text) {
+  constructor(calls, text, moveTypes) {
     this.#calls = calls;
+    this.#moveTypes = moveTypes;
     this.opened = new Opened(text);
     collected.register(this, { calls, opened: this.opened }, this);
   }
@@ -49,8 +51,16 @@ export class Holder {
   }
 
   get shapes() {
-    this.#shapes ??= new Shapes(containersOf(stringOfUtf8(this.opened.text)));
+    this.#shapes ??= new Shapes(containersOf(stringOfUtf8(this.opened.text)), this.#moveTypes);
     return this.#shapes;
+  }
+
+  /** Throws, and closes the registry, unless it has the containers that the caller called addresses or integers. */
+  checkNames() {
+    const missing = this.#moveTypes.given.find((name) => !this.shapes.isMoveType(name));
+    if (missing === undefined) return;
+    this.close();
+    throw new TypeError(`names: the registry has no newtype of 32 bytes called ${missing}`);
   }
 
   /** How many nodes bytes of this length may have by default. */

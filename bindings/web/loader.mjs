@@ -4,6 +4,7 @@ import { BcsError } from './errors.mjs';
 import { Holder } from './holder.mjs';
 import { interruptible } from './interruptions.mjs';
 import { isUnsigned, MOST_DEPTH } from './limits.mjs';
+import { MoveTypes } from './move_types.mjs';
 import { reported } from './refusals.mjs';
 import { Registry } from './registry.mjs';
 import { isSupported } from './support.mjs';
@@ -47,11 +48,12 @@ class Bcs {
     this.#calls = new Calls(module);
   }
 
-  /** A registry, from its JSON text. */
-  registry(text) {
-    const bytes = bytesOf(text);
-    const holder = new Holder(this.#calls, bytes);
+  /** A registry, from its JSON. `names` has the names of containers whose values are addresses and integers of 256 bits. */
+  registry(text, { names } = {}) {
+    const [bytes, moveTypes] = [bytesOf(text), new MoveTypes(names)];
+    const holder = new Holder(this.#calls, bytes, moveTypes);
     this.answerOf((calls) => calls.open(holder.opened), (calls, { fault }) => reported(calls.registryRefusal(bytes, fault), this));
+    holder.checkNames();
     return new Registry(this, holder, { depth: MOST_DEPTH });
   }
 

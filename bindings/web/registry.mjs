@@ -46,7 +46,7 @@ export class Registry {
 
   /** The bytes of a value. */
   encode(format, value) {
-    return this.#on(format, (calls) => calls.encoded(bytesForCall(calls.jsonOf(value))));
+    return this.#on(format, (calls) => calls.encoded(calls.jsonOf(value)));
   }
 
   /** The bytes of the value that a JSON text denotes. */
@@ -55,8 +55,8 @@ export class Registry {
   }
 
   /**
-   * The value whose bytes are the whole input; with `json`, as `JSON.parse` makes it of its normal text; with `plainOptions`, an
-   * option is `null` or its value wherever that can't mean two values.
+   * The value whose bytes are the whole input. With `plainOptions`, an option is `null` or its value wherever that can't mean two
+   * values.
    */
   decode(format, bytes, options) {
     return this.#on(format, (calls) => calls.valueOf(calls.decoded(bytesOfAny(bytes)), options));
@@ -80,13 +80,24 @@ export class Registry {
     return this.#on(format, (calls) => calls.decoded(bytesOfAny(bytes)));
   }
 
+  /** The value as `decode` returns it: maps in the order of their keys, bytes as a `Uint8Array`. */
+  normalise(format, value, options) {
+    return this.#on(format, (calls) => calls.valueOf(calls.normalised(calls.jsonOf(value)), options));
+  }
+
   /** The one normal JSON text of the value that a JSON text denotes. */
-  normalise(format, text) {
+  normaliseText(format, text) {
     return this.#on(format, (calls) => calls.normalised(bytesForCall(text)));
   }
 
-  /** Whether two JSON texts denote equal values. */
+  /** Whether two values are equal, which is whether their bytes are. */
   equal(format, first, second) {
+    // (the JSON of the second may be stored where that of the first is)
+    return this.#on(format, (calls) => calls.areEqual(calls.jsonOf(first).slice(), calls.jsonOf(second)));
+  }
+
+  /** Whether two JSON texts denote equal values. */
+  equalText(format, first, second) {
     return this.#on(format, (calls) => calls.areEqual(bytesOf(first), bytesOf(second)));
   }
 

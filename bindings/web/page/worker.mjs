@@ -140,11 +140,11 @@ function blank({ registry: text, format }) {
 }
 
 function normal({ registry: text, format, content }) {
-  return { text: shownText(opened(text).registry.normalise(format, content)) };
+  return { text: shownText(opened(text).registry.normaliseText(format, content)) };
 }
 
 function compare({ registry: text, format, first, second }) {
-  return { isEqual: opened(text).registry.equal(format, first, second) };
+  return { isEqual: opened(text).registry.equalText(format, first, second) };
 }
 
 /** The whole of the last value, for the clipboard or a file. */

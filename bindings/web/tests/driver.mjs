@@ -49,7 +49,7 @@ function registryPlace(text, what) {
 
 /** Each call that takes a text tells the same. */
 function textPlace(registry, format, text, what) {
-  const calls = [() => registry.encodeText(format, text), () => registry.normalise(format, text), () => registry.equal(format, text, text)];
+  const calls = [() => registry.encodeText(format, text), () => registry.normaliseText(format, text), () => registry.equalText(format, text, text)];
   const [refused, ...others] = calls.map(refusedBy);
   for (const other of others) assert.deepEqual({ ...other }, { ...refused });
   return place(refused, what);
@@ -67,8 +67,8 @@ const CALLS = {
   check: (registry, format) => (registry.check(format), DONE),
   to_bcs: (registry, format, text) => put(registry.encodeText(format, text)),
   from_bcs: (registry, format, bytes) => put(registry.decodeText(format, bytes)),
-  normalise: (registry, format, text) => put(registry.normalise(format, text)),
-  compare: (registry, format, first, second) => (registry.equal(format, first, second) ? DONE : NO),
+  normalise: (registry, format, text) => put(registry.normaliseText(format, text)),
+  compare: (registry, format, first, second) => (registry.equalText(format, first, second) ? DONE : NO),
   scan: (registry, format, bytes) => ({ ...DONE, length: registry.scan(format, bytes) }),
   part: (registry, format, bytes, path) => found(registry.part(format, bytes, path)),
 };

@@ -5,7 +5,7 @@ import { readFileSync } from 'node:fs';
 import test from 'node:test';
 import { once } from 'node:events';
 import { Worker } from 'node:worker_threads';
-import { BcsError, fromBase64, isSupported, Limits, load, toBase64 } from '../bcs.mjs';
+import { BcsError, fromBase64, hex, isSupported, Limits, load, toBase64 } from '../bcs.mjs';
 import { bytesOfHex, hexOf } from '../hex.mjs';
 import { longestStringOf, nodesFor } from '../limits.mjs';
 
@@ -74,9 +74,9 @@ test('texts to bytes, and back', () => {
   assert.equal(hexOf(none.encodeText('"I16"', '-4660')), 'cced');
   assert.equal(hexOf(none.encodeText(MAP, '[["aa",2],["b",1]]')), '0201620102616102');
   assert.equal(none.decodeText(MAP, bytesOfHex('0201620102616102')), '[["b",1],["aa",2]]');
-  assert.equal(none.normalise(MAP, ' [["aa", 2], ["b", 1]] '), '[["b",1],["aa",2]]');
-  assert.equal(none.equal(MAP, '[["aa",2],["b",1]]', '[["b","1"],["aa",2]]'), true);
-  assert.equal(none.equal(MAP, '[["aa",2]]', '[["aa",3]]'), false);
+  assert.equal(none.normaliseText(MAP, ' [["aa", 2], ["b", 1]] '), '[["b",1],["aa",2]]');
+  assert.equal(none.equalText(MAP, '[["aa",2],["b",1]]', '[["b","1"],["aa",2]]'), true);
+  assert.equal(none.equalText(MAP, '[["aa",2]]', '[["aa",3]]'), false);
 });
 
 test('numbers of all widths', () => {
@@ -149,7 +149,6 @@ test('the value at the beginning of longer bytes', () => {
   for (const rest of [[], [0], Array(100).fill(255)]) {
     assert.deepEqual(none.decodePrefix('"U16"', [1, 2, ...rest]), { value: 513, length: 2 });
     assert.deepEqual(none.decodePrefix('"U64"', [7, 0, 0, 0, 0, 0, 0, 0, ...rest]), { value: 7n, length: 8 });
-    assert.deepEqual(none.decodePrefix('"U64"', [7, 0, 0, 0, 0, 0, 0, 0, ...rest], { json: true }), { value: '7', length: 8 });
     assert.deepEqual(none.decodePrefix({ OPTION: 'U8' }, [1, 5, ...rest], { plainOptions: true }), { value: 5, length: 2 });
     assert.deepEqual(none.decodePrefixText('"U16"', [1, 2, ...rest]), { text: '513', length: 2 });
     assert.deepEqual(none.decodePrefix('"UNIT"', rest), { value: null, length: 0 });
@@ -257,13 +256,58 @@ test('bytes of other kinds are taken, and texts by their bytes', () => {
   assert.equal(hexOf(none.encodeText('"U8"', [0x37])), '07');
 });
 
-test('values as JSON has them', () => {
-  const bytes = shapes.encode('Id', 7n);
-  assert.equal(shapes.decode('Id', bytes, { json: true }), '7');
-  const row = { TUPLE: ['U128', 'BYTES', { MAP: { KEY: 'STR', VALUE: 'U8' } }] };
-  const value = none.decode(row, none.encode(row, [2n ** 100n, Uint8Array.of(1), new Map([['a', 2]])]), { json: true });
-  assert.deepEqual(JSON.parse(JSON.stringify(value)), [(2n ** 100n).toString(), '01', [['a', 2]]]);
-  assert.deepEqual(none.decode('"U64"', none.encode('"U64"', 7), { json: false }), 7n);
+test('values are normalised and compared', () => {
+  const row = { TUPLE: ['U64', 'BYTES', { MAP: { KEY: 'STR', VALUE: { OPTION: 'U8' } } }] };
+  const entries = [['aa', 2], ['b', { some: 1 }], ['c', null]];
+  const normal = [7n, Uint8Array.of(10, 255), new Map([['b', { some: 1 }], ['c', null], ['aa', { some: 2 }]])];
+  for (const value of [[7, hex('0AFF'), entries], [7n, [10, 255], new Map(entries)], [7, Uint8Array.of(10, 255).buffer, normal[2]]]) {
+    assert.deepEqual(none.normalise(row, value), normal);
+    assert.deepEqual([...none.normalise(row, value)[2].keys()], ['b', 'c', 'aa']);
+    assert.deepEqual(none.normalise(row, value, { plainOptions: true })[2].get('aa'), 2);
+    assert.equal(none.equal(row, value, normal), true);
+    assert.equal(none.equal(row, normal, [8, ...value.slice(1)]), false);
+  }
+  assert.throws(() => none.equal(row, normal, [7n, 'ff', new Map()]), { kind: 'value', at: '/1' });
+  assert.throws(() => none.equal(row, [7n, 'ff', new Map()], normal), { kind: 'value', at: '/1' });
+  assert.throws(() => none.equal('"U8"', 1, 256), { kind: 'text', reason: 'BadNumber', at: '' });
+  assert.throws(() => none.normalise('"U8"', 256), { kind: 'text', reason: 'BadNumber', at: '' });
+  // (both are longer than what is stored in place)
+  const long = [new Uint8Array(10_000).fill(1), new Uint8Array(10_000).fill(1, 1)];
+  assert.equal(none.equal('"BYTES"', long[0], long[1]), false);
+  assert.equal(none.equal('"BYTES"', long[0], long[0].slice()), true);
+});
+
+test('hexadecimal digits are bytes where they are called so', () => {
+  for (const [digits, bytes] of [['', []], ['00', [0]], ['0aFf', [10, 255]]]) {
+    assert.deepEqual(hex(digits), Uint8Array.from(bytes));
+    assert.equal(hexOf(Uint8Array.from(bytes)), digits.toLowerCase());
+  }
+  for (const digits of ['0', '0x00', 'zz', '0 ', ' 0', '\u0660\u0660', 'é0', 7, undefined, ['00'], new String('00')]) assert.throws(() => hex(digits), TypeError);
+  const many = Uint8Array.from({ length: 100_001 }, (_, i) => (i * 31) % 256);
+  assert.equal(hexOf(many), Buffer.from(many).toString('hex'));
+  assert.deepEqual(hex(hexOf(many)), many);
+  // (at even and odd places of the JSON)
+  for (const before of ['', 'a', 'é', 'ab']) {
+    const value = [before, many, many.subarray(1), 7n];
+    const back = none.decode({ TUPLE: ['STR', 'BYTES', { SEQ: 'U8' }, 'U64'] }, none.encode({ TUPLE: ['STR', 'BYTES', { SEQ: 'U8' }, 'U64'] }, value));
+    assert.deepEqual(back, value);
+  }
+});
+
+test('a long byte string takes no more than one and a half times of its JSON call', () => {
+  const bytes = Uint8Array.from({ length: 16 << 20 }, (_, i) => Math.imul(i, 2654435761) >>> 24);
+  const text = JSON.stringify(hexOf(bytes));
+  const costOf = (call) => {
+    const costs = [1, 2, 3, 4].map(() => {
+      const before = process.cpuUsage();
+      call();
+      const { user, system } = process.cpuUsage(before);
+      return user + system;
+    });
+    return Math.min(...costs);
+  };
+  const [ofValue, ofText] = [costOf(() => none.encode('"BYTES"', bytes)), costOf(() => none.encodeText('"BYTES"', text))];
+  assert.ok(ofValue <= 1.5 * ofText, `${ofValue} and ${ofText} microseconds`);
 });
 
 test('base64', () => {
@@ -284,10 +328,11 @@ const told = (at, detail) => (error) => {
 test('where something is refused, and what was wanted there', () => {
   const registry = bcs.registry('{"Point":{"STRUCT":[{"x":"U8"},{"~/":{"SEQ":"BYTES"}}]}}');
   const wanted = 'wanted a whole number from 0 to 255 (U8)';
-  assert.throws(() => registry.encode('Point', { x: 1, '~/': ['', '0'] }), told('/~0~1/1', 'an odd number of digits'));
+  assert.throws(() => registry.encodeText('Point', '{"x":1,"~/":["","0"]}'), told('/~0~1/1', 'an odd number of digits'));
+  assert.throws(() => registry.encode('Point', { x: 1, '~/': [hex(''), '0102'] }), told('/~0~1/1', 'BYTES takes bytes, or hex(…) for digits, not string'));
   assert.throws(() => registry.encode('Point', { x: 256, '~/': [] }), told('/x', `found 256, ${wanted}`));
-  assert.throws(() => registry.normalise('Point', '{"x":1}'), told('', 'no member is called ~/'));
-  assert.throws(() => registry.equal('Point', '{"x":1,"~/":[]}', '{"x":"","~/":[]}'), told('/x', `found "", ${wanted}`));
+  assert.throws(() => registry.normaliseText('Point', '{"x":1}'), told('', 'no member is called ~/'));
+  assert.throws(() => registry.equalText('Point', '{"x":1,"~/":[]}', '{"x":"","~/":[]}'), told('/x', `found "", ${wanted}`));
   assert.throws(() => registry.decode('Point', [7, 1, 2, 5]), told('.~/[0]', 'wanted 2 bytes of BYTES'));
   assert.throws(() => registry.scan('Point', [7, 1, 2, 5]), told('.~/[0]', 'wanted 2 bytes of BYTES'));
   assert.throws(() => registry.part('Point', [7, 1, 2, 5], '.'), told('.~/[0]', 'wanted 2 bytes of BYTES'));

@@ -23,8 +23,9 @@ function calls() {
   for (const used of [registry, registry.withLimits({ depth: 9 }), other]) {
     assert.equal(hexOf(used.encodeText('"STR"', '"two, and longer"')), '0f74776f2c20616e64206c6f6e676572');
     assert.equal(hexOf(used.encode({ TUPLE: ['STR', 'U8'] }, ['two', 2])), '0374776f02');
-    assert.equal(used.normalise({ SEQ: 'STR' }, ' ["two"]'), '["two"]');
-    assert.equal(used.equal('"STR"', '"two"', '"two!"'), false);
+    assert.equal(used.normaliseText({ SEQ: 'STR' }, ' ["two"]'), '["two"]');
+    assert.equal(used.equalText('"STR"', '"two"', '"two!"'), false);
+    assert.equal(used.equal('"STR"', 'two', 'two!'), false);
     assert.equal(used.decode('"STR"', [3, 0x74, 0x77, 0x6f]), 'two');
     assert.equal(used.decodeText({ OPTION: 'U8' }, [1, 2]), '{"some":2}');
     assert.equal(used.scan('"STR"', [1, 0x74, 0x77]), 2);
@@ -83,12 +84,14 @@ const LISTS = {
 const CALLS = {
   encode: [(format) => hexOf(registry.encode(format, ['one'])), DIGITS],
   encodeText: [(format, text) => hexOf(registry.encodeText(format, text)), DIGITS, JSON_TEXT],
-  normalise: [(format, text) => registry.normalise(format, text), JSON_TEXT, JSON_TEXT],
-  equal: [(format, text) => registry.equal(format, text, ' ["one"]'), true, JSON_TEXT],
-  'equal, the other': [(format, text) => registry.equal(format, ' ["one"]', text), true, JSON_TEXT],
-  'equal, both': [(format, text) => registry.equal(format, text, text), true, JSON_TEXT],
+  normaliseText: [(format, text) => registry.normaliseText(format, text), JSON_TEXT, JSON_TEXT],
+  normalise: [(format) => registry.normalise(format, ['one']), ['one']],
+  'equal values': [(format) => registry.equal(format, ['one'], ['one']), true],
+  equal: [(format, text) => registry.equalText(format, text, ' ["one"]'), true, JSON_TEXT],
+  'equal, the other': [(format, text) => registry.equalText(format, ' ["one"]', text), true, JSON_TEXT],
+  'equal, both': [(format, text) => registry.equalText(format, text, text), true, JSON_TEXT],
   decode: [(format, bytes) => registry.decode(format, bytes), ['one'], BYTES],
-  'decode as JSON': [(format, bytes) => registry.decode(format, bytes, getter({}, 'json', true)), ['one'], BYTES],
+  'decode with options': [(format, bytes) => registry.decode(format, bytes, getter({}, 'plainOptions', true)), ['one'], BYTES],
   decodeText: [(format, bytes) => registry.decodeText(format, bytes), JSON_TEXT, BYTES],
   scan: [(format, bytes) => registry.scan(format, bytes), 4, BYTES],
   part: [(format, bytes) => registry.part(format, bytes, '0'), { place: 0, bytes: Uint8Array.from(BYTES) }, BYTES],
@@ -108,7 +111,7 @@ function reentered(name, isAsked, call, expected) {
 test('a format whose toJSON encodes another text', () => {
   const format = { toJSON: () => (registry.encodeText('"STR"', '"two"'), 'STR') };
   assert.equal(hexOf(registry.encodeText(format, '"one"')), DIGITS);
-  assert.equal(registry.normalise(format, '"one"'), '"one"');
+  assert.equal(registry.normaliseText(format, '"one"'), '"one"');
 });
 
 test('formats that make calls, in each call', () => {
@@ -124,7 +127,7 @@ test('inputs that make calls, in each call', () => {
     if (input === undefined) continue;
     for (const [how, list] of Object.entries(LISTS)) {
       const bytes = typeof input === 'string' ? bytesOf(input) : input;
-      const isAsked = !how.startsWith('not asked') || name === 'decode as JSON';
+      const isAsked = !how.startsWith('not asked') || name === 'decode with options';
       reentered(`${name}, ${how}`, isAsked, () => call(TUPLE, list(bytes)), expected);
     }
   }
@@ -170,6 +173,8 @@ test('values that make calls', () => {
   const map = Object.assign(new Map([['one', 7]]), {
     [Symbol.iterator]: () => calling([['two', 2]].values()), entries: () => calling([['two', 2]].values()), forEach: () => calling(),
   });
+  assert.equal(registry.equal(struct, getter({ v: 7 }, 'w', 'one'), getter({ v: 7 }, 'w', 'one')), true);
+  assert.equal(registry.equal(struct, getter({ v: 7 }, 'w', 'one'), getter({ v: 7 }, 'w', 'ones')), false);
   notAsked('an iterator of a map', { MAP: { KEY: 'STR', VALUE: 'U8' } }, map, `01${DIGITS}07`);
   notAsked('toJSON of a list', { SEQ: 'STR' }, Object.assign(['one'], { toJSON: () => calling(['two']) }), `01${DIGITS}`);
   notAsked('an iterator of a list', { SEQ: 'STR' }, Object.assign(['one'], { [Symbol.iterator]: () => calling(['two'].values()) }), `01${DIGITS}`);
