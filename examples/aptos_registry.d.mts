@@ -14,10 +14,10 @@ export type ChainId = number;
 export type ChainIdInput = number | bigint;
 
 export type Ed25519PublicKey = Uint8Array;
-export type Ed25519PublicKeyInput = Uint8Array | ArrayBuffer;
+export type Ed25519PublicKeyInput = Uint8Array | ArrayBuffer | readonly (number | bigint)[];
 
 export type Ed25519Signature = Uint8Array;
-export type Ed25519SignatureInput = Uint8Array | ArrayBuffer;
+export type Ed25519SignatureInput = Uint8Array | ArrayBuffer | readonly (number | bigint)[];
 
 export type EntryFunction = {
   module: ModuleId;
@@ -29,7 +29,7 @@ export type EntryFunctionInput = {
   module: ModuleIdInput;
   function: IdentifierInput;
   ty_args: readonly TypeTagInput[];
-  args: readonly (Uint8Array | ArrayBuffer)[];
+  args: readonly (Uint8Array | ArrayBuffer | readonly (number | bigint)[])[];
 };
 
 export type Identifier = string;
@@ -45,10 +45,10 @@ export type ModuleIdInput = {
 };
 
 export type MultiEd25519PublicKey = Uint8Array;
-export type MultiEd25519PublicKeyInput = Uint8Array | ArrayBuffer;
+export type MultiEd25519PublicKeyInput = Uint8Array | ArrayBuffer | readonly (number | bigint)[];
 
 export type MultiEd25519Signature = Uint8Array;
-export type MultiEd25519SignatureInput = Uint8Array | ArrayBuffer;
+export type MultiEd25519SignatureInput = Uint8Array | ArrayBuffer | readonly (number | bigint)[];
 
 export type Multisig = {
   multisig_address: AccountAddress;
@@ -87,7 +87,7 @@ export type Script = {
   args: TransactionArgument[];
 };
 export type ScriptInput = {
-  code: Uint8Array | ArrayBuffer;
+  code: Uint8Array | ArrayBuffer | readonly (number | bigint)[];
   ty_args: readonly TypeTagInput[];
   args: readonly TransactionArgumentInput[];
 };
@@ -129,7 +129,7 @@ export type TransactionArgumentInput =
   | { U64: number | bigint }
   | { U128: number | bigint }
   | { Address: AccountAddressInput }
-  | { U8Vector: Uint8Array | ArrayBuffer }
+  | { U8Vector: Uint8Array | ArrayBuffer | readonly (number | bigint)[] }
   | { Bool: boolean }
   | { U16: number | bigint }
   | { U32: number | bigint }

@@ -24,7 +24,9 @@ from joining import joined  # noqa: E402 (the folder has to be known first)
 EXAMPLES = HERE.parent.parent.parent / "examples"
 
 # Each module comes after those that it imports.
-WORKER = ["../errors", "../hex", "../octets", "../shapes", "../values", "../calls", "../support", "../loader"]
+WORKER = ["../errors", "../hex", "../octets", "../texts", "../move_types", "../shapes", "../json_output", "../writing"]
+WORKER += ["../reading", "../interruptions", "../calls", "../limits", "../holder", "../refusals", "../format_calls"]
+WORKER += ["../registry", "../support", "../loader"]
 WORKER += ["coding", "roots", "layout", "blank", "outline", "worker"]
 SCRIPT = ["../hex", "../octets", "../support", "coding", "names", "reasons", "lights", "link", "pane", "places"]
 SCRIPT += ["questions", "digits", "tree"]

@@ -212,8 +212,8 @@ class Page {
   }
 
   #tellFault(fault, stop) {
-    const { kind, reason, place } = fault;
-    if (kind === 'page' || kind === 'stack' || kind === 'memory') return tellVerdict('bad', 'No answer:', ` ${reason}.`);
+    const { kind, reason, place, detail } = fault;
+    if (kind === 'page' || kind === 'stack' || kind === 'memory') return tellVerdict('bad', 'No answer:', ` ${detail}.`);
     if (kind === 'digits') return tellVerdict('bad', 'No bytes:', ` ${DIGIT_FAULTS[reason]}`);
     if (kind === 'text') return this.#tellTextFault(fault);
     if (kind === 'format') return tellVerdict('bad', `Refused: ${reason}.`, ` ${formatFault(this.#format, fault)}`);
@@ -224,12 +224,12 @@ class Page {
 
   /** Where a text is refused it is marked, and a button takes the cursor there. */
   #tellTextFault(fault) {
-    const { kind, reason, pointer, expected } = fault;
+    const { kind, reason, at, detail } = fault;
     const pane = this.panes.text;
     const range = pane.isCut ? undefined : rangeOf(pane.content, fault);
     pane.mark(range);
-    const way = pointer ? ` At ${shownName(pointer, 400)}:` : '';
-    const words = expected === undefined || reason === 'NotJson' ? '' : `${way} ${shownName(expected, 400)}.`;
+    const way = at ? ` At ${shownName(at, 400)}:` : '';
+    const words = detail === undefined || reason === 'NotJson' ? '' : `${way} ${shownName(detail, 400)}.`;
     tellVerdict('bad', `Refused${range ? ' at ' : ''}`, `: ${reason}. ${sentenceOn(kind, reason)}${words}`, range && (() => {
       const { line, column } = lineAndColumn(pane.content, range[0]);
       const button = document.createElement('button');
@@ -291,7 +291,7 @@ class Page {
     if (told === undefined) return;
     const { answer, refusal } = told;
     verdict.className = answer?.isEqual ? 'good' : 'bad';
-    verdict.textContent = refusal ? `refused: ${refusal.reason}` : answer.isEqual ? 'equal' : 'different';
+    verdict.textContent = refusal ? `refused: ${refusal.reason ?? refusal.detail}` : answer.isEqual ? 'equal' : 'different';
   }
 
   // Links, the clipboard and files
@@ -383,11 +383,11 @@ function hasContainer(names, format) {
 }
 
 /** What is wrong with a format that is refused. */
-function formatFault(format, { kind, reason, expected, pointer }) {
+function formatFault(format, { kind, reason, detail, at }) {
   const word = format.trim();
   if (FORMAT_WORDS.test(word)) return `${word} isn’t JSON: write "${word}".`;
-  const told = expected === undefined ? sentenceOn(kind, reason) : `${shownName(expected, 400)}.`;
-  return pointer ? `At ${shownName(pointer, 400)}: ${told}` : told;
+  const told = detail === undefined ? sentenceOn(kind, reason) : `${shownName(detail, 400)}.`;
+  return at ? `At ${shownName(at, 400)}: ${told}` : told;
 }
 
 /** A word for a shell. */
@@ -409,15 +409,15 @@ function tellVerdict(state, strong, text, ...between) {
 }
 
 /** From where to where the JSON goes that is refused, if that is told. */
-function rangeOf(text, { reason, pointer, expected }) {
-  const told = /line (\d+), column (\d+)/.exec(reason === 'NotJson' ? `${pointer} ${expected}` : '');
+function rangeOf(text, { reason, at, detail }) {
+  const told = /line (\d+), column (\d+)/.exec(reason === 'NotJson' ? `${at} ${detail}` : '');
   if (told) return rangeOfLine(text, Number(told[1]), Number(told[2]));
-  return reason !== 'NotJson' && pointer?.startsWith('/') ? rangeAt(text, pointer) : undefined;
+  return reason !== 'NotJson' && at?.startsWith('/') ? rangeAt(text, at) : undefined;
 }
 
-function toldOfRefusal({ reason, pointer, expected }) {
-  const words = [pointer && `at ${shownName(pointer, 200)}`, expected && shownName(expected, 200)].filter(Boolean);
-  return `refused: ${[reason, ...words].join(', ')}`;
+function toldOfRefusal({ reason, at, detail }) {
+  const words = [reason, at && `at ${shownName(at, 200)}`, detail && shownName(detail, 200)];
+  return `refused: ${words.filter(Boolean).join(', ')}`;
 }
 
 function tellBroken(reason) {

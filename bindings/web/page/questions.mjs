@@ -29,8 +29,8 @@ export class Questions {
   #start() {
     this.#worker = new Worker(this.#source);
     this.#worker.onmessage = ({ data }) => this.#end(data);
-    this.#worker.onerror = (event) => this.#end({ refusal: { kind: 'page', reason: event.message } });
-    const resolve = ({ refusal }) => refusal && this.whenBroken(refusal.reason);
+    this.#worker.onerror = (event) => this.#end({ refusal: { kind: 'page', detail: event.message } });
+    const resolve = ({ refusal }) => refusal && this.whenBroken(refusal.detail);
     this.#send({ question: 'start', asked: { module: this.#module }, resolve });
   }
 
@@ -59,7 +59,7 @@ export class Questions {
 
   #breakOff() {
     this.#worker.terminate();
-    this.#running.resolve({ refusal: { kind: 'page', reason: `no answer within ${MOST_SECONDS} seconds: broken off` } });
+    this.#running.resolve({ refusal: { kind: 'page', detail: `no answer within ${MOST_SECONDS} seconds: broken off` } });
     this.#running = undefined;
     this.#start();
   }

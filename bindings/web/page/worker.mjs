@@ -33,10 +33,10 @@ self.onmessage = async ({ data: { id, question, ...asked } }) => {
 
 function refusalOf(error) {
   if (error instanceof BcsError) {
-    const { kind, reason, place, pointer, expected } = error;
-    return { kind, reason, place, pointer, expected };
+    const { kind, reason, place, at, detail } = error;
+    return { kind, reason, place, at, detail };
   }
-  return { kind: 'page', reason: error.message };
+  return { kind: 'page', detail: error.message };
 }
 
 /** Unpacks and compiles the module. */
@@ -76,7 +76,7 @@ function valueOfText(registry, format, text, coding) {
 
 function valueOfBytes(registry, format, digits, coding) {
   const { bytes, fault } = decoded(digits, coding);
-  if (fault !== undefined) throw new BcsError('digits', fault);
+  if (fault !== undefined) throw new BcsError('digits', { reason: fault });
   last = { text: '', bytes };
   try {
     last.text = registry.decodeText(format, bytes);
@@ -140,11 +140,11 @@ function blank({ registry: text, format }) {
 }
 
 function normal({ registry: text, format, content }) {
-  return { text: shownText(opened(text).registry.normalise(format, content)) };
+  return { text: shownText(opened(text).registry.normaliseText(format, content)) };
 }
 
 function compare({ registry: text, format, first, second }) {
-  return { isEqual: opened(text).registry.equal(format, first, second) };
+  return { isEqual: opened(text).registry.equalText(format, first, second) };
 }
 
 /** The whole of the last value, for the clipboard or a file. */

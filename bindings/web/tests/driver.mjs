@@ -37,13 +37,19 @@ function refusedBy(call) {
 }
 
 function place(refused, what) {
-  const told = what === 'where' ? refused?.pointer : refused?.expected;
+  const told = what === 'where' ? refused?.at : refused?.detail;
   return told === undefined ? NO : put(told);
+}
+
+/** (the program calls a whole registry `the whole text`) */
+function registryPlace(text, what) {
+  const refused = refusedBy(() => bcs.registry(text));
+  return place(refused?.at === '' ? { ...refused, at: 'the whole text' } : refused, what);
 }
 
 /** Each call that takes a text tells the same. */
 function textPlace(registry, format, text, what) {
-  const calls = [() => registry.encodeText(format, text), () => registry.normalise(format, text), () => registry.equal(format, text, text)];
+  const calls = [() => registry.encodeText(format, text), () => registry.normaliseText(format, text), () => registry.equalText(format, text, text)];
   const [refused, ...others] = calls.map(refusedBy);
   for (const other of others) assert.deepEqual({ ...other }, { ...refused });
   return place(refused, what);
@@ -61,8 +67,8 @@ const CALLS = {
   check: (registry, format) => (registry.check(format), DONE),
   to_bcs: (registry, format, text) => put(registry.encodeText(format, text)),
   from_bcs: (registry, format, bytes) => put(registry.decodeText(format, bytes)),
-  normalise: (registry, format, text) => put(registry.normalise(format, text)),
-  compare: (registry, format, first, second) => (registry.equal(format, first, second) ? DONE : NO),
+  normalise: (registry, format, text) => put(registry.normaliseText(format, text)),
+  compare: (registry, format, first, second) => (registry.equalText(format, first, second) ? DONE : NO),
   scan: (registry, format, bytes) => ({ ...DONE, length: registry.scan(format, bytes) }),
   part: (registry, format, bytes, path) => found(registry.part(format, bytes, path)),
 };
@@ -81,7 +87,7 @@ function answerTo(call, words) {
     const name = bcs.faultName(Number(words[0]));
     return name === undefined ? NO : put(name);
   }
-  if (call === 'registry_place') return place(refusedBy(() => bcs.registry(bytesOfHex(words[0]))), words[1]);
+  if (call === 'registry_place') return registryPlace(bytesOfHex(words[0]), words[1]);
   if (call === 'grows') return bcs.grows(...words.map(bytesOfHex)), DONE;
   const [registryText, formatText, depth, nodes, ...others] = words;
   const registry = bcs.registry(bytesOfHex(registryText)).withLimits({ depth: Number(depth), nodes: Number(nodes) });
@@ -108,7 +114,7 @@ function line(call, words) {
     if (error instanceof Unsayable || error instanceof TypeError) return 'unsayable';
     if (!(error instanceof BcsError)) throw error;
     const { kind, reason, place } = error;
-    return [STATUSES[kind] ?? kind, kind === 'memory' || kind === 'limits' ? '-' : reason, place ?? 0, 0, ''].join('\t');
+    return [STATUSES[kind] ?? kind, reason ?? '-', place ?? 0, 0, ''].join('\t');
   }
 }
 

@@ -3,12 +3,16 @@
 import assert from 'node:assert/strict';
 import { readFileSync } from 'node:fs';
 import test from 'node:test';
-import { BcsError, fromBase64, isSupported, Limits, load, toBase64 } from '../bcs.mjs';
+import { once } from 'node:events';
+import { Worker } from 'node:worker_threads';
+import { BcsError, fromBase64, hex, isSupported, Limits, load, toBase64 } from '../bcs.mjs';
 import { bytesOfHex, hexOf } from '../hex.mjs';
+import { longestStringOf, nodesFor } from '../limits.mjs';
 
 const module = await WebAssembly.compile(readFileSync(process.env.BCS_WASM));
 const bcs = await load(module);
 const none = bcs.registry('{}');
+const encoder = new TextEncoder();
 const MAP = '{"MAP":{"KEY":"STR","VALUE":"U8"}}';
 const SHAPES = {
   Nothing: 'UNITSTRUCT',
@@ -70,9 +74,9 @@ test('texts to bytes, and back', () => {
   assert.equal(hexOf(none.encodeText('"I16"', '-4660')), 'cced');
   assert.equal(hexOf(none.encodeText(MAP, '[["aa",2],["b",1]]')), '0201620102616102');
   assert.equal(none.decodeText(MAP, bytesOfHex('0201620102616102')), '[["b",1],["aa",2]]');
-  assert.equal(none.normalise(MAP, ' [["aa", 2], ["b", 1]] '), '[["b",1],["aa",2]]');
-  assert.equal(none.equal(MAP, '[["aa",2],["b",1]]', '[["b","1"],["aa",2]]'), true);
-  assert.equal(none.equal(MAP, '[["aa",2]]', '[["aa",3]]'), false);
+  assert.equal(none.normaliseText(MAP, ' [["aa", 2], ["b", 1]] '), '[["b",1],["aa",2]]');
+  assert.equal(none.equalText(MAP, '[["aa",2],["b",1]]', '[["b","1"],["aa",2]]'), true);
+  assert.equal(none.equalText(MAP, '[["aa",2]]', '[["aa",3]]'), false);
 });
 
 test('numbers of all widths', () => {
@@ -145,7 +149,6 @@ test('the value at the beginning of longer bytes', () => {
   for (const rest of [[], [0], Array(100).fill(255)]) {
     assert.deepEqual(none.decodePrefix('"U16"', [1, 2, ...rest]), { value: 513, length: 2 });
     assert.deepEqual(none.decodePrefix('"U64"', [7, 0, 0, 0, 0, 0, 0, 0, ...rest]), { value: 7n, length: 8 });
-    assert.deepEqual(none.decodePrefix('"U64"', [7, 0, 0, 0, 0, 0, 0, 0, ...rest], { json: true }), { value: '7', length: 8 });
     assert.deepEqual(none.decodePrefix({ OPTION: 'U8' }, [1, 5, ...rest], { plainOptions: true }), { value: 5, length: 2 });
     assert.deepEqual(none.decodePrefixText('"U16"', [1, 2, ...rest]), { text: '513', length: 2 });
     assert.deepEqual(none.decodePrefix('"UNIT"', rest), { value: null, length: 0 });
@@ -201,7 +204,7 @@ test('refusals by kind, reason and place', () => {
   assert.throws(() => none.partByName('"U8"', bytesOfHex('07'), 'a'), refusal('path', 'BadPath'));
   assert.throws(() => none.partByPointer('"U8"', bytesOfHex('07'), '/~2'), refusal('path', 'BadPath'));
   assert.throws(() => none.partByName('"BOOL"', bytesOfHex('02'), '.'), refusal('bytes', 'BadBool', 0));
-  assert.throws(() => none.withLimits({ depth: 501 }).encodeText('"U8"', '7'), refusal('limits', 'the depth is above 500'));
+  assert.throws(() => none.withLimits({ depth: 501 }).encodeText('"U8"', '7'), { kind: 'limits', reason: undefined, message: 'refused: the depth is above 500' });
   assert.throws(() => shapes.withLimits({ depth: 1 }).decode('Chain', bytesOfHex('0100')), refusal('bytes', 'TooDeep', 1));
   const many = none.withLimits({ nodes: 1000 });
   assert.throws(() => many.decode({ SEQ: 'UNIT' }, bytesOfHex('ffffffff07')), refusal('bytes', 'TooManyNodes', 5));
@@ -253,13 +256,58 @@ test('bytes of other kinds are taken, and texts by their bytes', () => {
   assert.equal(hexOf(none.encodeText('"U8"', [0x37])), '07');
 });
 
-test('values as JSON has them', () => {
-  const bytes = shapes.encode('Id', 7n);
-  assert.equal(shapes.decode('Id', bytes, { json: true }), '7');
-  const row = { TUPLE: ['U128', 'BYTES', { MAP: { KEY: 'STR', VALUE: 'U8' } }] };
-  const value = none.decode(row, none.encode(row, [2n ** 100n, Uint8Array.of(1), new Map([['a', 2]])]), { json: true });
-  assert.deepEqual(JSON.parse(JSON.stringify(value)), [(2n ** 100n).toString(), '01', [['a', 2]]]);
-  assert.deepEqual(none.decode('"U64"', none.encode('"U64"', 7), { json: false }), 7n);
+test('values are normalised and compared', () => {
+  const row = { TUPLE: ['U64', 'BYTES', { MAP: { KEY: 'STR', VALUE: { OPTION: 'U8' } } }] };
+  const entries = [['aa', 2], ['b', { some: 1 }], ['c', null]];
+  const normal = [7n, Uint8Array.of(10, 255), new Map([['b', { some: 1 }], ['c', null], ['aa', { some: 2 }]])];
+  for (const value of [[7, hex('0AFF'), entries], [7n, [10, 255], new Map(entries)], [7, Uint8Array.of(10, 255).buffer, normal[2]]]) {
+    assert.deepEqual(none.normalise(row, value), normal);
+    assert.deepEqual([...none.normalise(row, value)[2].keys()], ['b', 'c', 'aa']);
+    assert.deepEqual(none.normalise(row, value, { plainOptions: true })[2].get('aa'), 2);
+    assert.equal(none.equal(row, value, normal), true);
+    assert.equal(none.equal(row, normal, [8, ...value.slice(1)]), false);
+  }
+  assert.throws(() => none.equal(row, normal, [7n, 'ff', new Map()]), { kind: 'value', at: '/1' });
+  assert.throws(() => none.equal(row, [7n, 'ff', new Map()], normal), { kind: 'value', at: '/1' });
+  assert.throws(() => none.equal('"U8"', 1, 256), { kind: 'text', reason: 'BadNumber', at: '' });
+  assert.throws(() => none.normalise('"U8"', 256), { kind: 'text', reason: 'BadNumber', at: '' });
+  // (both are longer than what is stored in place)
+  const long = [new Uint8Array(10_000).fill(1), new Uint8Array(10_000).fill(1, 1)];
+  assert.equal(none.equal('"BYTES"', long[0], long[1]), false);
+  assert.equal(none.equal('"BYTES"', long[0], long[0].slice()), true);
+});
+
+test('hexadecimal digits are bytes where they are called so', () => {
+  for (const [digits, bytes] of [['', []], ['00', [0]], ['0aFf', [10, 255]]]) {
+    assert.deepEqual(hex(digits), Uint8Array.from(bytes));
+    assert.equal(hexOf(Uint8Array.from(bytes)), digits.toLowerCase());
+  }
+  for (const digits of ['0', '0x00', 'zz', '0 ', ' 0', '\u0660\u0660', 'é0', 7, undefined, ['00'], new String('00')]) assert.throws(() => hex(digits), TypeError);
+  const many = Uint8Array.from({ length: 100_001 }, (_, i) => (i * 31) % 256);
+  assert.equal(hexOf(many), Buffer.from(many).toString('hex'));
+  assert.deepEqual(hex(hexOf(many)), many);
+  // (at even and odd places of the JSON)
+  for (const before of ['', 'a', 'é', 'ab']) {
+    const value = [before, many, many.subarray(1), 7n];
+    const back = none.decode({ TUPLE: ['STR', 'BYTES', { SEQ: 'U8' }, 'U64'] }, none.encode({ TUPLE: ['STR', 'BYTES', { SEQ: 'U8' }, 'U64'] }, value));
+    assert.deepEqual(back, value);
+  }
+});
+
+test('a long byte string takes no more than one and a half times of its JSON call', () => {
+  const bytes = Uint8Array.from({ length: 16 << 20 }, (_, i) => Math.imul(i, 2654435761) >>> 24);
+  const text = JSON.stringify(hexOf(bytes));
+  const costOf = (call) => {
+    const costs = [1, 2, 3, 4].map(() => {
+      const before = process.cpuUsage();
+      call();
+      const { user, system } = process.cpuUsage(before);
+      return user + system;
+    });
+    return Math.min(...costs);
+  };
+  const [ofValue, ofText] = [costOf(() => none.encode('"BYTES"', bytes)), costOf(() => none.encodeText('"BYTES"', text))];
+  assert.ok(ofValue <= 1.5 * ofText, `${ofValue} and ${ofText} microseconds`);
 });
 
 test('base64', () => {
@@ -272,38 +320,72 @@ test('base64', () => {
   for (const text of ['A', 'AA', 'AA=', 'AB==', 'A A=', 'AA==\n', '-_8=', undefined, 7]) assert.throws(() => fromBase64(text), TypeError);
 });
 
-const told = (pointer, expected) => (error) => {
-  assert.deepEqual([error.pointer, error.expected], [pointer, expected]);
+const told = (at, detail) => (error) => {
+  assert.deepEqual([error.at, error.detail], [at, detail]);
   return true;
 };
 
 test('where something is refused, and what was wanted there', () => {
   const registry = bcs.registry('{"Point":{"STRUCT":[{"x":"U8"},{"~/":{"SEQ":"BYTES"}}]}}');
   const wanted = 'wanted a whole number from 0 to 255 (U8)';
-  assert.throws(() => registry.encode('Point', { x: 1, '~/': ['', '0'] }), told('/~0~1/1', 'an odd number of digits'));
+  assert.throws(() => registry.encodeText('Point', '{"x":1,"~/":["","0"]}'), told('/~0~1/1', 'an odd number of digits'));
+  assert.throws(() => registry.encode('Point', { x: 1, '~/': [hex(''), '0102'] }), told('/~0~1/1', 'BYTES takes bytes, or hex(…) for digits, not string'));
   assert.throws(() => registry.encode('Point', { x: 256, '~/': [] }), told('/x', `found 256, ${wanted}`));
-  assert.throws(() => registry.normalise('Point', '{"x":1}'), told('', 'no member is called ~/'));
-  assert.throws(() => registry.equal('Point', '{"x":1,"~/":[]}', '{"x":"","~/":[]}'), told('/x', `found "", ${wanted}`));
+  assert.throws(() => registry.normaliseText('Point', '{"x":1}'), told('', 'no member is called ~/'));
+  assert.throws(() => registry.equalText('Point', '{"x":1,"~/":[]}', '{"x":"","~/":[]}'), told('/x', `found "", ${wanted}`));
   assert.throws(() => registry.decode('Point', [7, 1, 2, 5]), told('.~/[0]', 'wanted 2 bytes of BYTES'));
   assert.throws(() => registry.scan('Point', [7, 1, 2, 5]), told('.~/[0]', 'wanted 2 bytes of BYTES'));
   assert.throws(() => registry.part('Point', [7, 1, 2, 5], '.'), told('.~/[0]', 'wanted 2 bytes of BYTES'));
   for (const call of [() => registry.check('Line'), () => registry.encode('Line', 7), () => registry.decode('Line', []), () => registry.schema('Line')]) {
-    assert.throws(call, { kind: 'format', pointer: '', expected: /^no container is called Line/ });
+    assert.throws(call, { kind: 'format', at: '', detail: /^no container is called Line/ });
   }
   assert.throws(() => registry.scan({ SEQ: { TYPENAME: 'x: UnknownName: y' } }, []), told('', 'no container is called x: UnknownName: y'));
   assert.throws(() => registry.check({ TUPLE: ['U8', {}] }), told('/TUPLE/1', 'wanted a format'));
-  assert.throws(() => registry.show('Line'), { kind: 'format', reason: 'UnknownName', expected: 'no container is called Line' });
+  assert.throws(() => registry.show('Line'), { kind: 'format', reason: 'UnknownName', at: '', detail: 'no container is called Line' });
   const step = 'wanted a number, inner, or key: and hexadecimal digits';
-  assert.throws(() => registry.part('"U8"', [7], '1/x: BadPath: y'), { kind: 'path', pointer: 'step 2 x: BadPath: y', expected: step });
+  assert.throws(() => registry.part('"U8"', [7], '1/x: BadPath: y'), { kind: 'path', at: 'step 2 x: BadPath: y', detail: step });
   assert.throws(() => bcs.grows('{"a: Missing: b":"UNITSTRUCT"}', '{}'), {
-    kind: 'growth', reason: 'Missing', pointer: 'a: Missing: b', expected: 'the newer registry has no container of that name',
+    kind: 'growth', reason: 'Missing', at: 'a: Missing: b', detail: 'the newer registry has no container of that name',
   });
   assert.throws(() => bcs.registry('{"S":{"STRUCT":[{"side":{"TYPENAME":"Sid"}}]}}'), told('S, field side', 'no container is called Sid'));
   assert.throws(() => bcs.grows('{}', '{"S":7}'), told('/S', 'wanted a container'));
-  assert.throws(() => registry.encode('Point', { x: 256, '~/': [] }), { message: `text refused: BadNumber at /x: found 256, ${wanted}` });
-  assert.throws(() => registry.encode('Point', 7), { message: 'value refused: WrongType at the whole value: Point takes an object, not number' });
-  assert.throws(() => registry.encodeText('Point', '7'), { message: /^text refused: BadShape at the whole text: wanted an object/ });
-  assert.throws(() => registry.decode('Point', []), { message: 'bytes refused: EndOfInput at 0, .x: wanted U8' });
+  assert.throws(() => registry.encode('Point', { x: 256, '~/': [] }), { message: `refused: BadNumber at /x: found 256, ${wanted}` });
+  assert.throws(() => registry.encode('Point', 7), { message: 'refused: WrongType: Point takes an object, not number' });
+  assert.throws(() => registry.encodeText('Point', '7'), { message: /^refused: BadShape: wanted an object/ });
+  assert.throws(() => registry.decode('Point', []), { message: 'refused: EndOfInput at byte 0, .x: wanted U8' });
+});
+
+// A call that is refused, its kind, reason, place, `at`, and the line that begins with the same words in all languages.
+const KINDS = [
+  [() => bcs.registry('{"A":{"NEWTYPESTRUCT":{"TYPENAME":"B"}}}'), 'registry', 'UnknownName', undefined, 'A', 'refused: UnknownName at A: no container is called B'],
+  [() => bcs.registry('{"the whole text":{"NEWTYPESTRUCT":{"TYPENAME":"B"}}}'), 'registry', 'UnknownName', undefined, 'the whole text', /at the whole text: no/],
+  [() => bcs.registry('{"A":7}'), 'registry', 'BadShape', undefined, '/A', /^refused: BadShape at \/A: wanted a container/],
+  [() => bcs.grows('{}', '7'), 'newer', 'BadShape', undefined, '', /^refused: BadShape: wanted/],
+  [() => bcs.grows('{"S":"UNITSTRUCT"}', '{}'), 'growth', 'Missing', undefined, 'S', /^refused: Missing at S: the newer registry has no/],
+  [() => none.check({ SEQ: 'U7' }), 'format', 'BadShape', undefined, '/SEQ', /^refused: BadShape at \/SEQ: /],
+  [() => none.withLimits({ depth: 501 }).scan('"U8"', [7]), 'limits', undefined, undefined, undefined, 'refused: the depth is above 500'],
+  [() => none.encodeText({ SEQ: 'U8' }, '[1,256]'), 'text', 'BadNumber', undefined, '/1', /^refused: BadNumber at \/1: found 256, wanted /],
+  [() => none.encodeText('"U8"', '256'), 'text', 'BadNumber', undefined, '', /^refused: BadNumber: found 256, wanted /],
+  [() => none.decode({ TUPLE: ['U8', 'BOOL'] }, [7, 2]), 'bytes', 'BadBool', 1, '[1]', 'refused: BadBool at byte 1, [1]: wanted BOOL'],
+  [() => none.decode('"BOOL"', [2]), 'bytes', 'BadBool', 0, '.', 'refused: BadBool at byte 0, .: wanted BOOL'],
+  [() => none.part('"U8"', [7], 'a'), 'path', 'BadPath', undefined, 'step 1 a', /^refused: BadPath at step 1 a: wanted a number/],
+  [() => none.partByName('"U8"', [7], 'a'), 'path', 'BadPath', undefined, undefined, 'refused: BadPath'],
+  [() => none.example('"F32"'), 'example', 'NoValue', undefined, undefined, 'refused: NoValue'],
+  [() => none.encode({ TUPLE: ['U8'] }, [true]), 'value', 'WrongType', undefined, '/0', 'refused: WrongType at /0: U8 takes an integer, not boolean'],
+  [() => none.encode('"U8"', true), 'value', 'WrongType', undefined, '', 'refused: WrongType: U8 takes an integer, not boolean'],
+];
+
+test('the parts of each kind of refusal, and its line', () => {
+  for (const [call, kind, reason, place, at, line] of KINDS) {
+    assert.throws(call, (error) => {
+      assert.ok(error instanceof BcsError);
+      assert.deepEqual([error.kind, error.reason, error.place, error.at], [kind, reason, place, at]);
+      if (typeof line === 'string') assert.equal(error.message, line);
+      else assert.match(error.message, line);
+      assert.ok(error.detail === undefined || error.message.endsWith(error.detail));
+      return true;
+    });
+  }
 });
 
 test('schemas, examples, registries in readable form, and differences', () => {
@@ -341,7 +423,7 @@ test('schemas, examples, registries in readable form, and differences', () => {
 // (five bytes that announce 2147483647 units, which have no bytes)
 const ANNOUNCED = bytesOfHex('ffffffff07');
 
-test('by default bytes have at most 16 nodes a byte, and a million', () => {
+test('by default bytes have at most 16 nodes a byte, and 65,536', () => {
   const calls = ['decode', 'decodeText', 'scan', 'explain', 'explainText'];
   const start = performance.now();
   for (const call of calls.slice(0, 3)) assert.throws(() => none[call]({ SEQ: 'UNIT' }, ANNOUNCED), refusal('bytes', 'TooManyNodes', 5));
@@ -351,12 +433,40 @@ test('by default bytes have at most 16 nodes a byte, and a million', () => {
   assert.ok(performance.now() - start < 2000, 'two seconds');
   // A list of `count` units has a node for itself and one for each, and its length has three bytes here.
   const units = (count) => Uint8Array.of((count & 127) | 128, ((count >> 7) & 127) | 128, count >> 14);
-  const most = 16 * 3 + 1_000_000 - 1;
+  const most = 16 * 3 + 65_536 - 1;
   assert.equal(none.scan({ SEQ: 'UNIT' }, units(most)), 3);
   assert.equal(none.decode({ SEQ: 'UNIT' }, units(most)).length, most);
   assert.throws(() => none.scan({ SEQ: 'UNIT' }, units(most + 1)), refusal('bytes', 'TooManyNodes', 3));
   assert.throws(() => none.withLimits({ depth: 9 }).scan({ SEQ: 'UNIT' }, units(most + 1)), refusal('bytes', 'TooManyNodes', 3));
   assert.equal(none.withLimits({ nodes: most + 2 }).scan({ SEQ: 'UNIT' }, units(most + 1)), 3);
+});
+
+// A name's length, a number of bytes, and the nodes that they may have: the rows of bindings/c/tests/handles.c and beside.c.
+const NODES = [
+  [1, 0, 65536], [1, 5, 65616], [64, 5, 65616], [128, 0, 32768], [128, 5, 32808], [100, 5, 41994], [4096, 0, 1024], [4096, 1000000, 2000000],
+  [1, 268431359, 4294967280], [1, 268431360, 4294967295], [128, 2 ** 40, 4294967295],
+];
+
+test('the longer the longest name, the fewer nodes, as in C', () => {
+  for (const [name, length, nodes] of NODES) {
+    const named = encoder.encode(JSON.stringify({ ['0'.repeat(name)]: 'UNITSTRUCT' }));
+    assert.equal(nodesFor(length, longestStringOf(named)), nodes, `${name}, ${length}`);
+  }
+  const rows = [['{}', 0], ['"a\\"b"', 4], ['{"é":"\\\\"}', 2], ['"abc","', 3], ['["a", "abcd"]', 4]];
+  for (const [json, longest] of rows) assert.equal(longestStringOf(encoder.encode(json)), longest, json);
+});
+
+test('three bytes that announce 40,000 structs with long names cost little', () => {
+  const names = Array.from({ length: 20 }, (_, i) => 'n'.repeat(4000 + i));
+  const long = bcs.registry(JSON.stringify({ L: { STRUCT: names.map((name) => ({ [name]: 'UNIT' })) } }));
+  const list = { SEQ: { TYPENAME: 'L' } };
+  const [before, start] = [process.memoryUsage().rss, performance.now()];
+  for (const call of ['decode', 'decodeText', 'scan']) assert.throws(() => long[call](list, bytesOfHex('c0b802')), { reason: 'TooManyNodes' });
+  // (A list has a node, and each of these structs 22. 65,552 nodes for a byte, by 64 / 4019, are 1,043.)
+  assert.equal(long.decode(list, Uint8Array.of(47)).length, 47);
+  assert.throws(() => long.decode(list, Uint8Array.of(48)), { reason: 'TooManyNodes' });
+  assert.ok(process.memoryUsage().rss - before < 64 << 20, 'tens of MiB');
+  assert.ok(performance.now() - start < 2000, 'two seconds');
 });
 
 test('what bytes announce takes no memory by default', async () => {
@@ -473,13 +583,26 @@ test('where the engine’s stack ends, it is told, and the next call is answered
   assert.equal(registry.scan('L', bytes), 32 * 100);
 });
 
+test('on a thread with a small stack each call is answered, or throws the kind stack', async () => {
+  const worker = new Worker(new URL('small_stack.mjs', import.meta.url), { workerData: process.env.BCS_WASM, resourceLimits: { stackSizeMb: 1 } });
+  const [outcomes] = await once(worker, 'message');
+  await worker.terminate();
+  const counts = { answered: 0, stack: 0, engine: 0, 'at last answered': 0 };
+  for (const outcome of outcomes) {
+    assert.ok(outcome in counts, outcome);
+    counts[outcome]++;
+  }
+  assert.ok(counts.answered > 100 && counts.stack > 100 && counts.engine < 200, JSON.stringify(counts));
+  assert.equal(counts['at last answered'], 3);
+});
+
 test('where memory ends, it is told, and the next call is answered', async () => {
   const small = await load(withMostPages(readFileSync(process.env.BCS_WASM), 128));
   const registry = small.registry('{}');
   const zeros = `[${'0,'.repeat(500_000)}0]`;
-  assert.throws(() => registry.encodeText({ SEQ: 'U32' }, zeros), refusal('memory', 'memory ran out'));
+  assert.throws(() => registry.encodeText({ SEQ: 'U32' }, zeros), { kind: 'memory', reason: undefined, message: 'refused: memory ran out' });
   assert.equal(hexOf(registry.encodeText('"U8"', '7')), '07');
-  assert.throws(() => registry.encodeText('"STR"', `"${'a'.repeat(8 << 20)}"`), refusal('memory', 'memory ran out'));
+  assert.throws(() => registry.encodeText('"STR"', `"${'a'.repeat(8 << 20)}"`), { kind: 'memory', reason: undefined, message: 'refused: memory ran out' });
   assert.equal(hexOf(registry.encodeText('"U8"', '8')), '08');
   const less = `[${'0,'.repeat(10_000)}0]`;
   assert.equal(registry.encodeText({ SEQ: 'U32' }, less).length, 40_006);

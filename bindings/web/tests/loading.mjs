@@ -2,7 +2,7 @@
 // BCS_WEB names the folder that bindings/web/build.sh made.
 import assert from 'node:assert/strict';
 import { execFileSync } from 'node:child_process';
-import { cpSync, mkdtempSync, readFileSync, rmSync, writeFileSync } from 'node:fs';
+import { cpSync, mkdtempSync, readdirSync, readFileSync, rmSync, writeFileSync } from 'node:fs';
 import { createServer } from 'node:http';
 import { createRequire } from 'node:module';
 import { tmpdir } from 'node:os';
@@ -12,6 +12,7 @@ import { pathToFileURL } from 'node:url';
 import { Chromium } from './chromium.mjs';
 
 const web = resolve(process.env.BCS_WEB);
+const FILES = readdirSync(web).filter((name) => /\.[cm]js$|^bcs\.wasm$/.test(name));
 const require = createRequire(import.meta.url);
 const TYPES = { html: 'text/html', mjs: 'text/javascript', js: 'text/javascript', wasm: 'application/octet-stream' };
 const CALLS = `
@@ -37,8 +38,7 @@ const pageOf = (script) => `<!doctype html><script type="module" src="/${script}
 
 before(async () => {
   room = mkdtempSync(join(tmpdir(), 'bcs-loading-'));
-  for (const name of ['bcs.mjs', 'bcs.cjs', 'own_module.mjs', 'loader.mjs', 'errors.mjs', 'support.mjs', 'calls.mjs', 'values.mjs', 'shapes.mjs',
-    'hex.mjs', 'octets.mjs', 'bcs.wasm']) cpSync(join(web, name), join(room, name));
+  for (const name of FILES) cpSync(join(web, name), join(room, name));
   const start = "import { load } from './bcs.mjs';";
   writeFileSync(join(room, 'start.mjs'), `${start}\ntry {${CALLS}\n} catch (error) { globalThis.found = error.message; }`);
   server = createServer(answered);
@@ -100,8 +100,7 @@ test('a page whose policy forbids WebAssembly is told what the policy needs', as
 
 test('a page without the module is told where it was looked for', async () => {
   writeFileSync(join(room, 'far.mjs'), readFileSync(join(room, 'start.mjs'), 'utf8').replace('./bcs.mjs', './far/bcs.mjs'));
-  for (const name of ['bcs.mjs', 'own_module.mjs', 'loader.mjs', 'errors.mjs', 'support.mjs', 'calls.mjs', 'values.mjs', 'shapes.mjs', 'hex.mjs',
-    'octets.mjs']) cpSync(join(room, name), join(room, 'far', name));
+  for (const name of FILES.filter((name) => name.endsWith('.mjs'))) cpSync(join(room, name), join(room, 'far', name));
   assert.match(await foundBy('far.mjs'), /no module at http:.*\/far\/bcs\.wasm: status 404; pass the module to load\(\)/);
 });
 

@@ -23,8 +23,9 @@ function calls() {
   for (const used of [registry, registry.withLimits({ depth: 9 }), other]) {
     assert.equal(hexOf(used.encodeText('"STR"', '"two, and longer"')), '0f74776f2c20616e64206c6f6e676572');
     assert.equal(hexOf(used.encode({ TUPLE: ['STR', 'U8'] }, ['two', 2])), '0374776f02');
-    assert.equal(used.normalise({ SEQ: 'STR' }, ' ["two"]'), '["two"]');
-    assert.equal(used.equal('"STR"', '"two"', '"two!"'), false);
+    assert.equal(used.normaliseText({ SEQ: 'STR' }, ' ["two"]'), '["two"]');
+    assert.equal(used.equalText('"STR"', '"two"', '"two!"'), false);
+    assert.equal(used.equal('"STR"', 'two', 'two!'), false);
     assert.equal(used.decode('"STR"', [3, 0x74, 0x77, 0x6f]), 'two');
     assert.equal(used.decodeText({ OPTION: 'U8' }, [1, 2]), '{"some":2}');
     assert.equal(used.scan('"STR"', [1, 0x74, 0x77]), 2);
@@ -83,12 +84,14 @@ const LISTS = {
 const CALLS = {
   encode: [(format) => hexOf(registry.encode(format, ['one'])), DIGITS],
   encodeText: [(format, text) => hexOf(registry.encodeText(format, text)), DIGITS, JSON_TEXT],
-  normalise: [(format, text) => registry.normalise(format, text), JSON_TEXT, JSON_TEXT],
-  equal: [(format, text) => registry.equal(format, text, ' ["one"]'), true, JSON_TEXT],
-  'equal, the other': [(format, text) => registry.equal(format, ' ["one"]', text), true, JSON_TEXT],
-  'equal, both': [(format, text) => registry.equal(format, text, text), true, JSON_TEXT],
+  normaliseText: [(format, text) => registry.normaliseText(format, text), JSON_TEXT, JSON_TEXT],
+  normalise: [(format) => registry.normalise(format, ['one']), ['one']],
+  'equal values': [(format) => registry.equal(format, ['one'], ['one']), true],
+  equal: [(format, text) => registry.equalText(format, text, ' ["one"]'), true, JSON_TEXT],
+  'equal, the other': [(format, text) => registry.equalText(format, ' ["one"]', text), true, JSON_TEXT],
+  'equal, both': [(format, text) => registry.equalText(format, text, text), true, JSON_TEXT],
   decode: [(format, bytes) => registry.decode(format, bytes), ['one'], BYTES],
-  'decode as JSON': [(format, bytes) => registry.decode(format, bytes, getter({}, 'json', true)), ['one'], BYTES],
+  'decode with options': [(format, bytes) => registry.decode(format, bytes, getter({}, 'plainOptions', true)), ['one'], BYTES],
   decodeText: [(format, bytes) => registry.decodeText(format, bytes), JSON_TEXT, BYTES],
   scan: [(format, bytes) => registry.scan(format, bytes), 4, BYTES],
   part: [(format, bytes) => registry.part(format, bytes, '0'), { place: 0, bytes: Uint8Array.from(BYTES) }, BYTES],
@@ -108,7 +111,7 @@ function reentered(name, isAsked, call, expected) {
 test('a format whose toJSON encodes another text', () => {
   const format = { toJSON: () => (registry.encodeText('"STR"', '"two"'), 'STR') };
   assert.equal(hexOf(registry.encodeText(format, '"one"')), DIGITS);
-  assert.equal(registry.normalise(format, '"one"'), '"one"');
+  assert.equal(registry.normaliseText(format, '"one"'), '"one"');
 });
 
 test('formats that make calls, in each call', () => {
@@ -124,7 +127,7 @@ test('inputs that make calls, in each call', () => {
     if (input === undefined) continue;
     for (const [how, list] of Object.entries(LISTS)) {
       const bytes = typeof input === 'string' ? bytesOf(input) : input;
-      const isAsked = !how.startsWith('not asked') || name === 'decode as JSON';
+      const isAsked = !how.startsWith('not asked') || name === 'decode with options';
       reentered(`${name}, ${how}`, isAsked, () => call(TUPLE, list(bytes)), expected);
     }
   }
@@ -170,6 +173,8 @@ test('values that make calls', () => {
   const map = Object.assign(new Map([['one', 7]]), {
     [Symbol.iterator]: () => calling([['two', 2]].values()), entries: () => calling([['two', 2]].values()), forEach: () => calling(),
   });
+  assert.equal(registry.equal(struct, getter({ v: 7 }, 'w', 'one'), getter({ v: 7 }, 'w', 'one')), true);
+  assert.equal(registry.equal(struct, getter({ v: 7 }, 'w', 'one'), getter({ v: 7 }, 'w', 'ones')), false);
   notAsked('an iterator of a map', { MAP: { KEY: 'STR', VALUE: 'U8' } }, map, `01${DIGITS}07`);
   notAsked('toJSON of a list', { SEQ: 'STR' }, Object.assign(['one'], { toJSON: () => calling(['two']) }), `01${DIGITS}`);
   notAsked('an iterator of a list', { SEQ: 'STR' }, Object.assign(['one'], { [Symbol.iterator]: () => calling(['two'].values()) }), `01${DIGITS}`);
@@ -205,16 +210,35 @@ test('each thing is read once, and what it is later doesn’t matter', () => {
   assert.equal(count, 2);
 });
 
-test('a list that grows, a map that grows and a registry that is closed, while they are read', () => {
+test('a list that grows and a map that grows, while they are read', () => {
   const list = getter([], 0, 'one');
   const growing = new Proxy(list, { get: (target, name) => (name === '0' && (list.length = 3), Reflect.get(target, name)) });
   assert.equal(hexOf(registry.encode({ SEQ: 'STR' }, growing)), `01${DIGITS}`);
   const map = new Map();
   map.set('one', { get v() { map.set(`${map.size}`, null); return 7; }, w: 'one' });
   assert.equal(hexOf(registry.encode({ MAP: { KEY: 'STR', VALUE: { TYPENAME: 'P' } } }, map)), `01${DIGITS}07${DIGITS}`);
-  const closing = bcs.registry(SHAPES);
-  assert.throws(() => closing.encode('P', { v: 7, get w() { closing.close(); return 'one'; } }), /the registry is closed/);
-  assert.throws(() => closing.decode({ toJSON: () => TUPLE }, BYTES), /the registry is closed/);
+});
+
+test('a registry that is closed while a call runs: the call ends with its own answer, and later ones throw', () => {
+  const members = (closing) => ({ v: 7, get w() { closing.close(); return 'one'; } });
+  const format = (closing) => ({ toJSON: () => (closing.close(), TUPLE) });
+  const rows = [
+    ['encode', (closing) => hexOf(closing.encode('P', members(closing))), `07${DIGITS}`],
+    ['of other limits', (closing) => hexOf(closing.withLimits({ depth: 9 }).encode('P', members(closing))), `07${DIGITS}`],
+    ['decode', (closing) => closing.decode(format(closing), BYTES), ['one']],
+    ['part', (closing) => closing.part(format(closing), BYTES, '0').place, 0],
+    ['a call within a call', (closing) => closing.decode({ toJSON: () => (closing.decode(format(closing), BYTES), TUPLE) }, BYTES), ['one']],
+  ];
+  for (const [name, call, expected] of rows) {
+    const closing = bcs.registry(SHAPES);
+    assert.deepEqual(call(closing), expected, name);
+    assert.throws(() => closing.check('P'), /the registry is closed/, name);
+  }
+  // (the message of a refusal is asked for by another call of the module)
+  const refusing = bcs.registry(SHAPES);
+  const refused = { kind: 'text', reason: 'BadNumber', message: /0 to 255/ };
+  assert.throws(() => refusing.encode('P', { v: 256, get w() { refusing.close(); return 'one'; } }), refused);
+  assert.throws(() => refusing.decode('P', BYTES), /the registry is closed/);
   assert.equal(hexOf(registry.encode('P', { v: 7, w: 'one' })), `07${DIGITS}`);
 });
 
@@ -233,7 +257,7 @@ test('buffers that are changed, detached or cut while other arguments are read',
   assert.deepEqual(registry.part(TUPLE, first, path(() => first.fill(0))), { place: 0, bytes: Uint8Array.from(BYTES) });
   assert.deepEqual(registry.part(TUPLE, second, path(() => detach(second))), { place: 0, bytes: Uint8Array.from(BYTES) });
   const pair = [{ get v() { detach(pair[1]); return 7; }, w: '' }, made()];
-  assert.throws(() => registry.encode({ TUPLE: [{ TYPENAME: 'P' }, 'BYTES'] }, pair), { kind: 'value', pointer: '/1', expected: /a detached Uint8Array/ });
+  assert.throws(() => registry.encode({ TUPLE: [{ TYPENAME: 'P' }, 'BYTES'] }, pair), { kind: 'value', at: '/1', detail: /a detached Uint8Array/ });
   const buffer = new ArrayBuffer(4, { maxByteLength: 1 << 20 });
   const [fixed, tracking] = [new Uint8Array(buffer, 0, 4), new Uint8Array(buffer)];
   tracking.set(BYTES);

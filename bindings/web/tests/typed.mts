@@ -7,7 +7,7 @@ import type {
   AccountAddress, EntryFunction, RawTransaction, RawTransactionInput, TransactionPayload, Types as Aptos, TypeTag,
 } from './aptos.mjs';
 import type { GasData, TransactionData, TransactionKind, Types as Sui } from './sui.mjs';
-import type { Types as Shapes } from './shapes.mjs';
+import type { Coin, Types as Shapes } from './shapes.mjs';
 import type { Prices as PlainPrices, Types as PlainShapes } from './plain_shapes.mjs';
 
 const [, , wasm, examples] = process.argv;
@@ -93,7 +93,8 @@ function rightFormats(shapes: Registry<Shapes>, plainShapes: Registry<PlainShape
   for (const registry of both) equal(registry.decode(format, registry.encode(format, 7)), 7);
   equal(digits(untyped.encode('RawTransaction', transfer)), read('aptos_transfer.hex'));
   equal(aptos.withLimits({ depth: 9 }).decode('ChainId', [7]), 7);
-  equal(JSON.stringify(aptos.decode('RawTransaction', bytesOf(read('aptos_transfer.hex')), { json: true })), read('aptos_transfer_normal.json'));
+  equal(aptos.decodeText('RawTransaction', bytesOf(read('aptos_transfer.hex'))), read('aptos_transfer_normal.json'));
+  equal(aptos.equal('ChainId', 7, 7n) && aptos.normalise('ChainId', 7n) === 7, true);
   const prices: Map<string, bigint | null> = new Map(Array.from(shapes.decode('Prices', [1, 1, 97, 0]), ([name, price]) => [name, price?.some ?? null]));
   equal(prices.get('a'), null);
   const fixed: ReadonlyMap<string, { some: number } | null> = new Map([['a', null]]);
@@ -101,6 +102,8 @@ function rightFormats(shapes: Registry<Shapes>, plainShapes: Registry<PlainShape
   equal(shapes.encode('Prices', new Map([['a', { some: 7 }], ['b', null]])).length, 15);
   equal(shapes.encode('Shape', 'Dot').length + shapes.encode('Shape', { Box: [1, 2n] }).length, 19);
   equal(shapes.encode('Empty', {}).length, 0);
+  const coin: Coin = shapes.decode('Coin', shapes.encode('Coin', { owner: '0x1', balance: 7, debt: -1n }));
+  equal(`${coin.owner} ${coin.balance} ${coin.debt?.some}`, `0x${'0'.repeat(63)}1 7 -1`);
   equal(shapes.encode('Prices', new Map([['a', 7n], ['b', null]])).length, 15);
   const plain: PlainPrices = plainShapes.decode('Prices', [1, 1, 97, 1, 7, 0, 0, 0, 0, 0, 0, 0], { plainOptions: true });
   const price: bigint | null | undefined = plain.get('a');
@@ -123,7 +126,7 @@ export function wrongInput(shapes: Registry<Shapes>): void {
   aptos.encode('TypeTag', { Vector: [] }); // error: is not assignable to type 'TypeTagInput'
   aptos.encode('Multisig', { multisig_address: one, transaction_payload: { EntryFunction: one } }); // error: Type 'Uint8Array' is missing the following properties from type 'EntryFunctionInput'
   aptos.encode('Multisig', { multisig_address: one, transaction_payload: undefined }); // error: Type 'undefined' is not assignable
-  aptos.encode('Ed25519PublicKey', [1, 2]); // error: is not assignable to parameter of type 'Ed25519PublicKeyInput'
+  aptos.encode('Ed25519PublicKey', [1, true]); // error: Type 'boolean' is not assignable to type 'number'
   aptos.encode('Ed25519PublicKey', '0102'); // error: is not assignable to parameter of type 'Ed25519PublicKeyInput'
   aptos.encode('Identifier', one); // error: Argument of type 'Uint8Array' is not assignable to parameter of type 'string'
   aptos.encode('TransactionArgument', { Bool: 1 }); // error: Type 'number' is not assignable to type 'boolean'
@@ -137,6 +140,8 @@ export function wrongInput(shapes: Registry<Shapes>): void {
   shapes.encode('Shape', { Named: {} }); // error: Property 'side' is missing in type '{}'
   shapes.encode('Shape', { Dot: null }); // error: 'Dot' does not exist in type
   shapes.encode('Empty', { a: 1 }); // error: Type 'number' is not assignable to type 'never'
+  shapes.encode('address', 1n); // error: is not assignable to parameter of type 'addressInput'
+  shapes.encode('u256', '7'); // error: is not assignable to parameter of type 'u256Input'
   shapes.encode('Float', 1.5); // error: is not assignable to parameter of type 'never'
   shapes.encode('Endless', null); // error: is not assignable to parameter of type 'never'
 }

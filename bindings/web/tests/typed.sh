@@ -51,15 +51,20 @@ declare_types hostile "$root/tests/rows/hostile_names.json"
 reversed=$(node -p 'JSON.stringify(Object.fromEntries(Object.entries(JSON.parse(fs.readFileSync(process.argv[1]))).reverse()))' "$aptos")
 node types.mjs "$reversed" | cmp - aptos.d.mts || fail "the order of a registry's members"
 
-refuses 2 'registry refused: UnknownName at A: no container is called B' '{"A":{"NEWTYPESTRUCT":{"TYPENAME":"B"}}}'
-refuses 2 'registry refused: NotJson at line 1, column 1: the text stops being JSON there' '{'
-refuses 3 'Usage: bcs-types [--plain-options] REGISTRY >registry.d.mts'
-refuses 3 'Usage: bcs-types [--plain-options] REGISTRY >registry.d.mts' a.json b.json
-refuses 3 'Usage: bcs-types [--plain-options] REGISTRY >registry.d.mts' --other
-refuses 3 'Usage: bcs-types [--plain-options] REGISTRY >registry.d.mts' --plain-options
+refuses 2 'refused: UnknownName at A: no container is called B' '{"A":{"NEWTYPESTRUCT":{"TYPENAME":"B"}}}'
+refuses 2 'refused: NotJson at line 1, column 1: the text stops being JSON there' '{'
+refuses 3 'Usage: bcs-types [--plain-options] [--names NAMES] REGISTRY >registry.d.mts'
+refuses 3 'Usage: bcs-types [--plain-options] [--names NAMES] REGISTRY >registry.d.mts' a.json b.json
+refuses 3 'Usage: bcs-types [--plain-options] [--names NAMES] REGISTRY >registry.d.mts' --other
+refuses 3 'Usage: bcs-types [--plain-options] [--names NAMES] REGISTRY >registry.d.mts' --plain-options
+refuses 3 'Usage: bcs-types [--plain-options] [--names NAMES] REGISTRY >registry.d.mts' --names '{}'
+refuses 3 "names: this isn't JSON" --names address '{}'
+refuses 3 'names: the registry has no newtype of 32 bytes called A' --names '{"address":["A"]}' '{"A":{"NEWTYPESTRUCT":"BYTES"}}'
+refuses 3 'names has address, u256 and i256, and not u128' --names '{"u128":[]}' '{}'
+refuses 3 'names is an object of arrays' --names 7 '{}'
 refuses 4 'fault: open in the file none.json: No such file or directory' none.json
 node types.mjs --help >help || fail "help"
-[ "$(head -n 1 help)" = 'Usage: bcs-types [--plain-options] REGISTRY >registry.d.mts' ] || fail "help"
+[ "$(head -n 1 help)" = 'Usage: bcs-types [--plain-options] [--names NAMES] REGISTRY >registry.d.mts' ] || fail "help"
 
 # The program in the README, and the commands before it, which make its registry.
 code_of_readme sh >commands
@@ -78,12 +83,12 @@ cp "$here/typed.mts" .
 tsc --strict --noUncheckedIndexedAccess --target es2022 --lib es2022,dom --module nodenext --moduleResolution nodenext \
     --pretty false --outDir made ./*.d.mts values_of_*.mts readme.mts typed.mts node.d.ts >report || true
 told=$("$root/tests/marked_errors.py" report readme.mts typed.mts) || fail "$told"
-[ "$told" = "39 wrong lines are refused, and no others" ] || fail "$told"
+[ "$told" = "41 wrong lines are refused, and no others" ] || fail "$told"
 cp ./*.mjs bcs.wasm made
 node made/typed.mjs bcs.wasm "$root/examples" || fail "right values of the examples"
 if node made/readme.mjs >said 2>&1; then
     fail "the wrong value of the README is encoded"
 fi
-grep -q 'BcsError: text refused: MissingField at the whole text: no member is called amount' said || fail "the README: $(cat said)"
+grep -q 'BcsError: refused: MissingField: no member is called amount' said || fail "the README: $(cat said)"
 count=$(cat values_of_*.mts | grep -c "\['decode'\]") || fail "no random values"
 echo "typed: $count random values have their types; $told"

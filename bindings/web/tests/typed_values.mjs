@@ -4,6 +4,7 @@
 import assert from 'node:assert/strict';
 import { readFileSync } from 'node:fs';
 import { BcsError, load } from '../bcs.mjs';
+import { hexOf } from '../hex.mjs';
 import { Shapes } from '../shapes.mjs';
 
 const [file, types] = process.argv.slice(2);
@@ -34,11 +35,16 @@ function leaf(word) {
   if (word === 'UNIT') return null;
   if (word === 'BOOL') return oneOf([true, false]);
   if (word === 'STR') return oneOf(TEXTS) + oneOf(TEXTS);
-  if (word === 'BYTES') return oneOf([(bytes) => bytes, (bytes) => bytes.buffer])(octets(below(4)));
-  const [, sign, digits] = /^([UI])(\d+)$/.exec(word);
+  if (word === 'BYTES') return oneOf([(bytes) => bytes, (bytes) => bytes.buffer, (bytes) => [...bytes]])(octets(below(4)));
+  const [, sign, digits] = /^([UI])(\d+)$/.exec(word.toUpperCase());
   const most = 2n ** BigInt(digits - (sign === 'I')) - 1n;
   const number = oneOf([0n, 1n, most, most - BigInt(below(100)), sign === 'I' ? -1n - most : 7n]);
   return Number.isSafeInteger(Number(number)) ? oneOf([number, Number(number)]) : number;
+}
+
+function address() {
+  const bytes = octets(32);
+  return oneOf([bytes, bytes.buffer, [...bytes], `0x${hexOf(bytes)}`, `0x${below(1000)}`]);
 }
 
 function octets(length) {
@@ -56,6 +62,8 @@ function value(format, deep) {
   switch (kind) {
     case 'TYPENAME':
       if (deep === 0) throw new NoValue();
+      if (inner === 'address') return address();
+      if (['u256', 'i256'].includes(inner)) return leaf(inner);
       return content(containers.get(inner), deep - 1);
     case 'OPTION':
       return orNone(() => some(format, value(inner, deep)), null);

@@ -4,7 +4,7 @@ import assert from 'node:assert/strict';
 import { readFileSync } from 'node:fs';
 import test from 'node:test';
 import { runInNewContext } from 'node:vm';
-import { BcsError, load } from '../bcs.mjs';
+import { BcsError, hex, load } from '../bcs.mjs';
 import { hexOf } from '../hex.mjs';
 
 const bcs = await load(readFileSync(process.env.BCS_WASM));
@@ -15,6 +15,9 @@ const CONTAINERS = {
   Empty: { STRUCT: [] },
   Point: { STRUCT: [{ a: 'U8' }] },
   Some: { STRUCT: [{ some: 'U8' }] },
+  address: { NEWTYPESTRUCT: { TUPLEARRAY: { CONTENT: 'U8', SIZE: 32 } } },
+  u256: { NEWTYPESTRUCT: { TUPLEARRAY: { CONTENT: 'U8', SIZE: 32 } } },
+  i256: { NEWTYPESTRUCT: { TUPLEARRAY: { CONTENT: 'U8', SIZE: 32 } } },
   Shape: { ENUM: { 0: { Dot: 'UNIT' }, 1: { Circle: { NEWTYPE: 'U8' } }, 2: { Box: { TUPLE: ['U8', 'U8'] } }, 3: { Named: { STRUCT: [{ a: 'U8' }] } } } },
 };
 
@@ -26,10 +29,12 @@ const INTEGERS = {
   U8: [1, false], U16: [2, false], U32: [4, false], U64: [8, false], U128: [16, false],
   I8: [1, true], I16: [2, true], I32: [4, true], I64: [8, true], I128: [16, true],
 };
-const OCTETS_OR_LIST = 'bytes, hexadecimal digits or an array';
+// Integers of 256 bits, which are containers.
+const WIDEST = { u256: [32, false], i256: [32, true] };
+const OCTETS_OR_LIST = 'bytes, or hex(…) for digits';
 const NUMBERS = 'an array or a typed array of integers';
 
-const at = (pointer, expected) => ({ pointer, expected });
+const at = (place, detail) => ({ at: place, detail });
 const eachColumn = (names, cell) => Object.fromEntries(names.map((name) => [name, cell]));
 
 // By the name of a column: its format, and what a rejection says that it takes.
@@ -37,7 +42,7 @@ const COLUMNS = {
   UNIT: ['UNIT', 'UNIT takes null'],
   BOOL: ['BOOL', 'BOOL takes a boolean'],
   STR: ['STR', 'STR takes a string'],
-  BYTES: ['BYTES', 'BYTES takes bytes or hexadecimal digits'],
+  BYTES: ['BYTES', `BYTES takes ${OCTETS_OR_LIST}`],
   ...Object.fromEntries(Object.keys(INTEGERS).map((name) => [name, [name, `${name} takes an integer`]])),
   F32: ['F32'], F64: ['F64'], CHAR: ['CHAR'],
   option: [{ OPTION: 'U8' }, 'OPTION takes null, a value or { some: value }'],
@@ -59,6 +64,9 @@ const COLUMNS = {
   none: [{ TUPLE: [] }, 'TUPLE takes an array'],
   mapSTR: [{ MAP: { KEY: 'STR', VALUE: 'U8' } }, 'MAP takes a Map or an array of pairs'],
   mapU8: [{ MAP: { KEY: 'U8', VALUE: 'U8' } }, 'MAP takes a Map or an array of pairs'],
+  address: [{ TYPENAME: 'address' }, 'address takes 0x and 1 to 64 hexadecimal digits, or 32 bytes'],
+  u256: [{ TYPENAME: 'u256' }, 'u256 takes an integer'],
+  i256: [{ TYPENAME: 'i256' }, 'i256 takes an integer'],
   Nothing: [{ TYPENAME: 'Nothing' }, 'UNIT takes null'],
   Id: [{ TYPENAME: 'Id' }, 'U64 takes an integer'],
   Pair: [{ TYPENAME: 'Pair' }, 'Pair takes an array'],
@@ -71,28 +79,33 @@ const registry = bcs.registry(JSON.stringify({
   ...Object.fromEntries(Object.entries(COLUMNS).map(([name, [format]]) => [`in ${name}`, { STRUCT: [{ v: format }] }])),
 }));
 
-/** In every integer column the number's bytes, or the proved call's verdict on a number out of range. */
+/** In every integer column the number's bytes, or the verdict on a number out of range: that of the proved call, up to 128 bits. */
 function integers(number) {
-  const cells = Object.entries(INTEGERS).map(([name, [size, isSigned]]) => {
+  const cells = Object.entries({ ...INTEGERS, ...WIDEST }).map(([name, [size, isSigned]]) => {
     const [least, most] = isSigned ? [-(2n ** BigInt(8 * size - 1)), 2n ** BigInt(8 * size - 1) - 1n] : [0n, 2n ** BigInt(8 * size) - 1n];
-    return [name, number < least || number > most ? 'BadNumber' : littleEndian(number, size)];
+    if (number >= least && number <= most) return [name, littleEndian(number, size)];
+    return [name, name in WIDEST ? at('/v', `${name} doesn't hold ${number}`) : 'BadNumber'];
   });
   return { ...Object.fromEntries(cells), Id: Object.fromEntries(cells).U64 };
 }
 
-const NO_INTEGER = Object.fromEntries([...Object.keys(INTEGERS), 'Id'].map((name) => [name, 'BadNumber']));
-/** A string that is the JSON of nothing else. */
-const string = (digits, others) => ({
-  ...NO_INTEGER, STR: digits, BYTES: 'BadHex', octets: 'BadHex', twoOctets: 'BadHex', Shape: 'UnknownVariant', ...others,
-});
-const BYTES_0102 = { BYTES: '020102', octets: '020102', twoOctets: '0102' };
+/** A number that nobody could print. */
+const LONG = 'a number of more than 512 bits';
+const longNumber = Object.fromEntries([...Object.keys(INTEGERS), ...Object.keys(WIDEST), 'Id'].map((name) => [
+  name, at('/v', `${name === 'Id' ? 'U64' : name} doesn't hold ${LONG}`),
+]));
+/** A string, which is no number and no bytes, whatever is in it. */
+const string = (digits, others) => ({ STR: digits, Shape: 'UnknownVariant', ...others });
+const OCTETS = ['BYTES', 'octets', 'twoOctets', 'address'];
+const BYTES_0102 = { BYTES: '020102', octets: '020102', twoOctets: '0102', address: 'BadShape' };
 /** A rejection of an item that is no integer, in columns of lists. */
 const numbersAt = (pointer, names, found) => Object.fromEntries(names.map((name) => [
   name, at(pointer, `${{ listI8: 'I8', listU16: 'U16', listI64: 'I64', twoU16: 'U16', ids: 'U64' }[name] ?? 'U8'} takes an integer, not ${found}`),
 ]));
-const LISTS = ['octets', 'twoOctets', 'listI8', 'listU16', 'listI64', 'twoU16'];
+const LISTS = [...OCTETS, 'listI8', 'listU16', 'listI64', 'twoU16'];
+const eachOctet = (place, detail) => eachColumn(OCTETS, at(place, detail));
 const NUMBERS_1_2 = {
-  octets: '020102', twoOctets: '0102', listI8: '020102', listU16: '0201000200', twoU16: '01000200',
+  ...BYTES_0102, listI8: '020102', listU16: '0201000200', twoU16: '01000200',
   listI64: '0201000000000000000200000000000000',
 };
 const ARRAY_1_2 = {
@@ -104,11 +117,14 @@ const ARRAY_1_2 = {
 const NO_OPTION = eachColumn(['option', 'optionMap', ...EXACT_OPTIONS], 'BadShape');
 const OTHER_MEMBERS = { Empty: 'UnknownField', Point: 'MissingField', Shape: 'UnknownVariant', ...NO_OPTION };
 const NO_MEMBERS = { Empty: '', Point: 'MissingField', Shape: 'BadShape', ...NO_OPTION };
+/** An object that is no value of an empty struct, though it has no members that count. */
+const NOT_PLAIN = { ...NO_MEMBERS, Empty: at('/v', 'Empty takes an object, not a class instance or one with hidden members') };
 /** What `{ some: value }` is, where the value's type isn't accepted. */
 const someOf = (found) => Object.fromEntries([
   ['option', 'U8 takes an integer'], ['optionPoint', 'Point takes an object'], ['optionMap', COLUMNS.mapSTR[1]],
   ['optionShape', COLUMNS.Shape[1]], ['optionNothing', 'UNIT takes null'], ['optionSome', 'Some takes an object'],
 ].map(([name, takes]) => [name, at('/v/some', `${takes}, not ${found}`)]));
+const KEY_OF_U8 = at('/v/0/0', 'U8 takes an integer, not string');
 const MEMBER_A = { ...OTHER_MEMBERS, Point: '01' };
 
 class Instance {
@@ -148,7 +164,7 @@ const lying = (IntegerArray, ...numbers) => {
   return new Lying(numbers);
 };
 const sparse = (length, ...items) => Object.assign(new Array(length), items);
-const HALF = 'a string with half of a surrogate pair';
+const HALF = 'a string with a lone surrogate';
 const WIDE = (number) => `the number ${number}: above 2 ** 53 - 1 only a bigint is exact`;
 
 // A row: what it is, the value, how a rejection calls it, and the cells where it isn't rejected with that: the bytes, the fault of
@@ -177,18 +193,56 @@ const ROWS = [
   ['2n**64n-1n', 2n ** 64n - 1n, 'bigint', integers(2n ** 64n - 1n)],
   ['-(2n**127n)', -(2n ** 127n), 'bigint', integers(-(2n ** 127n))],
   ['2n**128n', 2n ** 128n, 'bigint', integers(2n ** 128n)],
-  ['empty string', '', 'string', string('00', { BYTES: '00', octets: '00', twoOctets: 'BadShape' })],
-  ['"5"', '5', 'string', string('0135', integers(5n))],
-  ['"-1"', '-1', 'string', string('022d31', integers(-1n))],
-  ['"05"', '05', 'string', string('023035', { BYTES: '0105', octets: '0105', twoOctets: 'BadShape' })],
-  ['"0102"', '0102', 'string', string('0430313032', BYTES_0102)],
-  ['"5000"', '5000', 'string', string('0435303030', { ...integers(5000n), BYTES: '025000', octets: '025000', twoOctets: '5000' })],
+  ['2n**256n', 2n ** 256n, 'bigint', integers(2n ** 256n)],
+  ['-(2n**255n)', -(2n ** 255n), 'bigint', integers(-(2n ** 255n))],
+  ['2n**255n-1n', 2n ** 255n - 1n, 'bigint', integers(2n ** 255n - 1n)],
+  ['2n**511n', 2n ** 511n, 'bigint', longNumber],
+  ['2n**1000000n', 2n ** 1000000n, 'bigint', longNumber],
+  ['empty string', '', 'string', string('00')],
+  ['"5"', '5', 'string', string('0135')],
+  ['"-1"', '-1', 'string', string('022d31')],
+  ['"0102"', '0102', 'string', string('0430313032')],
+  ['"cafe"', 'cafe', 'string', string('0463616665')],
+  ['"000000"', '000000', 'string', string('06303030303030')],
+  ['"0x"', '0x', 'string', string('023078')],
+  ['"0x1"', '0x1', 'string', string('03307831', { address: '00'.repeat(31) + '01' })],
+  ['"0xaB"', '0xaB', 'string', string('0430786142', { address: '00'.repeat(31) + 'ab' })],
+  ['"0X1"', '0X1', 'string', string('03305831')],
+  ['"0x1 "', '0x1 ', 'string', string('0430783120')],
+  ['"0xg"', '0xg', 'string', string('03307867')],
+  ['0x and 64 digits', `0x${'1f'.repeat(32)}`, 'string', string(`42${'3078' + '3166'.repeat(32)}`, { address: '1f'.repeat(32) })],
+  ['0x and 65 digits', `0x${'1'.repeat(65)}`, 'string', string(`433078${'31'.repeat(65)}`)],
+  ['64 digits', '1f'.repeat(32), 'string', string(`40${'3166'.repeat(32)}`)],
+  ['0x and a thousand digits', `0x${'1'.repeat(1000)}`, 'string', string(`ea073078${'31'.repeat(1000)}`, { address: at('/v', `${COLUMNS.address[1]}, not a longer string`) })],
+  ['hex', hex('0102'), 'Uint8Array', BYTES_0102],
+  ['32 bytes', hex('1f'.repeat(32)), 'Uint8Array', {
+    ...eachColumn(['BYTES', 'octets'], `20${'1f'.repeat(32)}`), twoOctets: 'BadShape', address: '1f'.repeat(32),
+  }],
+  ['32 numbers', new Array(32).fill(31n), 'Array', {
+    ...eachColumn(['BYTES', 'octets'], `20${'1f'.repeat(32)}`), twoOctets: 'BadShape', address: '1f'.repeat(32),
+    listI8: `20${'1f'.repeat(32)}`, listU16: `20${'1f00'.repeat(32)}`, listI64: `20${'1f00000000000000'.repeat(32)}`, twoU16: 'BadShape',
+    ids: `20${'1f00000000000000'.repeat(32)}`, tuple: 'BadShape', Pair: 'BadShape', none: 'BadShape', texts: at('/v/0', 'STR takes a string, not bigint'),
+    ...eachColumn(['mapSTR', 'mapU8'], at('/v/0', 'an entry of MAP takes an array, not bigint')),
+  }],
+  ['[1, 256]', [1, 256], 'Array', {
+    ...eachOctet('/v/1', "U8 doesn't hold 256"), ...eachColumn(['tuple', 'Pair', 'listI8'], 'BadNumber'), none: 'BadShape',
+    listU16: '0201000001', twoU16: '01000001', ...eachColumn(['listI64', 'ids'], '0201000000000000000001000000000000'),
+    texts: at('/v/0', 'STR takes a string, not number'), ...eachColumn(['mapSTR', 'mapU8'], at('/v/0', 'an entry of MAP takes an array, not number')),
+  }],
+  ['[-1n]', [-1n], 'Array', {
+    ...eachOctet('/v/0', "U8 doesn't hold -1"), ...eachColumn(['listU16', 'ids'], 'BadNumber'), listI8: '01ff', listI64: `01${'ff'.repeat(8)}`,
+    ...eachColumn(['twoU16', 'none'], 'BadShape'), ...eachColumn(['tuple', 'Pair'], 'BadShape'), texts: at('/v/0', 'STR takes a string, not bigint'),
+    ...eachColumn(['mapSTR', 'mapU8'], at('/v/0', 'an entry of MAP takes an array, not bigint')),
+  }],
+  ['[2n**1000000n]', [2n ** 1000000n], 'Array', {
+    ...eachOctet('/v/0', `U8 doesn't hold ${LONG}`),
+    ...Object.fromEntries([['listI8', 'I8'], ['listU16', 'U16'], ['listI64', 'I64'], ['twoU16', 'U16'], ['tuple', 'U8'], ['Pair', 'U8'], ['ids', 'U64']].map(
+      ([name, format]) => [name, at('/v/0', `${format} doesn't hold ${LONG}`)],
+    )),
+    none: 'BadShape', texts: at('/v/0', 'STR takes a string, not bigint'),
+    ...eachColumn(['mapSTR', 'mapU8'], at('/v/0', 'an entry of MAP takes an array, not bigint')),
+  }],
   ['"+1"', '+1', 'string', string('022b31')],
-  ['"-0"', '-0', 'string', string('022d30')],
-  ['"1.0"', '1.0', 'string', string('03312e30')],
-  ['"1e3"', '1e3', 'string', string('03316533')],
-  ['"0x10"', '0x10', 'string', string('0430783130')],
-  ['" 1"', ' 1', 'string', string('022031')],
   ['"5n"', '5n', 'string', string('02356e')],
   ['"é"', 'é', 'string', string('02c3a9')],
   ['"null"', 'null', 'string', string('046e756c6c')],
@@ -205,12 +259,16 @@ const ROWS = [
   ['BigInt object', Object(5n), 'BigInt', {}],
   ['Symbol object', Object(Symbol('a')), 'Symbol', {}],
   ['[]', [], 'Array', {
-    ...eachColumn(['octets', 'listI8', 'listU16', 'listI64', 'texts', 'ids', 'mapSTR', 'mapU8'], '00'), none: '',
-    ...eachColumn(['twoOctets', 'twoU16', 'tuple', 'Pair'], 'BadShape'),
+    ...eachColumn(['BYTES', 'octets', 'listI8', 'listU16', 'listI64', 'texts', 'ids', 'mapSTR', 'mapU8'], '00'), none: '',
+    ...eachColumn(['twoOctets', 'address', 'twoU16', 'tuple', 'Pair'], 'BadShape'),
   }],
   ['[1, 2]', [1, 2], 'Array', ARRAY_1_2],
+  ['[1n, 2]', [1n, 2], 'Array', {
+    ...ARRAY_1_2, texts: at('/v/0', 'STR takes a string, not bigint'),
+    ...eachColumn(['mapSTR', 'mapU8'], at('/v/0', 'an entry of MAP takes an array, not bigint')),
+  }],
   ['["1", 2n]', ['1', 2n], 'Array', {
-    ...ARRAY_1_2, texts: at('/v/1', 'STR takes a string, not bigint'),
+    ...numbersAt('/v/0', [...LISTS, 'tuple', 'Pair', 'ids'], 'string'), none: 'BadShape', texts: at('/v/1', 'STR takes a string, not bigint'),
     ...eachColumn(['mapSTR', 'mapU8'], at('/v/0', 'an entry of MAP takes an array, not string')),
   }],
   ['[[1, 2]]', [[1, 2]], 'Array', {
@@ -228,7 +286,7 @@ const ROWS = [
   }],
   ['Uint8Array', Uint8Array.of(1, 2), 'Uint8Array', BYTES_0102],
   ['Uint8Array of 8 bytes', Uint8Array.of(0x88, 0x13, 0, 0, 0, 0, 0, 0), 'Uint8Array', {
-    BYTES: '088813000000000000', octets: '088813000000000000', twoOctets: 'BadShape',
+    BYTES: '088813000000000000', octets: '088813000000000000', twoOctets: 'BadShape', address: 'BadShape',
   }],
   ['Uint8ClampedArray', Uint8ClampedArray.of(1, 2), 'Uint8ClampedArray', BYTES_0102],
   ['Buffer', Buffer.from([1, 2]), 'Uint8Array', BYTES_0102],
@@ -237,30 +295,26 @@ const ROWS = [
   ['shared Uint8Array', shared(1, 2), 'Uint8Array', BYTES_0102],
   ['subclass that lies', lying(Uint8Array, 1, 2), 'Uint8Array', BYTES_0102],
   ['detached Uint8Array', detached(Uint8Array.of(1, 2)), 'Uint8Array', {
-    BYTES: at('/v', 'BYTES takes bytes or hexadecimal digits, not a detached Uint8Array'),
-    octets: at('/v', `SEQ takes ${OCTETS_OR_LIST}, not a detached Uint8Array`),
-    twoOctets: at('/v', `TUPLEARRAY takes ${OCTETS_OR_LIST}, not a detached Uint8Array`),
+    ...Object.fromEntries(OCTETS.map((name) => [name, at('/v', `${COLUMNS[name][1]}, not a detached Uint8Array`)])),
   }],
   ['Uint8Array beyond its buffer', cutArray(Uint8Array), 'Uint8Array', {
-    BYTES: at('/v', 'BYTES takes bytes or hexadecimal digits, not a detached Uint8Array'),
-    octets: at('/v', `SEQ takes ${OCTETS_OR_LIST}, not a detached Uint8Array`),
-    twoOctets: at('/v', `TUPLEARRAY takes ${OCTETS_OR_LIST}, not a detached Uint8Array`),
+    ...Object.fromEntries(OCTETS.map((name) => [name, at('/v', `${COLUMNS[name][1]}, not a detached Uint8Array`)])),
   }],
   ['detached ArrayBuffer', detached(new ArrayBuffer(2)), 'ArrayBuffer', {
-    BYTES: at('/v', 'BYTES takes bytes or hexadecimal digits, not a detached ArrayBuffer'),
-    octets: at('/v', `SEQ takes ${OCTETS_OR_LIST}, not a detached ArrayBuffer`),
-    twoOctets: at('/v', `TUPLEARRAY takes ${OCTETS_OR_LIST}, not a detached ArrayBuffer`),
+    ...Object.fromEntries(OCTETS.map((name) => [name, at('/v', `${COLUMNS[name][1]}, not a detached ArrayBuffer`)])),
   }],
   ...[Int8Array, Int16Array, Uint16Array, Int32Array, Uint32Array].map((IntegerArray) => [IntegerArray.name, IntegerArray.of(1, 2), IntegerArray.name, NUMBERS_1_2]),
   ...[BigInt64Array, BigUint64Array].map((IntegerArray) => [IntegerArray.name, IntegerArray.of(1n, 2n), IntegerArray.name, NUMBERS_1_2]),
   ['Int8Array of -1', Int8Array.of(-1, 2), 'Int8Array', {
-    octets: 'BadNumber', twoOctets: 'BadNumber', listU16: 'BadNumber', twoU16: 'BadNumber', listI8: '02ff02',
+    ...eachOctet('/v/0', "U8 doesn't hold -1"), listU16: 'BadNumber', twoU16: 'BadNumber', listI8: '02ff02',
     listI64: '02ffffffffffffffff0200000000000000',
   }],
-  ['BigUint64Array of 2**63', BigUint64Array.of(2n ** 63n, 2n), 'BigUint64Array', eachColumn(LISTS, 'BadNumber')],
+  ['BigUint64Array of 2**63', BigUint64Array.of(2n ** 63n, 2n), 'BigUint64Array', {
+    ...eachColumn(LISTS, 'BadNumber'), ...eachOctet('/v/0', "U8 doesn't hold 9223372036854775808"),
+  }],
   ['subclass of Uint16Array that lies', lying(Uint16Array, 1, 2), 'Uint16Array', NUMBERS_1_2],
   ['empty Uint16Array', new Uint16Array(), 'Uint16Array', {
-    ...eachColumn(['octets', 'listI8', 'listU16', 'listI64'], '00'), ...eachColumn(['twoOctets', 'twoU16'], 'BadShape'),
+    ...eachColumn(['BYTES', 'octets', 'listI8', 'listU16', 'listI64'], '00'), ...eachColumn(['twoOctets', 'address', 'twoU16'], 'BadShape'),
   }],
   ...[['detached', detached(Uint16Array.of(1, 2))], ['cut', cutArray(Uint16Array)]].map(([what, array]) => [`${what} Uint16Array`, array, 'Uint16Array',
     Object.fromEntries(LISTS.map((name) => [name, at('/v', `${COLUMNS[name][1]}, not a detached Uint16Array`)])),
@@ -270,12 +324,12 @@ const ROWS = [
   ['SharedArrayBuffer', new SharedArrayBuffer(2), 'SharedArrayBuffer', {}],
   ['DataView', new DataView(new ArrayBuffer(2)), 'DataView', {}],
   ['WebAssembly.Memory', new WebAssembly.Memory({ initial: 1 }), 'WebAssembly.Memory', {}],
-  ['Map', new Map([['a', 1]]), 'Map', { mapSTR: '01016101', mapU8: 'BadNumber' }],
-  ['Map of numbers', new Map([[2, 1], [1n, '3']]), 'Map', { mapU8: '0201030201', mapSTR: at('/v/0/0', 'STR takes a string, not number') }],
-  ['Map with a key twice', new Map([[1, 1], ['1', 2]]), 'Map', { mapU8: 'RepeatedKey', mapSTR: at('/v/0/0', 'STR takes a string, not number') }],
+  ['Map', new Map([['a', 1]]), 'Map', { mapSTR: '01016101', mapU8: KEY_OF_U8 }],
+  ['Map of numbers', new Map([[2, 1], [1n, 3n]]), 'Map', { mapU8: '0201030201', mapSTR: at('/v/0/0', 'STR takes a string, not number') }],
+  ['Map with a key twice', new Map([[1, 1], [1n, 2]]), 'Map', { mapU8: 'RepeatedKey', mapSTR: at('/v/0/0', 'STR takes a string, not number') }],
   ['empty Map', new Map(), 'Map', { mapU8: '00', mapSTR: '00' }],
   ['Map with a bad value', new Map([['a', 1], ['b', true]]), 'Map', {
-    mapSTR: at('/v/1/1', 'U8 takes an integer, not boolean'), mapU8: at('/v/1/1', 'U8 takes an integer, not boolean'),
+    mapSTR: at('/v/1/1', 'U8 takes an integer, not boolean'), mapU8: KEY_OF_U8,
   }],
   ['Set', new Set([1, 2]), 'Set', {}],
   ['WeakMap', new WeakMap(), 'WeakMap', {}],
@@ -297,38 +351,45 @@ const ROWS = [
   ['{ Circle: 7 }', { Circle: 7 }, 'Object', { ...OTHER_MEMBERS, Shape: '0107' }],
   ['{ Box: [1, 2] }', { Box: [1, 2] }, 'Object', { ...OTHER_MEMBERS, Shape: '020102' }],
   ['{ Box: bytes }', { Box: Uint8Array.of(1, 2) }, 'Object', { ...OTHER_MEMBERS, Shape: at('/v/Box', 'Shape::Box takes an array, not Uint8Array') }],
-  ['{ Named: .. }', { Named: { a: '1' } }, 'Object', { ...OTHER_MEMBERS, Shape: '0301' }],
+  ['{ Named: .. }', { Named: { a: 1 } }, 'Object', { ...OTHER_MEMBERS, Shape: '0301' }],
   ['{ Named: Map }', { Named: new Map([['a', 1]]) }, 'Object', { ...OTHER_MEMBERS, Shape: at('/v/Named', 'Shape::Named takes an object, not Map') }],
   ['{ Dot: null, Circle: 7 }', { Dot: null, Circle: 7 }, 'Object', { ...OTHER_MEMBERS, Shape: 'BadShape' }],
   ['a half in a name', { 'a\ud800': 1 }, 'Object', Object.fromEntries(['Empty', 'Point', 'option', 'optionMap', ...EXACT_OPTIONS, 'Shape'].map((name) => [
-    name, at('/v', `${COLUMNS[name][1]}, not one with half of a surrogate pair in a name`),
+    name, at('/v', `${COLUMNS[name][1]}, not one with a lone surrogate in a name`),
   ]))],
   ['own __proto__', JSON.parse('{"__proto__":1}'), 'Object', OTHER_MEMBERS],
   ['without a prototype', Object.assign(Object.create(null), { a: 1 }), 'Object', MEMBER_A],
-  ['inherited members', Object.create({ a: 1 }), 'Object', NO_MEMBERS],
-  ['hidden members', Object.defineProperty({}, 'a', { value: 1 }), 'Object', NO_MEMBERS],
-  ['members by symbols', { [Symbol('a')]: 1 }, 'Object', NO_MEMBERS],
+  ['inherited members', Object.create({ a: 1 }), 'Object', NOT_PLAIN],
+  ['hidden members', Object.defineProperty({}, 'a', { value: 1 }), 'Object', NOT_PLAIN],
+  ['members by symbols', { [Symbol('a')]: 1 }, 'Object', NOT_PLAIN],
+  ['class instance without members', new (class Foo {})(), 'Object', NOT_PLAIN],
+  ['class instance with accessors', new (class { #a = 1; get a() { return this.#a; } })(), 'Object', NOT_PLAIN],
+  ['inherited from no prototype', Object.create(Object.assign(Object.create(null), { a: 1 })), 'Object', NOT_PLAIN],
+  ['{} without a prototype', Object.create(null), 'Object', NO_MEMBERS],
+  ['{} of another realm', runInNewContext('({})'), 'Object', NO_MEMBERS],
+  ['Proxy of {}', new Proxy({}, {}), 'Object', NO_MEMBERS],
+  ['Proxy of a class instance', new Proxy(new (class Foo {})(), {}), 'Object', NOT_PLAIN],
   ['class instance with toJSON', new Instance(), 'Object', MEMBER_A],
   ['own toJSON', { a: 1, toJSON: () => 5 }, 'Object', { ...OTHER_MEMBERS, Point: 'UnknownField', Shape: 'BadShape' }],
   ['valueOf and toString', { valueOf: () => 5, toString: () => '5' }, 'Object', { ...OTHER_MEMBERS, Shape: 'BadShape' }],
-  ['Symbol.toPrimitive', { [Symbol.toPrimitive]: () => 5 }, 'Object', NO_MEMBERS],
-  ['Symbol.iterator', { *[Symbol.iterator]() { yield 1; } }, 'Object', NO_MEMBERS],
+  ['Symbol.toPrimitive', { [Symbol.toPrimitive]: () => 5 }, 'Object', NOT_PLAIN],
+  ['Symbol.iterator', { *[Symbol.iterator]() { yield 1; } }, 'Object', NOT_PLAIN],
   ['array-like', { 0: 1, 1: 2, length: 2 }, 'Object', { ...OTHER_MEMBERS, Shape: 'BadShape' }],
   ['getter', { get a() { return 1; } }, 'Object', MEMBER_A],
   ['Proxy of an object', new Proxy({ a: 1 }, {}), 'Object', MEMBER_A],
   ['Proxy of an array', new Proxy([1, 2], {}), 'Array', ARRAY_1_2],
   ['Proxy of a Map', new Proxy(new Map([['a', 1]]), {}), 'Map', {}],
   ['Proxy of bytes', new Proxy(Uint8Array.of(1, 2), {}), 'Object', { ...OTHER_MEMBERS, Shape: 'BadShape' }],
-  ['prototype of bytes', Object.create(Uint8Array.prototype), 'Object', NO_MEMBERS],
+  ['prototype of bytes', Object.create(Uint8Array.prototype), 'Object', NOT_PLAIN],
   ['prototype of buffers', Object.create(ArrayBuffer.prototype), 'ArrayBuffer', {}],
   ['prototype of maps', Object.create(Map.prototype), 'Map', {}],
   ['bytes of another realm', runInNewContext('Uint8Array.of(1, 2)'), 'Uint8Array', BYTES_0102],
   ['buffer of another realm', runInNewContext('Uint8Array.of(1, 2).buffer'), 'ArrayBuffer', BYTES_0102],
   ['array of another realm', runInNewContext('[1, 2]'), 'Array', ARRAY_1_2],
-  ['map of another realm', runInNewContext("new Map([['a', 1]])"), 'Map', { mapSTR: '01016101', mapU8: 'BadNumber' }],
+  ['map of another realm', runInNewContext("new Map([['a', 1]])"), 'Map', { mapSTR: '01016101', mapU8: KEY_OF_U8 }],
   ['object of another realm', runInNewContext('({ a: 1 })'), 'Object', MEMBER_A],
   ['date of another realm', runInNewContext('new Date(0)'), 'Date', {}],
-  ['subclass of Map', new (class extends Map { entries() { return [['b', 2]].values(); } [Symbol.iterator]() { return [['c', 3]].values(); } })([['a', 1]]), 'Map', { mapSTR: '01016101', mapU8: 'BadNumber' }],
+  ['subclass of Map', new (class extends Map { entries() { return [['b', 2]].values(); } [Symbol.iterator]() { return [['c', 3]].values(); } })([['a', 1]]), 'Map', { mapSTR: '01016101', mapU8: KEY_OF_U8 }],
   ['subclass of Array', (class extends Array { *[Symbol.iterator]() { yield 9; } }).of(1, 2), 'Array', ARRAY_1_2],
   ['other tag', { a: 1, [Symbol.toStringTag]: 'Payment' }, 'Payment', {}],
   ['Promise', Promise.resolve(1), 'Promise', {}],
@@ -353,9 +414,9 @@ function isExpected(outcome, column, found, cell) {
   if (/^([0-9a-f]{2})*$/.test(cell ?? '-')) return assert.equal(outcome, cell);
   assert.ok(outcome instanceof BcsError, String(outcome));
   if (typeof cell === 'string') return assert.deepEqual([outcome.kind, outcome.reason], ['text', cell]);
-  const { pointer, expected } = cell ?? at('/v', `${COLUMNS[column][1]}, not ${found}`);
-  assert.deepEqual({ ...outcome }, { name: 'BcsError', kind: 'value', reason: 'WrongType', place: undefined, pointer, expected });
-  assert.equal(outcome.message, `value refused: WrongType at ${pointer}: ${expected}`);
+  const rejected = cell ?? at('/v', `${COLUMNS[column][1]}, not ${found}`);
+  assert.deepEqual({ ...outcome }, { name: 'BcsError', kind: 'value', reason: 'WrongType', place: undefined, ...rejected });
+  assert.equal(outcome.message, `refused: WrongType at ${rejected.at}: ${rejected.detail}`);
 }
 
 /** An option of the value of a cell: its bytes, or its rejection one member deeper. */
@@ -363,8 +424,13 @@ function cellOfOption(inner, found, cell) {
   if (found === 'undefined') return undefined;
   if (/^([0-9a-f]{2})*$/.test(cell ?? '-')) return `01${cell}`;
   if (typeof cell === 'string') return cell;
-  const { pointer, expected } = cell ?? at('/v', `${COLUMNS[inner][1]}, not ${found}`);
-  return at(pointer.replace('/v', '/v/some'), expected);
+  const rejected = cell ?? at('/v', `${COLUMNS[inner][1]}, not ${found}`);
+  return at(rejected.at.replace('/v', '/v/some'), rejected.detail);
+}
+
+/** What a rejection of this value says. An address is a string, so there the string itself is shown. */
+function foundAt(column, value, found) {
+  return column === 'address' && typeof value === 'string' ? JSON.stringify(value) : found;
 }
 
 function cellAt(column, found, cells) {
@@ -381,7 +447,7 @@ test('every type at every format', () => {
       const cell = cellAt(column, found, cells);
       const outcome = outcomeOf(column, value);
       try {
-        isExpected(outcome, column, found, cell);
+        isExpected(outcome, column, foundAt(column, value, found), cell);
       } catch (error) {
         error.message = `${name} at ${column}: ${error.message}`;
         throw error;
@@ -395,7 +461,7 @@ test('every type at every format', () => {
 test('billions of holes are rejected at formats that no value has', () => {
   const empty = bcs.registry('{}');
   for (const format of ['F32', 'F64', 'CHAR']) {
-    const rejected = { kind: 'value', reason: 'WrongType', pointer: '/1000000' };
+    const rejected = { kind: 'value', reason: 'WrongType', at: '/1000000' };
     assert.throws(() => empty.encode(`{"SEQ":"${format}"}`, new Array(2 ** 32 - 1)), rejected);
   }
 });
@@ -404,18 +470,78 @@ test('no bytes, and no numbers, come from the names and numbers of other types i
   const payment = bcs.registry('{"P":{"STRUCT":[{"amount":"U64"},{"to":"STR"}]}}');
   const bytes = Uint8Array.of(0x88, 0x13, 0, 0, 0, 0, 0, 0);
   assert.throws(() => payment.encode('P', { amount: bytes, to: 'bob' }), {
-    name: 'BcsError', kind: 'value', pointer: '/amount', expected: 'U64 takes an integer, not Uint8Array',
-    message: 'value refused: WrongType at /amount: U64 takes an integer, not Uint8Array',
+    name: 'BcsError', kind: 'value', at: '/amount', detail: 'U64 takes an integer, not Uint8Array',
+    message: 'refused: WrongType at /amount: U64 takes an integer, not Uint8Array',
   });
-  assert.throws(() => payment.encode('P', { amount: 5000, to: Buffer.from('bob') }), { pointer: '/to', expected: 'STR takes a string, not Uint8Array' });
-  assert.throws(() => payment.encode('P', 7), { message: 'value refused: WrongType at the whole value: P takes an object, not number' });
+  assert.throws(() => payment.encode('P', { amount: 5000, to: Buffer.from('bob') }), { at: '/to', detail: 'STR takes a string, not Uint8Array' });
+  assert.throws(() => payment.encode('P', 7), { message: 'refused: WrongType: P takes an object, not number' });
   assert.equal(hexOf(payment.encode('P', { to: 'bob', amount: 5000 })), '881300000000000003626f62');
+});
+
+// A string that a program may have where bytes are wanted, and that is hexadecimal by chance.
+const MEMOS = ['1234', 'AbCd', 'cafe', '000000', '69b71d', '', 'hello'];
+
+test('a string is never bytes, whatever is in it', () => {
+  const note = bcs.registry('{"Note":{"STRUCT":[{"memo":{"SEQ":"U8"}},{"data":"BYTES"},{"id":{"TUPLEARRAY":{"CONTENT":"U8","SIZE":2}}}]}}');
+  const right = { memo: [], data: [], id: [1, 2] };
+  for (const memo of MEMOS) {
+    for (const [name, takes] of [['memo', 'SEQ'], ['data', 'BYTES'], ['id', 'TUPLEARRAY']]) {
+      const rejected = { kind: 'value', reason: 'WrongType', at: `/${name}`, detail: `${takes} takes bytes, or hex(…) for digits, not string` };
+      assert.throws(() => note.encode('Note', { ...right, [name]: memo }), rejected);
+      assert.throws(() => note.equal('Note', right, { ...right, [name]: memo }), rejected);
+      assert.throws(() => note.normalise('Note', { ...right, [name]: memo }), rejected);
+    }
+  }
+  assert.equal(hexOf(note.encode('Note', { ...right, memo: hex('1234') })), '021234000102');
+  assert.equal(hexOf(note.encodeText('Note', '{"memo":"1234","data":"","id":"0102"}')), '021234000102');
+});
+
+test('names of the containers that are addresses and integers of 256 bits', () => {
+  const WORD = { NEWTYPESTRUCT: { TUPLEARRAY: { CONTENT: 'U8', SIZE: 32 } } };
+  const text = JSON.stringify({ AccountAddress: WORD, U256: WORD, address: WORD, u256: { NEWTYPESTRUCT: 'U64' }, Short: { NEWTYPESTRUCT: { TUPLEARRAY: { CONTENT: 'U8', SIZE: 31 } } } });
+  const [one, names] = [`${'00'.repeat(31)}01`, { address: ['AccountAddress'], u256: ['U256'] }];
+  const [plain, named] = [bcs.registry(text), bcs.registry(text, { names })];
+  assert.equal(hexOf(named.encode('AccountAddress', '0x1')), one);
+  assert.equal(named.decode('AccountAddress', hex(one)), `0x${one}`);
+  assert.equal(named.withLimits({ depth: 9 }).decode('AccountAddress', hex(one)), `0x${one}`);
+  assert.equal(named.decode('U256', named.encode('U256', 258)), 258n);
+  assert.deepEqual(named.encode('U256', 258), Uint8Array.of(2, 1, ...new Array(30).fill(0)));
+  assert.deepEqual(named.decode({ OPTION: { TYPENAME: 'AccountAddress' } }, hex(`01${one}`), { plainOptions: true }), `0x${one}`);
+  assert.equal(named.decodeText('AccountAddress', hex(one)), `"${one}"`);
+  assert.equal(hexOf(named.encodeText('AccountAddress', `"${one}"`)), one);
+  // (the names that are given take the place of the default ones; of i256 there are still those)
+  assert.deepEqual(named.decode('address', hex(one)), hex(one));
+  assert.equal(plain.decode('address', hex(one)), `0x${one}`);
+  assert.deepEqual(plain.decode('AccountAddress', hex(one)), hex(one));
+  assert.deepEqual([plain, bcs.registry(text, { names: { address: [] } })].map((registry) => registry.decode('u256', hex('0700000000000000'))), [7n, 7n]);
+  assert.throws(() => plain.encode('AccountAddress', '0x1'), { at: '', detail: 'TUPLEARRAY takes bytes, or hex(…) for digits, not string' });
+  for (const wrong of [
+    { address: ['Account'] }, { address: ['u256'] }, { u256: ['Short'] }, { address: ['toString'] }, { address: ['AccountAddress'], u256: ['AccountAddress'] },
+    { address: ['AccountAddress', 'AccountAddress'] }, { u128: ['U256'] }, { __proto__: null, toString: [] }, { address: 'AccountAddress' }, { address: [7] }, [['U256']], null, 7, 'U256',
+  ]) assert.throws(() => bcs.registry(text, { names: wrong }), TypeError, JSON.stringify(wrong));
+});
+
+test('a value that holds others many times ends at the limit on nodes, or at 1 GiB of JSON', () => {
+  const shared = bcs.registry('{"T":{"NEWTYPESTRUCT":{"SEQ":{"TYPENAME":"T"}}},"E":{"STRUCT":[]}}');
+  const many = Array.from({ length: 60 }).reduce((inner) => [inner, inner], []);
+  const start = performance.now();
+  assert.throws(() => shared.withLimits({ nodes: 100_000 }).encode('T', many), { kind: 'value', reason: 'TooManyNodes' });
+  const long = new Array(1000).fill(new Array(1000).fill('x'.repeat(2000)));
+  assert.throws(() => shared.encode({ SEQ: { SEQ: 'STR' } }, long), { kind: 'value', reason: 'TooLong', detail: 'the JSON of the value is above 1 GiB' });
+  assert.ok(performance.now() - start < 30_000, 'half a minute');
+  // (a list of three containers has a node for itself and two for each)
+  const units = { SEQ: { TYPENAME: 'E' } };
+  assert.equal(hexOf(shared.withLimits({ nodes: 7 }).encode(units, [{}, {}, {}])), '03');
+  assert.throws(() => shared.withLimits({ nodes: 6 }).encode(units, [{}, {}, {}]), { reason: 'TooManyNodes' });
+  const row = { MAP: { KEY: 'U8', VALUE: { OPTION: { TUPLE: ['U8'] } } } };
+  assert.equal(hexOf(shared.withLimits({ nodes: 5 }).encode(row, [[1, { some: [2] }]])), '01010102');
+  assert.throws(() => shared.withLimits({ nodes: 4 }).encode(row, [[1, { some: [2] }]]), { reason: 'TooManyNodes' });
 });
 
 test('pointers have the escapes of JSON Pointer', () => {
   const odd = bcs.registry(JSON.stringify({ A: { STRUCT: [{ 'a/~b': { MAP: { KEY: 'U8', VALUE: { OPTION: { TYPENAME: 'A' } } } } }] } }));
   const inner = { 'a/~b': new Map([[1, null], [2, { some: { 'a/~b': [[1, { some: 'x' }]] } }]]) };
-  assert.throws(() => odd.encode('A', inner), { pointer: '/a~1~0b/1/1/some/a~1~0b/0/1/some', expected: 'A takes an object, not string' });
+  assert.throws(() => odd.encode('A', inner), { at: '/a~1~0b/1/1/some/a~1~0b/0/1/some', detail: 'A takes an object, not string' });
 });
 
 test('values within themselves, deep ones and formats without an end are rejected at once', () => {
@@ -430,8 +556,8 @@ test('values within themselves, deep ones and formats without an end are rejecte
   assert.equal(hexOf(deep.encode('T', nested(100))), '01'.repeat(99) + '00');
   for (const count of [101, 102, 100_000]) assert.throws(() => deep.encode('T', nested(count)), isTooNested);
   const words = 'arrays and objects nest more than 100 deep';
-  assert.throws(() => deep.encode('T', nested(101)), { pointer: '/0'.repeat(100), expected: words });
-  assert.throws(() => deep.encodeText('T', '['.repeat(101) + ']'.repeat(101)), { reason: 'TooNested', expected: words });
+  assert.throws(() => deep.encode('T', nested(101)), { at: '/0'.repeat(100), detail: words });
+  assert.throws(() => deep.encodeText('T', '['.repeat(101) + ']'.repeat(101)), { reason: 'TooNested', detail: words });
   assert.throws(() => deep.encode('X', null), (error) => error.kind === 'text' && error.reason === 'TooDeep');
   let reads = 0;
   const endless = new Proxy([], { get: (_, name) => (name === 'length' ? 1 : (reads++, endless)) });
@@ -508,7 +634,7 @@ class Drawn {
     const [[kind, inner]] = Object.entries(format);
     switch (kind) {
       case 'TYPENAME':
-        return this.container(this.containers[inner]);
+        return inner === 'address' ? address() : inner in WIDEST ? integer(inner) : this.container(this.containers[inner]);
       case 'OPTION':
         return below(2) ? same(null) : this.members([['some', inner]]);
       case 'SEQ':
@@ -531,14 +657,14 @@ class Drawn {
       case 'STR':
         return same(many(below(3), () => oneOf(TEXTS)).join(''));
       case 'BYTES':
-        return octets(many(below(5), () => below(256)), false);
+        return octets(many(below(5), () => below(256)));
       default:
         return integer(word);
     }
   }
 
   list(format, count) {
-    if (format === 'U8') return octets(many(count, () => below(256)), true);
+    if (format === 'U8') return octets(many(count, () => below(256)));
     return paired(many(count, () => this.value(format)));
   }
 
@@ -584,26 +710,34 @@ class Drawn {
 const same = (value) => ({ given: value, taken: value });
 const paired = (values) => ({ given: values.map(({ given }) => given), taken: values.map(({ taken }) => taken) });
 
-function octets(numbers, isList) {
+function octets(numbers) {
   const given = Uint8Array.from(numbers);
-  const ways = [given, given.buffer, Buffer.from(numbers), Uint8ClampedArray.from(numbers), hexOf(given), hexOf(given).toUpperCase()];
-  return { given, taken: oneOf(isList ? [...ways, numbers, Uint16Array.from(numbers)] : ways) };
+  const ways = [given, given.buffer, Buffer.from(numbers), Uint8ClampedArray.from(numbers), hex(hexOf(given).toUpperCase()), numbers];
+  return { given, taken: oneOf([...ways, numbers.map(BigInt), Uint16Array.from(numbers), BigInt64Array.from(numbers.map(BigInt))]) };
+}
+
+function address() {
+  const numbers = many(below(33), () => below(256));
+  const bytes = Uint8Array.from([...new Array(32 - numbers.length).fill(0), ...numbers]);
+  const digits = hexOf(bytes);
+  const ways = [bytes, [...bytes], `0x${digits}`, `0x${digits.toUpperCase()}`, `0x${digits.replace(/^0{1,63}/, '')}`];
+  return { given: `0x${digits}`, taken: oneOf(ways) };
 }
 
 function integer(word) {
-  const [size, isSigned] = INTEGERS[word];
-  const bits = BigInt.asUintN(below(8 * size + 1), many(4, () => BigInt(below(2 ** 32))).reduce((high, low) => (high << 32n) | low));
+  const [size, isSigned] = INTEGERS[word] ?? WIDEST[word];
+  const bits = BigInt.asUintN(below(8 * size + 1), many(8, () => BigInt(below(2 ** 32))).reduce((high, low) => (high << 32n) | low));
   const number = isSigned ? BigInt.asIntN(8 * size, bits) : bits;
   const isSafe = Number.isSafeInteger(Number(number));
-  return { given: size < 8 ? Number(number) : number, taken: oneOf([number, String(number), isSafe ? Number(number) : number]) };
+  return { given: size < 8 ? Number(number) : number, taken: oneOf([number, isSafe ? Number(number) : number]) };
 }
 
 test('random values there and back', () => {
   let count = 0;
-  for (let i = 0; i < 150; i++) {
+  for (let i = 0; i < 500; i++) {
     const containers = drawnRegistry();
     const drawnIn = bcs.registry(JSON.stringify(containers));
-    for (let j = 0; j < 40; j++, count++) {
+    for (let j = 0; j < 100; j++, count++) {
       const format = below(2) ? { TYPENAME: oneOf(Object.keys(containers)) } : drawnFormat(3);
       const { given, taken } = new Drawn(containers).value(format);
       const asked = typeof format === 'string' ? JSON.stringify(format) : format;
@@ -612,10 +746,11 @@ test('random values there and back', () => {
       const bytes = Buffer.from(digits, 'hex');
       assert.deepEqual(drawnIn.decode(asked, bytes), given);
       assert.equal(hexOf(drawnIn.encode(asked, drawnIn.decode(asked, bytes))), digits);
+      assert.equal(hexOf(drawnIn.encode(asked, drawnIn.decode(asked, bytes, { plainOptions: true }))), digits);
     }
     drawnIn.close();
   }
-  assert.equal(count, 6000);
+  assert.equal(count, 50_000);
 });
 
 // The encoding of docs/FORMAT.md, as digits.
@@ -634,7 +769,8 @@ function encoded(containers, format, value) {
   const [[kind, inner]] = Object.entries(format);
   switch (kind) {
     case 'TYPENAME':
-      return encodedContainer(containers[inner], value, part);
+      if (inner in WIDEST) return littleEndian(value, 32);
+      return inner === 'address' ? value.slice(2) : encodedContainer(containers[inner], value, part);
     case 'OPTION':
       return value === null ? '00' : `01${part(inner, value.some)}`;
     case 'SEQ':
