@@ -83,6 +83,7 @@ impl Told {
             ErrorKind::Growth(_) | ErrorKind::Text(_) | ErrorKind::Bytes(_) | ErrorKind::TooNested => "refused",
             ErrorKind::Path => "path",
             ErrorKind::Memory => "memory",
+            ErrorKind::Stack => "stack",
             _ => panic!("no status has {error}"),
         };
         Told { status, fault: error.name(), place: error.place().unwrap_or(0), ..Told::default() }
@@ -148,7 +149,9 @@ fn place(refused: Option<Error>, what: &str) -> Told {
         return Told::yes_or_no(false);
     };
     let told = match (error.kind(), what) {
-        (ErrorKind::Format(_) | ErrorKind::Limits | ErrorKind::Memory, _) => return Told::error(error, "registry"),
+        (ErrorKind::Format(_) | ErrorKind::Limits | ErrorKind::Memory | ErrorKind::Stack, _) => {
+            return Told::error(error, "registry");
+        }
         (_, "where") => error.pointer(),
         (_, "wanted") => error.expected(),
         _ => panic!("nothing is told that is named {what}"),

@@ -53,7 +53,9 @@ pub enum ErrorKind {
     Path,
     /// The format has no such example.
     Example(ExampleFault),
-    /// Memory ran out, or the thread has too little stack left for a value that nests so deep.
+    /// The thread has too little stack left for a value that nests so deep. On a thread with more stack the call may succeed.
+    Stack,
+    /// An allocation failed.
     Memory,
     /// A value of a `serde` type isn't of the format, or a value of the format isn't one of the type: with the feature
     /// `serde_json`.
@@ -111,7 +113,7 @@ impl ErrorKind {
             ErrorKind::TooNested => Some("TooNested"),
             ErrorKind::Path => Some("BadPath"),
             ErrorKind::Example(fault) => Some(fault.name()),
-            ErrorKind::Limits | ErrorKind::Memory | ErrorKind::Type => None,
+            ErrorKind::Limits | ErrorKind::Stack | ErrorKind::Memory | ErrorKind::Type => None,
         }
     }
 
@@ -134,6 +136,7 @@ impl ErrorKind {
             ErrorKind::Bytes(_) | ErrorKind::TooNested => "the bytes are refused",
             ErrorKind::Path => "the path is refused",
             ErrorKind::Example(_) => "there is no example",
+            ErrorKind::Stack => "the thread has too little stack left",
             ErrorKind::Memory => "memory ran out",
             ErrorKind::Type => "the type doesn't fit",
         }
@@ -146,6 +149,7 @@ impl ErrorKind {
             sys::LIMITS => Some(ErrorKind::Limits),
             sys::REFUSED => refusal(answer),
             sys::MEMORY => Some(ErrorKind::Memory),
+            sys::STACK => Some(ErrorKind::Stack),
             sys::PATH => Some(ErrorKind::Path),
             _ => None,
         };
@@ -186,7 +190,7 @@ impl fmt::Display for ErrorKind {
                 "{what}: BadPath: a path is . or steps with / between them: \
                  a number, inner, or key: and hexadecimal digits"
             ),
-            ErrorKind::Memory | ErrorKind::Type => f.write_str(what),
+            ErrorKind::Stack | ErrorKind::Memory | ErrorKind::Type => f.write_str(what),
         }
     }
 }
@@ -237,7 +241,7 @@ impl PartialEq<ErrorKind> for Error {
 impl From<crate::mismatch::Mismatch> for Error {
     fn from(mismatch: crate::mismatch::Mismatch) -> Error {
         let told = Told { pointer: mismatch.pointer, expected: mismatch.words };
-        Error { kind: mismatch.kind, told: (mismatch.kind != ErrorKind::Memory).then(|| Box::new(told)) }
+        Error { kind: mismatch.kind, told: (mismatch.kind != ErrorKind::Stack).then(|| Box::new(told)) }
     }
 }
 

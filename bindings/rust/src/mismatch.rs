@@ -33,7 +33,7 @@ impl Mismatch {
 
     /// The thread has too little stack for a value that nests so deep.
     pub(crate) fn out_of_stack() -> Mismatch {
-        Mismatch { kind: ErrorKind::Memory, ..Mismatch::new("") }
+        Mismatch { kind: ErrorKind::Stack, ..Mismatch::new("") }
     }
 
     /// The same of a member or an element. The library reports `TooNested` for the whole value, so this does, too.

@@ -15,8 +15,8 @@ use std::sync::Arc;
 ///
 /// Any number of threads may use one registry at the same time, and a clone of it costs next to nothing.
 ///
-/// The default [`Limits`] allow 16 nodes for each byte that a call reads and 1,000,000 more. Values of the chains' registries
-/// stay far below that; a few bytes that stand for millions of empty values are rejected as `TooManyNodes`.
+/// The default [`Limits`] allow 16 nodes per byte that a call reads, plus 65,536. Values of the chains' registries stay far below
+/// that; a few bytes that encode millions of empty values are rejected as `TooManyNodes`.
 #[derive(Clone)]
 pub struct Registry {
     open: Arc<Open>,
@@ -240,7 +240,7 @@ impl Registry {
         let (format, bytes) = (format.into(), bytes.as_ref());
         let length = self.scan(&format, bytes)?;
         // (the default limit depends on all bytes, so both steps get the same one)
-        let nodes = Some(self.limits.nodes_of_bytes(bytes.len()));
+        let nodes = Some(self.nodes_of_bytes(bytes.len()));
         let limited = self.with_limits(Limits { nodes, ..self.limits });
         Ok((limited.decode(&format, &bytes[..length])?, length))
     }
@@ -473,7 +473,12 @@ impl Registry {
     /// The parameters of a call that reads these bytes.
     fn of_bytes<'a>(&self, format: &'a Format, bytes: &[u8]) -> Question<'a> {
         let Limits { depth, .. } = self.limits;
-        Question { format: format.as_json(), depth, nodes: self.limits.nodes_of_bytes(bytes.len()) }
+        Question { format: format.as_json(), depth, nodes: self.nodes_of_bytes(bytes.len()) }
+    }
+
+    /// How many nodes a value may have that is read from this many bytes.
+    fn nodes_of_bytes(&self, length: usize) -> u32 {
+        self.limits.nodes.unwrap_or_else(|| self.open.nodes_for(length))
     }
 }
 

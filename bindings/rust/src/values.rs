@@ -124,6 +124,6 @@ impl Registry {
 
     /// Whether the thread has stack left. Rust doesn't know, and the library does: no call succeeds without some of it.
     fn has_stack(&self) -> bool {
-        self.check(r#""UNIT""#) != Err(ErrorKind::Memory.into())
+        self.check(r#""UNIT""#) != Err(ErrorKind::Stack.into())
     }
 }

@@ -125,10 +125,10 @@ fn a_small_stack_is_no_crash() {
         let (encoded, decoded) = thread::scope(|scope| {
             thread::Builder::new().stack_size(kibibytes << 10).spawn_scoped(scope, calls).unwrap().join().unwrap()
         });
-        let memory = || ErrorKind::Memory.into();
+        let stack = || ErrorKind::Stack.into();
         if kibibytes < 1024 {
-            assert!([Ok(bytes), Err(&memory())].contains(&encoded.as_ref()), "{kibibytes} KiB: {encoded:?}");
-            assert!([Ok(links), Err(&memory())].contains(&decoded.as_ref()), "{kibibytes} KiB: {decoded:?}");
+            assert!([Ok(bytes), Err(&stack())].contains(&encoded.as_ref()), "{kibibytes} KiB: {encoded:?}");
+            assert!([Ok(links), Err(&stack())].contains(&decoded.as_ref()), "{kibibytes} KiB: {decoded:?}");
         } else {
             assert_eq!((encoded.as_ref(), decoded.as_ref()), (Ok(bytes), Ok(links)));
         }
@@ -153,9 +153,9 @@ fn a_small_stack_holds_no_variants() {
         let (encoded, decoded) = thread::scope(|scope| {
             thread::Builder::new().stack_size(kibibytes << 10).spawn_scoped(scope, calls).unwrap().join().unwrap()
         });
-        let memory = || ErrorKind::Memory.into();
-        assert!([Ok(bytes), Err(&memory())].contains(&encoded.as_ref()), "{kibibytes} KiB: {encoded:?}");
-        assert!([Ok(number), Err(&memory())].contains(&decoded.as_ref()), "{kibibytes} KiB: {decoded:?}");
+        let stack = || ErrorKind::Stack.into();
+        assert!([Ok(bytes), Err(&stack())].contains(&encoded.as_ref()), "{kibibytes} KiB: {encoded:?}");
+        assert!([Ok(number), Err(&stack())].contains(&decoded.as_ref()), "{kibibytes} KiB: {decoded:?}");
     }
 }
 

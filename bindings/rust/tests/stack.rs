@@ -64,10 +64,10 @@ fn a_small_stack_is_no_crash() {
                 (registry.scan("Chain", &bytes), part, registry.decode("Chain", &bytes))
             });
             let label = format!("{kibibytes} KiB, {level:?}");
-            assert!([Ok(length), Err(ErrorKind::Memory.into())].contains(&scanned), "{label}: {scanned:?}");
-            assert!([Ok(length), Err(ErrorKind::Memory.into())].contains(&part), "{label}: {part:?}");
+            assert!([Ok(length), Err(ErrorKind::Stack.into())].contains(&scanned), "{label}: {scanned:?}");
+            assert!([Ok(length), Err(ErrorKind::Stack.into())].contains(&part), "{label}: {part:?}");
             let decoded = decoded.unwrap_err();
-            assert!([ErrorKind::TooNested, ErrorKind::Memory].contains(&decoded.kind()), "{label}: {decoded}");
+            assert!([ErrorKind::TooNested, ErrorKind::Stack].contains(&decoded.kind()), "{label}: {decoded}");
         }
     }
 }
@@ -88,7 +88,7 @@ fn a_small_stack_is_enough_for_what_fits() {
             assert_eq!(registry.normalise("Chain", text(few)), Ok(text(few)), "{kibibytes} KiB");
             assert_eq!(registry.equal("Chain", text(few), text(few)), Ok(true), "{kibibytes} KiB");
             for call in [registry.encode("Chain", text(50)).map(drop), registry.decode("Chain", bytes(50)).map(drop)] {
-                assert!([Ok(()), Err(ErrorKind::Memory.into())].contains(&call), "{kibibytes} KiB: {call:?}");
+                assert!([Ok(()), Err(ErrorKind::Stack.into())].contains(&call), "{kibibytes} KiB: {call:?}");
             }
             // What is refused on every stack is refused for what it is.
             let error = registry.scan("Chain", [vec![1; 2], vec![2]].concat()).unwrap_err();

@@ -41,6 +41,26 @@ fn a_registry_moves_to_other_threads() {
     }
 }
 
+/// The registry is closed when its last owner drops it, which may be in any thread and between a refusal and its message.
+#[test]
+fn a_registry_stays_open_for_each_call() {
+    let expected = example_registry("sui_registry").decode("Coins", []).unwrap_err();
+    assert!(expected.expected().is_some());
+    for _ in 0..50 {
+        let registry = example_registry("sui_registry");
+        let threads: Vec<_> = (0..8)
+            .map(|_| {
+                let registry = registry.clone();
+                thread::spawn(move || registry.decode("Coins", []).unwrap_err())
+            })
+            .collect();
+        drop(registry);
+        for thread in threads {
+            assert_eq!(thread.join().unwrap(), expected);
+        }
+    }
+}
+
 #[test]
 fn types_go_between_threads() {
     fn goes<T: Send + Sync + 'static>() {}
