@@ -23,11 +23,11 @@ fn main() -> Result<(), Box<dyn Error>> {
 
     let damaged = std::fs::read(examples.join("aptos_transfer_damaged.json"))?;
     if let Err(error) = registry.encode("RawTransaction", damaged) {
-        println!("{} {}", named(error.name()), named(error.pointer()));
+        println!("{} {}", named(error.reason()), named(error.at()));
     }
     if let Err(error) = registry.decode("RawTransaction", &data[..100]) {
         let place = error.place().ok_or("no place")?;
-        println!("{} {place} {}", named(error.name()), named(error.pointer()));
+        println!("{} {place} {}", named(error.reason()), named(error.at()));
     }
     Ok(())
 }

@@ -86,7 +86,7 @@ impl Told {
             ErrorKind::Stack => "stack",
             _ => panic!("no status has {error}"),
         };
-        Told { status, fault: error.name(), place: error.place().unwrap_or(0), ..Told::default() }
+        Told { status, fault: error.reason(), place: error.place().unwrap_or(0), ..Told::default() }
     }
 }
 
@@ -149,11 +149,12 @@ fn place(refused: Option<Error>, what: &str) -> Told {
         return Told::yes_or_no(false);
     };
     let told = match (error.kind(), what) {
+        (ErrorKind::Registry(_), "where") if error.at() == Some("") => Some("the whole text"),
         (ErrorKind::Format(_) | ErrorKind::Limits | ErrorKind::Memory | ErrorKind::Stack, _) => {
             return Told::error(error, "registry");
         }
-        (_, "where") => error.pointer(),
-        (_, "wanted") => error.expected(),
+        (_, "where") => error.at(),
+        (_, "wanted") => error.at().map(|_| error.message()),
         _ => panic!("nothing is told that is named {what}"),
     };
     told.map_or(Told::yes_or_no(false), |words| Told::output(words.into()))

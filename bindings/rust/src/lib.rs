@@ -27,6 +27,7 @@ mod json;
 mod limits;
 #[cfg(feature = "serde_json")]
 mod mismatch;
+mod places;
 mod registry;
 #[cfg(feature = "serde_json")]
 mod serde_in;

@@ -16,7 +16,7 @@ pub struct Mismatch {
 
 impl Mismatch {
     pub(crate) fn new(words: impl fmt::Display) -> Mismatch {
-        Mismatch { kind: ErrorKind::Type, pointer: String::new(), words: words.to_string(), names_format: false }
+        Mismatch { kind: ErrorKind::Value, pointer: String::new(), words: words.to_string(), names_format: false }
     }
 
     /// The type has something that the format doesn't take.
@@ -38,7 +38,7 @@ impl Mismatch {
 
     /// The same of a member or an element. The library reports `TooNested` for the whole value, so this does, too.
     pub(crate) fn under(mut self, step: impl fmt::Display) -> Mismatch {
-        if self.kind == ErrorKind::Type {
+        if self.kind == ErrorKind::Value {
             let step = step.to_string().replace('~', "~0").replace('/', "~1");
             self.pointer.insert_str(0, &format!("/{step}"));
         }

@@ -56,7 +56,7 @@ impl Registry {
     }
 
     /// The bytes of a value of a `serde` type, by the format: each part has to be of the format's kind, and none is guessed.
-    /// Anything else is rejected with its JSON Pointer, as [`ErrorKind::Type`](crate::ErrorKind::Type). The README of this
+    /// Anything else is rejected with its JSON Pointer, as [`ErrorKind::Value`](crate::ErrorKind::Value). The README of this
     /// crate has a table of what each format takes.
     ///
     /// `serialize` is called with `is_human_readable` false, since registries have the binary form of types.
@@ -78,7 +78,7 @@ impl Registry {
     /// assert_eq!(registry.from_bytes::<Payment>("Payment", &bytes)?, payment);
     ///
     /// let error = registry.to_bytes("Payment", &("bob", 7)).unwrap_err();
-    /// assert_eq!(error.to_string(), "the type doesn't fit: STRUCT takes a struct, not a tuple");
+    /// assert_eq!(error.to_string(), "refused: WrongType: STRUCT takes a struct, not a tuple");
     /// # Ok::<(), bcs_proved::Error>(())
     /// ```
     pub fn to_bytes<T: Serialize + ?Sized>(&self, format: impl Into<Format>, value: &T) -> Result<Vec<u8>, Error> {
@@ -92,7 +92,7 @@ impl Registry {
     }
 
     /// The value whose bytes these are, all of them, as a `serde` type. A type of another kind than the format is rejected with
-    /// the JSON Pointer of the part, as [`ErrorKind::Type`](crate::ErrorKind::Type); so is one that leaves elements unread.
+    /// the JSON Pointer of the part, as [`ErrorKind::Value`](crate::ErrorKind::Value); so is one that leaves elements unread.
     ///
     /// ```
     /// use bcs_proved::{ErrorKind, Registry};
@@ -103,8 +103,8 @@ impl Registry {
     /// assert_eq!(registry.from_bytes::<(u8, u64)>(pair, bytes)?, (7, 8));
     ///
     /// let error = registry.from_bytes::<(u8, f64)>(pair, bytes).unwrap_err();
-    /// assert_eq!((error.kind(), error.pointer()), (ErrorKind::Type, Some("/1")));
-    /// assert_eq!(error.expected(), Some("U64 takes an integer, not an f64"));
+    /// assert_eq!((error.kind(), error.at()), (ErrorKind::Value, Some("/1")));
+    /// assert_eq!(error.message(), "U64 takes an integer, not an f64");
     /// # Ok::<(), bcs_proved::Error>(())
     /// ```
     pub fn from_bytes<T: DeserializeOwned>(

@@ -17,7 +17,7 @@ fn peak_memory() -> u64 {
 fn stops(registry: &Registry, format: &Format) -> Vec<Result<Stop, Error>> {
     // 65,616 nodes are the list and 65,615 values, so the value of this number is one too many. Finding that out reads the bytes
     // once more, with the same limits.
-    let rejected = |error: Error| match (error.kind(), error.pointer()) {
+    let rejected = |error: Error| match (error.kind(), error.at()) {
         (ErrorKind::Bytes(stop), Some("[65615]")) => Ok(stop),
         _ => Err(error),
     };
@@ -60,8 +60,8 @@ fn long_names_cost_little() {
     // 65,536 nodes, and 16 for each of the two bytes; names longer than 64 bytes divide them.
     for (length, allowed) in [(10, 2980), (64, 2980), (65, 2934), (1000, 190), (60_000, 3)] {
         let registry = units_with_names(length);
-        assert_eq!(registry.decode("List", structs(40_000)).unwrap_err().name(), Some("TooManyNodes"), "{length}");
-        assert_eq!(registry.scan("List", structs(allowed + 1)).unwrap_err().name(), Some("TooManyNodes"), "{length}");
+        assert_eq!(registry.decode("List", structs(40_000)).unwrap_err().reason(), Some("TooManyNodes"), "{length}");
+        assert_eq!(registry.scan("List", structs(allowed + 1)).unwrap_err().reason(), Some("TooManyNodes"), "{length}");
         assert!(registry.decode("List", structs(allowed)).unwrap().len() < 20 << 20, "{length}");
         #[cfg(feature = "serde_json")]
         drop(registry.decode_value("List", structs(allowed)).unwrap());
@@ -81,13 +81,13 @@ fn a_few_bytes_cost_little() {
     }
     // 3,000,000 units are more than the default allows for so few bytes, and any number may be allowed.
     let many = [0xc0, 0x8d, 0xb7, 0x01];
-    assert_eq!(registry.scan(units, many).unwrap_err().name(), Some("TooManyNodes"));
+    assert_eq!(registry.scan(units, many).unwrap_err().reason(), Some("TooManyNodes"));
     assert_eq!(registry.with_limits(Limits::STANDARD).scan(units, many), Ok(4));
     let enough = Limits { nodes: Some(3_000_001), ..Limits::default() };
     assert_eq!(registry.with_limits(enough).scan(units, many), Ok(4));
     // A smaller depth leaves the default of the nodes as it is.
     let shallow = Limits { depth: 10, ..Limits::default() };
-    assert_eq!(registry.with_limits(shallow).scan(units, many).unwrap_err().name(), Some("TooManyNodes"));
+    assert_eq!(registry.with_limits(shallow).scan(units, many).unwrap_err().reason(), Some("TooManyNodes"));
     assert!(start.elapsed() < Duration::from_secs(10), "it took {:?}", start.elapsed());
     assert!(peak_memory() < 256 << 10, "it took {} KiB", peak_memory());
 }

@@ -100,7 +100,7 @@ fn the_default_grows_with_the_bytes() {
         let nodes = 65_536 + 16 * input(octets, 0).len() as u32;
         let greatest = input(octets, nodes - 3);
         assert_eq!(plain().scan(units, &greatest), Ok(greatest.len()));
-        assert_eq!(plain().scan(units, input(octets, nodes - 2)).unwrap_err().name(), Some("TooManyNodes"));
+        assert_eq!(plain().scan(units, input(octets, nodes - 2)).unwrap_err().reason(), Some("TooManyNodes"));
         let bytes_and_more = [greatest.clone(), vec![0; 100]].concat();
         assert_eq!(plain().scan(units, bytes_and_more), Ok(greatest.len()));
     }
@@ -113,7 +113,7 @@ fn the_default_of_texts_is_the_greatest() {
     let text = format!("[null{}]", ",null".repeat(99_999));
     let encoded = plain().encode(units, &text).unwrap();
     assert_eq!(encoded, [0xa0, 0x8d, 0x06]);
-    assert_eq!(plain().decode(units, &encoded).unwrap_err().name(), Some("TooManyNodes"));
+    assert_eq!(plain().decode(units, &encoded).unwrap_err().reason(), Some("TooManyNodes"));
     let trusting = plain().with_limits(Limits::STANDARD);
     assert_eq!(trusting.decode(units, &encoded).unwrap(), text);
 }

@@ -32,9 +32,9 @@ fn a_value_nests_as_deep_as_its_json_may() {
     assert_eq!(chain().decode("Chain", &deepest).unwrap().matches('{').count(), 100);
     for levels in [101, 500, u32::MAX] {
         let error = chain().to_bytes("Chain", &Options(levels)).unwrap_err();
-        assert_eq!((error.kind(), error.pointer()), (ErrorKind::Text(TextFault::TooNested), Some("")), "{levels}");
+        assert_eq!((error.kind(), error.at()), (ErrorKind::Text(TextFault::TooNested), Some("")), "{levels}");
     }
-    assert_eq!(chain().from_bytes::<Value>("Chain", [1; 101]).unwrap_err().name(), Some("EndOfInput"));
+    assert_eq!(chain().from_bytes::<Value>("Chain", [1; 101]).unwrap_err().reason(), Some("EndOfInput"));
 }
 
 #[test]
@@ -44,7 +44,7 @@ fn a_smaller_depth_is_kept() {
     for levels in [3, 50, u32::MAX] {
         let error = shallow.to_bytes("Chain", &Options(levels)).unwrap_err();
         let place = Some("/some/some/some");
-        assert_eq!((error.kind(), error.pointer()), (ErrorKind::Text(TextFault::TooDeep), place), "{levels}");
+        assert_eq!((error.kind(), error.at()), (ErrorKind::Text(TextFault::TooDeep), place), "{levels}");
     }
     let wrong = chain().with_limits(Limits { depth: 501, ..Limits::default() });
     assert_eq!(wrong.to_bytes("Chain", &Options(0)).unwrap_err(), ErrorKind::Limits);
@@ -65,7 +65,7 @@ fn a_newtype_that_names_itself_has_no_value() {
     for told in rejections {
         assert_eq!(told.unwrap_err(), ErrorKind::Text(TextFault::TooDeep));
     }
-    assert_eq!(registry.from_bytes::<u8>("A", [7]).unwrap_err().name(), Some("TooDeep"));
+    assert_eq!(registry.from_bytes::<u8>("A", [7]).unwrap_err().reason(), Some("TooDeep"));
 }
 
 #[test]

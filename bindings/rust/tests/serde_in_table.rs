@@ -61,7 +61,7 @@ fn row<T: DeserializeOwned + Debug>(cells: &[(&str, &str)], parts: &[(&str, &str
         let in_field = registry.from_bytes::<Field<T>>("Field", &input);
         let label = format!("{name} as {type_is}");
         if digits.is_none() {
-            assert_eq!(told.unwrap_err().name(), Some("Unsupported"), "{label}");
+            assert_eq!(told.unwrap_err().reason(), Some("Unsupported"), "{label}");
             continue;
         }
         assert_eq!(format!("{:?}", registry.from_bytes::<T>("Whole", &input)), format!("{told:?}"), "{label}");
@@ -74,9 +74,9 @@ fn row<T: DeserializeOwned + Debug>(cells: &[(&str, &str)], parts: &[(&str, &str
         let pointer = parts.iter().find(|(at, _)| *at == name).map_or("", |(_, pointer)| pointer);
         for (error, before) in [(told.map(drop), ""), (in_field.map(drop), "/x")] {
             let error = error.expect_err(&label);
-            assert_eq!(error.kind(), ErrorKind::Type, "{label}: {error}");
-            assert_eq!(error.pointer(), Some(&*format!("{before}{pointer}")), "{label}: {error}");
-            let words = error.expected().unwrap();
+            assert_eq!(error.kind(), ErrorKind::Value, "{label}: {error}");
+            assert_eq!(error.at(), Some(&*format!("{before}{pointer}")), "{label}: {error}");
+            let words = error.message();
             let is_of_format = words.contains(" takes ") || words.contains("(the format is ");
             assert!(is_of_format || words.contains("any variant of untagged enum"), "{label}: {words}");
         }
@@ -335,7 +335,7 @@ fn each_payload_comes_back() {
     for (digits, value, pointer) in rows {
         assert_eq!(registry.from_bytes("Shape", bytes(digits)), Ok(value), "{digits}");
         let error = registry.from_bytes::<Other>("Shape", bytes(digits)).unwrap_err();
-        assert_eq!((error.kind(), error.pointer()), (ErrorKind::Type, Some(pointer)), "{error}");
+        assert_eq!((error.kind(), error.at()), (ErrorKind::Value, Some(pointer)), "{error}");
     }
     assert_eq!(registry.from_bytes("Shape", [0]), Ok(Less::Dot));
     assert_eq!(registry.from_bytes("Shape", [0]), Ok("Dot".to_owned()));

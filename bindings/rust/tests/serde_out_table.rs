@@ -51,14 +51,14 @@ fn check(label: &str, told: &Result<Vec<u8>, Error>, cell: Option<&Cell>, before
             return;
         }
         (Some(Fault(name)), Err(error)) => {
-            assert_eq!(error.name(), Some(*name), "{label}: {error}");
+            assert_eq!(error.reason(), Some(*name), "{label}: {error}");
             // That two keys are equal is found when everything else is right, and reported for the whole value.
             let before = if *name == "RepeatedKey" { "" } else { before };
-            assert!(error.pointer().unwrap().starts_with(before), "{label}: {error}");
+            assert!(error.at().unwrap().starts_with(before), "{label}: {error}");
             return;
         }
         (None, Err(error)) if takes == "Unsupported" => {
-            assert_eq!((error.name(), error.pointer()), (Some(takes), Some(before)), "{label}");
+            assert_eq!((error.reason(), error.at()), (Some(takes), Some(before)), "{label}");
             return;
         }
         (Some(Part(pointer, words)), _) => (format!("{before}{pointer}"), (*words).to_owned()),
@@ -66,10 +66,10 @@ fn check(label: &str, told: &Result<Vec<u8>, Error>, cell: Option<&Cell>, before
         _ => panic!("{label}: {told:?}"),
     };
     let error = told.as_ref().unwrap_err();
-    assert_eq!(error.kind(), ErrorKind::Type, "{label}: {error}");
-    assert_eq!((error.pointer(), error.expected()), (Some(&*pointer), Some(&*words)), "{label}");
-    let colon = if pointer.is_empty() { "" } else { ": " };
-    assert_eq!(error.to_string(), format!("the type doesn't fit: {pointer}{colon}{words}"), "{label}");
+    assert_eq!(error.kind(), ErrorKind::Value, "{label}: {error}");
+    assert_eq!((error.at(), error.message()), (Some(&*pointer), &*words), "{label}");
+    let at = if pointer.is_empty() { String::new() } else { format!(" at {pointer}") };
+    assert_eq!(error.to_string(), format!("refused: WrongType{at}: {words}"), "{label}");
 }
 
 #[derive(serde::Serialize)]
@@ -226,8 +226,8 @@ fn addresses_are_binary() {
     assert_eq!(registry.to_bytes(four, &address), Ok(vec![1, 2, 255, 0]));
     assert_eq!(registry.from_bytes(four, [1, 2, 255, 0]), Ok(address));
     let error = registry.to_bytes(r#""STR""#, &address).unwrap_err();
-    assert_eq!(error.expected(), Some("STR takes a string, not a tuple"));
-    assert_eq!(registry.from_bytes::<Ipv4Addr>(r#""STR""#, b"\x071.2.3.4").unwrap_err().kind(), ErrorKind::Type);
+    assert_eq!(error.message(), "STR takes a string, not a tuple");
+    assert_eq!(registry.from_bytes::<Ipv4Addr>(r#""STR""#, b"\x071.2.3.4").unwrap_err().kind(), ErrorKind::Value);
 }
 
 #[derive(serde::Serialize)]
@@ -473,7 +473,7 @@ fn a_map_without_a_key_or_a_value_is_rejected() {
     for (calls, words) in rows {
         for (name, json, _) in FORMATS.into_iter().filter(|(name, ..)| ["{STR: U8}", "Point"].contains(name)) {
             let error = registry_with(json).to_bytes(Format::json(json), &Calls(calls)).unwrap_err();
-            assert_eq!((error.kind(), error.expected()), (ErrorKind::Type, Some(words)), "{name}");
+            assert_eq!((error.kind(), error.message()), (ErrorKind::Value, words), "{name}");
         }
     }
 }
@@ -695,11 +695,11 @@ fn pointers_lead_through_everything() {
     assert_eq!(registry.to_bytes("S", &value(5_u64)).unwrap(), bytes("020001000103070500000000000000"));
     let error = registry.to_bytes("S", &value(Bytes(&[1; 8]))).unwrap_err();
     let pointer = "/a~1~0/1/some/V/m/0/1/1";
-    assert_eq!(error.to_string(), format!("the type doesn't fit: {pointer}: U64 takes an integer, not bytes"));
+    assert_eq!(error.to_string(), format!("refused: WrongType at {pointer}: U64 takes an integer, not bytes"));
     let error = registry.to_bytes("S", &value(Fails)).unwrap_err();
-    assert_eq!(error.to_string(), format!("the type doesn't fit: {pointer}: no value today"));
-    assert_eq!((error.kind(), error.pointer()), (ErrorKind::Type, Some(pointer)));
+    assert_eq!(error.to_string(), format!("refused: WrongType at {pointer}: no value today"));
+    assert_eq!((error.kind(), error.at()), (ErrorKind::Value, Some(pointer)));
     // What the walk leaves to the library has the same pointer.
     let error = registry.to_bytes("S", &value(-5)).unwrap_err();
-    assert_eq!((error.name(), error.pointer()), (Some("BadNumber"), Some(pointer)));
+    assert_eq!((error.reason(), error.at()), (Some("BadNumber"), Some(pointer)));
 }

@@ -24,7 +24,7 @@ fn values_are_refused_as_texts_are() {
     let number = &Format::json(r#""U8""#);
     assert_eq!(plain().encode_value(number, &json!(256)).unwrap_err(), ErrorKind::Text(TextFault::BadNumber));
     assert_eq!(plain().encode_value(number, &json!(1.5)).unwrap_err(), ErrorKind::Text(TextFault::BadNumber));
-    assert_eq!(plain().decode_value(number, []).unwrap_err().name(), Some("EndOfInput"));
+    assert_eq!(plain().decode_value(number, []).unwrap_err().reason(), Some("EndOfInput"));
 }
 
 #[test]
@@ -121,7 +121,7 @@ fn types_that_do_not_fit_are_refused() {
     let number = r#""U8""#;
     assert_eq!(plain().to_bytes(number, &256).unwrap_err(), ErrorKind::Text(TextFault::BadNumber));
     let error = plain().from_bytes::<String>(number, [7]).unwrap_err();
-    assert_eq!(error.kind(), ErrorKind::Type);
-    assert!(error.to_string().starts_with("the type doesn't fit: invalid type"), "{error}");
-    assert_eq!(plain().from_bytes::<u8>(number, []).unwrap_err().name(), Some("EndOfInput"));
+    assert_eq!(error.kind(), ErrorKind::Value);
+    assert!(error.to_string().starts_with("refused: WrongType: invalid type"), "{error}");
+    assert_eq!(plain().from_bytes::<u8>(number, []).unwrap_err().reason(), Some("EndOfInput"));
 }

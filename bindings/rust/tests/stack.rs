@@ -31,7 +31,7 @@ fn judge_on_stack(mebibytes: usize, containers: usize) {
             assert_eq!(registry.scan("Chain", &bytes), Ok(bytes.len()), "{level:?}");
             assert_eq!(registry.decode("Chain", &bytes).unwrap_err(), ErrorKind::TooNested, "{level:?}");
             let deeper = registry.scan("Chain", chain(containers + 1)).unwrap_err();
-            assert_eq!((deeper.name(), deeper.place()), (Some("TooDeep"), Some(bytes.len() + 30)), "{level:?}");
+            assert_eq!((deeper.reason(), deeper.place()), (Some("TooDeep"), Some(bytes.len() + 30)), "{level:?}");
         }
     };
     thread::Builder::new().stack_size(mebibytes << 20).spawn(judge).unwrap().join().unwrap();
@@ -92,9 +92,9 @@ fn a_small_stack_is_enough_for_what_fits() {
             }
             // What is refused on every stack is refused for what it is.
             let error = registry.scan("Chain", [vec![1; 2], vec![2]].concat()).unwrap_err();
-            assert_eq!((error.name(), error.place()), (Some("BadOption"), Some(2)), "{kibibytes} KiB");
+            assert_eq!((error.reason(), error.place()), (Some("BadOption"), Some(2)), "{kibibytes} KiB");
             let shallow = registry.with_limits(Limits { depth: 2, ..Limits::default() });
-            assert_eq!(shallow.scan("Chain", bytes(3)).unwrap_err().name(), Some("TooDeep"), "{kibibytes} KiB");
+            assert_eq!(shallow.scan("Chain", bytes(3)).unwrap_err().reason(), Some("TooDeep"), "{kibibytes} KiB");
         });
     }
 }

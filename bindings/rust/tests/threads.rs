@@ -45,7 +45,7 @@ fn a_registry_moves_to_other_threads() {
 #[test]
 fn a_registry_stays_open_for_each_call() {
     let expected = example_registry("sui_registry").decode("Coins", []).unwrap_err();
-    assert!(expected.expected().is_some());
+    assert_eq!(expected.message(), "no container is called Coins");
     for _ in 0..50 {
         let registry = example_registry("sui_registry");
         let threads: Vec<_> = (0..8)

@@ -170,5 +170,5 @@ fn formats_are_taken_as_the_program_takes_them() {
         assert_eq!(registry.encode(format, "7").unwrap(), [7, 0]);
         assert_eq!(registry.encode(String::from(format), "7").unwrap(), [7, 0]);
     }
-    assert_eq!(registry.check(Format::named(r#""U16""#)).unwrap_err().name(), Some("UnknownName"));
+    assert_eq!(registry.check(Format::named(r#""U16""#)).unwrap_err().reason(), Some("UnknownName"));
 }
