@@ -16,16 +16,16 @@ fn main() -> Result<(), Box<dyn Error>> {
     let examples = PathBuf::from(std::env::args_os().nth(1).ok_or("usage: wallet EXAMPLES")?);
     let registry = Registry::read(std::fs::read(examples.join("aptos_registry.json"))?)?;
     let transfer = std::fs::read(examples.join("aptos_transfer.json"))?;
-    let data = registry.encode("RawTransaction", transfer)?;
+    let data = registry.encode_json("RawTransaction", transfer)?;
     let digits: String = data.iter().map(|byte| format!("{byte:02x}")).collect();
     println!("{NAME}{digits}");
-    println!("{}", registry.decode("RawTransaction", &data)?);
+    println!("{}", registry.decode_json("RawTransaction", &data)?);
 
     let damaged = std::fs::read(examples.join("aptos_transfer_damaged.json"))?;
-    if let Err(error) = registry.encode("RawTransaction", damaged) {
+    if let Err(error) = registry.encode_json("RawTransaction", damaged) {
         println!("{} {}", named(error.reason()), named(error.at()));
     }
-    if let Err(error) = registry.decode("RawTransaction", &data[..100]) {
+    if let Err(error) = registry.decode_json("RawTransaction", &data[..100]) {
         let place = error.place().ok_or("no place")?;
         println!("{} {place} {}", named(error.reason()), named(error.at()));
     }

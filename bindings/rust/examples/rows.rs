@@ -112,10 +112,10 @@ fn ask(call: &str, mut words: Words) -> Result<Told, Error> {
     }
     let input = words.bytes();
     Ok(match call {
-        "to_bcs" => Told::output(registry.encode(format, input)?),
-        "from_bcs" => Told::output(registry.decode(format, input)?.into()),
-        "normalise" => Told::output(registry.normalise(format, input)?.into()),
-        "compare" => Told::yes_or_no(registry.equal(format, input, words.bytes())?),
+        "to_bcs" => Told::output(registry.encode_json(format, input)?),
+        "from_bcs" => Told::output(registry.decode_json(format, input)?.into()),
+        "normalise" => Told::output(registry.normalise_json(format, input)?.into()),
+        "compare" => Told::yes_or_no(registry.equal_json(format, input, words.bytes())?),
         "scan" => Told { length: registry.scan(format, input)?, ..Told::done() },
         "part" => part(&registry, format, &input, &words.bytes())?,
         "part_named" => part_named(&registry, format, &input, &words.bytes(), words.next())?,
@@ -128,15 +128,15 @@ fn ask(call: &str, mut words: Words) -> Result<Told, Error> {
 
 /// Each call that takes a text refuses it alike.
 fn text_place(registry: &Registry, format: &Format, text: &[u8], what: &str) -> Told {
-    let refused = registry.encode(format, text).err();
-    assert_eq!(registry.normalise(format, text).err(), refused);
-    assert_eq!(registry.equal(format, text, text).err(), refused);
+    let refused = registry.encode_json(format, text).err();
+    assert_eq!(registry.normalise_json(format, text).err(), refused);
+    assert_eq!(registry.equal_json(format, text, text).err(), refused);
     place(refused, what)
 }
 
 /// Where the value at the front is refused, `scan` refuses it alike.
 fn stop_place(registry: &Registry, format: &Format, bytes: &[u8], what: &str) -> Told {
-    let refused = registry.decode(format, bytes).err();
+    let refused = registry.decode_json(format, bytes).err();
     if let Err(error) = registry.scan(format, bytes) {
         assert_eq!(Some(error), refused);
     }

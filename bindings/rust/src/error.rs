@@ -8,13 +8,13 @@ use std::fmt;
 /// use bcs_proved::{Error, ErrorKind, Reason, Registry, Stop, TextFault};
 ///
 /// let registry = Registry::read(r#"{"Vote":{"STRUCT":[{"yes":"BOOL"},{"id":"BYTES"}]}}"#)?;
-/// let error = registry.decode("Vote", [2]).unwrap_err();
+/// let error = registry.decode_json("Vote", [2]).unwrap_err();
 /// assert_eq!(error, ErrorKind::Bytes(Stop { reason: Reason::BadBool, place: 0 }));
 /// assert_eq!((error.kind().name(), error.reason(), error.place()), ("bytes", Some("BadBool"), Some(0)));
 /// assert_eq!((error.at(), error.message()), (Some(".yes"), "wanted BOOL"));
 /// assert_eq!(error.to_string(), "refused: BadBool at byte 0, .yes: wanted BOOL");
 ///
-/// let error = registry.encode("Vote", r#"{"yes":true,"id":"0"}"#).unwrap_err();
+/// let error = registry.encode_json("Vote", r#"{"yes":true,"id":"0"}"#).unwrap_err();
 /// assert_eq!(error, ErrorKind::Text(TextFault::BadHex));
 /// assert_eq!(error.to_string(), "refused: BadHex at /id: an odd number of digits");
 /// # Ok::<(), Error>(())

@@ -8,8 +8,8 @@
 //! use bcs_proved::Registry;
 //!
 //! let registry = Registry::read(r#"{"Payment":{"STRUCT":[{"to":"STR"},{"amount":"U64"}]}}"#)?;
-//! let bytes = registry.encode("Payment", r#"{"to": "bob", "amount": 7}"#)?;
-//! let text = registry.decode("Payment", &bytes)?;
+//! let bytes = registry.encode_json("Payment", r#"{"to": "bob", "amount": 7}"#)?;
+//! let text = registry.decode_json("Payment", &bytes)?;
 //! assert_eq!(text, r#"{"amount":"7","to":"bob"}"#);
 //! # Ok::<(), bcs_proved::Error>(())
 //! ```
@@ -19,15 +19,24 @@
 //!
 //! With the feature `serde_json`, values may also be a `serde_json::Value` or of your own `serde` types.
 
+#[cfg(feature = "serde_json")]
+mod address;
+#[cfg(feature = "serde_json")]
+pub mod bytes;
 mod error;
 mod explanation;
 mod faults;
 mod format;
+mod hex;
+#[cfg(feature = "serde_json")]
+mod integers;
 mod json;
 mod limits;
 #[cfg(feature = "serde_json")]
 mod mismatch;
 mod places;
+#[cfg(feature = "serde_json")]
+mod probe;
 mod registry;
 #[cfg(feature = "serde_json")]
 mod serde_in;
@@ -38,13 +47,21 @@ mod shapes;
 mod sys;
 #[cfg(feature = "serde_json")]
 mod values;
+#[cfg(feature = "serde_json")]
+mod wide_integers;
 
+#[cfg(feature = "serde_json")]
+pub use address::{Address, ParseError};
+#[cfg(feature = "serde_json")]
+pub use bytes::{Bytes, Hex};
 pub use error::{Error, ErrorKind};
 pub use explanation::{Explanation, Form, Piece, Pieces};
 pub use faults::{ExampleFault, GrowthFault, Reason, RegistryFault, Stop, TextFault};
 pub use format::Format;
 pub use limits::Limits;
 pub use registry::{Example, Part, Registry};
+#[cfg(feature = "serde_json")]
+pub use wide_integers::{I256, OutOfRange, U256};
 
 /// The examples of the README are tested with those of the crate. One of them needs the feature.
 #[cfg(all(doctest, feature = "serde_json"))]

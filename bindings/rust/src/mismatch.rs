@@ -1,7 +1,9 @@
 //! Why a value of a `serde` type isn't one of a format.
 use crate::error::ErrorKind;
 use crate::faults::TextFault;
+use crate::probe;
 use crate::shapes::Shape;
+use serde::de::{self, Expected, Unexpected};
 use std::fmt;
 
 /// Why, and where: a JSON Pointer.
@@ -23,6 +25,11 @@ impl Mismatch {
     pub(crate) fn unfit(shape: &Shape, found: &str) -> Mismatch {
         let words = format!("{} takes {}, not {found}", shape.name(), shape.takes());
         Mismatch { names_format: true, ..Mismatch::new(words) }
+    }
+
+    /// An integer type, or an integer format, doesn't have every number of the other.
+    pub(crate) fn narrow(integer: &str, other: &str) -> Mismatch {
+        Mismatch { names_format: true, ..Mismatch::new(format_args!("{integer} doesn't hold every {other}")) }
     }
 
     /// The JSON of the value would nest too deep for the library.
@@ -63,9 +70,16 @@ impl fmt::Display for Mismatch {
 
 impl std::error::Error for Mismatch {}
 
-impl serde::de::Error for Mismatch {
+impl de::Error for Mismatch {
     fn custom<T: fmt::Display>(message: T) -> Mismatch {
         Mismatch::new(message)
+    }
+
+    fn invalid_type(found: Unexpected<'_>, wanted: &dyn Expected) -> Mismatch {
+        if let Unexpected::Char(character) = found {
+            probe::record(character, wanted.to_string());
+        }
+        Mismatch::new(format_args!("invalid type: {found}, expected {wanted}"))
     }
 }
 

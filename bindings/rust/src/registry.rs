@@ -76,8 +76,8 @@ impl Registry {
     ///
     /// let registry = Registry::read(r#"{"Lots":{"NEWTYPESTRUCT":{"SEQ":"U8"}}}"#)?;
     /// let small = registry.with_limits(Limits { nodes: Some(4), ..Limits::default() });
-    /// assert_eq!(small.encode("Lots", "[1,2]")?, [2, 1, 2]);
-    /// assert_eq!(small.encode("Lots", "[1,2,3]").unwrap_err(), ErrorKind::Text(TextFault::TooManyNodes));
+    /// assert_eq!(small.encode_json("Lots", "[1,2]")?, [2, 1, 2]);
+    /// assert_eq!(small.encode_json("Lots", "[1,2,3]").unwrap_err(), ErrorKind::Text(TextFault::TooManyNodes));
     /// # Ok::<(), Error>(())
     /// ```
     #[must_use]
@@ -202,11 +202,11 @@ impl Registry {
     /// use bcs_proved::Registry;
     ///
     /// let registry = Registry::read(r#"{"Payment":{"STRUCT":[{"to":"STR"},{"amount":"U64"}]}}"#)?;
-    /// let bytes = registry.encode("Payment", r#"{"amount": 7, "to": "bob"}"#)?;
+    /// let bytes = registry.encode_json("Payment", r#"{"amount": 7, "to": "bob"}"#)?;
     /// assert_eq!(bytes, b"\x03bob\x07\0\0\0\0\0\0\0");
     /// # Ok::<(), bcs_proved::Error>(())
     /// ```
-    pub fn encode(&self, format: impl Into<Format>, text: impl AsRef<[u8]>) -> Result<Vec<u8>, Error> {
+    pub fn encode_json(&self, format: impl Into<Format>, text: impl AsRef<[u8]>) -> Result<Vec<u8>, Error> {
         let (format, text) = (format.into(), text.as_ref());
         // Digits and names make most texts longer than their bytes.
         let room = text.len().saturating_add(64);
@@ -220,11 +220,11 @@ impl Registry {
     /// use bcs_proved::Registry;
     ///
     /// let registry = Registry::read(r#"{"Payment":{"STRUCT":[{"to":"STR"},{"amount":"U64"}]}}"#)?;
-    /// let text = registry.decode("Payment", b"\x03bob\x07\0\0\0\0\0\0\0")?;
+    /// let text = registry.decode_json("Payment", b"\x03bob\x07\0\0\0\0\0\0\0")?;
     /// assert_eq!(text, r#"{"amount":"7","to":"bob"}"#);
     /// # Ok::<(), bcs_proved::Error>(())
     /// ```
-    pub fn decode(&self, format: impl Into<Format>, bytes: impl AsRef<[u8]>) -> Result<String, Error> {
+    pub fn decode_json(&self, format: impl Into<Format>, bytes: impl AsRef<[u8]>) -> Result<String, Error> {
         let (format, bytes) = (format.into(), bytes.as_ref());
         let room = bytes.len().saturating_mul(4).saturating_add(256);
         let decoded = fill(room, |out| self.open.decode(self.of_bytes(&format, bytes), bytes, out));
@@ -235,16 +235,25 @@ impl Registry {
     ///
     /// ```
     /// let registry = bcs_proved::Registry::read("{}")?;
-    /// assert_eq!(registry.decode_prefix(r#""U16""#, [1, 2, 3])?, ("513".to_owned(), 2));
+    /// assert_eq!(registry.decode_prefix_json(r#""U16""#, [1, 2, 3])?, ("513".to_owned(), 2));
     /// # Ok::<(), bcs_proved::Error>(())
     /// ```
-    pub fn decode_prefix(&self, format: impl Into<Format>, bytes: impl AsRef<[u8]>) -> Result<(String, usize), Error> {
+    pub fn decode_prefix_json(
+        &self,
+        format: impl Into<Format>,
+        bytes: impl AsRef<[u8]>,
+    ) -> Result<(String, usize), Error> {
         let (format, bytes) = (format.into(), bytes.as_ref());
-        let length = self.scan(&format, bytes)?;
-        // (the default limit depends on all bytes, so both steps get the same one)
+        let (limited, length) = self.prefix(&format, bytes)?;
+        Ok((limited.decode_json(&format, &bytes[..length])?, length))
+    }
+
+    /// The length of the value at the beginning of the bytes, and the registry with the limit for all bytes, which the default
+    /// limit depends on.
+    pub(crate) fn prefix(&self, format: &Format, bytes: &[u8]) -> Result<(Registry, usize), Error> {
+        let length = self.scan(format, bytes)?;
         let nodes = Some(self.nodes_of_bytes(bytes.len()));
-        let limited = self.with_limits(Limits { nodes, ..self.limits });
-        Ok((limited.decode(&format, &bytes[..length])?, length))
+        Ok((self.with_limits(Limits { nodes, ..self.limits }), length))
     }
 
     /// The one normal JSON text of the value that a JSON text denotes.
@@ -254,10 +263,10 @@ impl Registry {
     ///
     /// let registry = Registry::read("{}")?;
     /// let map = Format::json(r#"{"MAP":{"KEY":"STR","VALUE":"U8"}}"#);
-    /// assert_eq!(registry.normalise(&map, r#"[ ["aa", 2], ["b", 1] ]"#)?, r#"[["b",1],["aa",2]]"#);
+    /// assert_eq!(registry.normalise_json(&map, r#"[ ["aa", 2], ["b", 1] ]"#)?, r#"[["b",1],["aa",2]]"#);
     /// # Ok::<(), bcs_proved::Error>(())
     /// ```
-    pub fn normalise(&self, format: impl Into<Format>, text: impl AsRef<[u8]>) -> Result<String, Error> {
+    pub fn normalise_json(&self, format: impl Into<Format>, text: impl AsRef<[u8]>) -> Result<String, Error> {
         let (format, text) = (format.into(), text.as_ref());
         let room = text.len().saturating_add(64);
         let normal = fill(room, |out| self.open.normalise(self.of_text(&format), text, out));
@@ -271,11 +280,11 @@ impl Registry {
     ///
     /// let registry = Registry::read("{}")?;
     /// let number = Format::json(r#""U64""#);
-    /// assert!(registry.equal(&number, "7", r#""7""#)?);
-    /// assert!(!registry.equal(&number, "7", "8")?);
+    /// assert!(registry.equal_json(&number, "7", r#""7""#)?);
+    /// assert!(!registry.equal_json(&number, "7", "8")?);
     /// # Ok::<(), bcs_proved::Error>(())
     /// ```
-    pub fn equal(
+    pub fn equal_json(
         &self,
         format: impl Into<Format>,
         first: impl AsRef<[u8]>,

@@ -23,7 +23,7 @@ fn stops(registry: &Registry, format: &Format) -> Vec<Result<Stop, Error>> {
     };
     #[allow(unused_mut, reason = "the feature serde_json has more calls")]
     let mut stops = vec![
-        rejected(registry.decode(format, BYTES).unwrap_err()),
+        rejected(registry.decode_json(format, BYTES).unwrap_err()),
         rejected(registry.scan(format, BYTES).unwrap_err()),
         rejected(registry.part(format, &BYTES, ".").unwrap_err()),
         registry.explain(format, BYTES).map(|pieces| pieces.stop.unwrap()),
@@ -31,8 +31,8 @@ fn stops(registry: &Registry, format: &Format) -> Vec<Result<Stop, Error>> {
     ];
     #[cfg(feature = "serde_json")]
     stops.extend([
-        rejected(registry.decode_value(format, BYTES).unwrap_err()),
-        rejected(registry.from_bytes::<Vec<()>>(format, BYTES).unwrap_err()),
+        rejected(registry.decode_json_value(format, BYTES).unwrap_err()),
+        rejected(registry.decode::<Vec<()>>(format, BYTES).unwrap_err()),
     ]);
     stops
 }
@@ -60,11 +60,15 @@ fn long_names_cost_little() {
     // 65,536 nodes, and 16 for each of the two bytes; names longer than 64 bytes divide them.
     for (length, allowed) in [(10, 2980), (64, 2980), (65, 2934), (1000, 190), (60_000, 3)] {
         let registry = units_with_names(length);
-        assert_eq!(registry.decode("List", structs(40_000)).unwrap_err().reason(), Some("TooManyNodes"), "{length}");
+        assert_eq!(
+            registry.decode_json("List", structs(40_000)).unwrap_err().reason(),
+            Some("TooManyNodes"),
+            "{length}"
+        );
         assert_eq!(registry.scan("List", structs(allowed + 1)).unwrap_err().reason(), Some("TooManyNodes"), "{length}");
-        assert!(registry.decode("List", structs(allowed)).unwrap().len() < 20 << 20, "{length}");
+        assert!(registry.decode_json("List", structs(allowed)).unwrap().len() < 20 << 20, "{length}");
         #[cfg(feature = "serde_json")]
-        drop(registry.decode_value("List", structs(allowed)).unwrap());
+        drop(registry.decode_json_value("List", structs(allowed)).unwrap());
     }
 }
 

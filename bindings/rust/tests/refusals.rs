@@ -42,10 +42,10 @@ fn formats_are_refused_by_each_call() {
     for (format, fault) in &rows {
         let error = ErrorKind::Format(*fault);
         assert_eq!(registry.check(format).unwrap_err(), error, "{format:?}");
-        assert_eq!(registry.encode(format, "null").unwrap_err(), error, "{format:?}");
-        assert_eq!(registry.decode(format, "").unwrap_err(), error, "{format:?}");
-        assert_eq!(registry.normalise(format, "null").unwrap_err(), error, "{format:?}");
-        assert_eq!(registry.equal(format, "null", "null").unwrap_err(), error, "{format:?}");
+        assert_eq!(registry.encode_json(format, "null").unwrap_err(), error, "{format:?}");
+        assert_eq!(registry.decode_json(format, "").unwrap_err(), error, "{format:?}");
+        assert_eq!(registry.normalise_json(format, "null").unwrap_err(), error, "{format:?}");
+        assert_eq!(registry.equal_json(format, "null", "null").unwrap_err(), error, "{format:?}");
         assert_eq!(registry.scan(format, "").unwrap_err(), error, "{format:?}");
         assert_eq!(registry.part(format, "", ".").unwrap_err(), error, "{format:?}");
         assert_eq!(registry.explain_text(format, "", Form::Ways).unwrap_err(), error, "{format:?}");
@@ -88,17 +88,17 @@ fn texts_are_refused() {
     let registry = Registry::read(r#"{"P":{"STRUCT":[{"x":"U8"}]},"E":{"ENUM":{"0":{"A":"UNIT"}}}}"#).unwrap();
     for (format, text, fault) in rows {
         let format = &Format::json(format);
-        assert_eq!(registry.encode(format, text).unwrap_err(), ErrorKind::Text(fault), "{text}");
-        assert_eq!(registry.normalise(format, text).unwrap_err(), ErrorKind::Text(fault), "{text}");
-        assert_eq!(registry.equal(format, text, text).unwrap_err(), ErrorKind::Text(fault), "{text}");
+        assert_eq!(registry.encode_json(format, text).unwrap_err(), ErrorKind::Text(fault), "{text}");
+        assert_eq!(registry.normalise_json(format, text).unwrap_err(), ErrorKind::Text(fault), "{text}");
+        assert_eq!(registry.equal_json(format, text, text).unwrap_err(), ErrorKind::Text(fault), "{text}");
     }
 }
 
 #[test]
 fn a_fault_of_the_first_text_is_told() {
     let number = &Format::json(r#""U64""#);
-    assert_eq!(plain().equal(number, "null", "x").unwrap_err(), ErrorKind::Text(TextFault::BadShape));
-    assert_eq!(plain().equal(number, "7", "x").unwrap_err(), ErrorKind::Text(TextFault::NotJson));
+    assert_eq!(plain().equal_json(number, "null", "x").unwrap_err(), ErrorKind::Text(TextFault::BadShape));
+    assert_eq!(plain().equal_json(number, "7", "x").unwrap_err(), ErrorKind::Text(TextFault::NotJson));
 }
 
 #[test]
@@ -129,7 +129,7 @@ fn bytes_are_refused_at_a_place() {
             assert_eq!(registry.scan(format, &input).unwrap_err(), ErrorKind::Bytes(stop), "{digits}");
             assert_eq!(registry.part(format, &input, ".").unwrap_err(), ErrorKind::Bytes(stop), "{digits}");
         }
-        assert_eq!(registry.decode(format, &input).unwrap_err(), ErrorKind::Bytes(stop), "{digits}");
+        assert_eq!(registry.decode_json(format, &input).unwrap_err(), ErrorKind::Bytes(stop), "{digits}");
         let explanation = registry.explain_text(format, &input, Form::Ways).unwrap();
         assert_eq!(explanation.stop, Some(stop), "{digits}");
         let last_line = explanation.text.lines().last().unwrap();
@@ -141,13 +141,13 @@ fn bytes_are_refused_at_a_place() {
 fn damaged_transactions_are_refused() {
     let (aptos, sui) = (example_registry("aptos_registry"), example_registry("sui_registry"));
     let text = example("aptos_transfer_damaged.json");
-    assert_eq!(aptos.encode("RawTransaction", text).unwrap_err(), ErrorKind::Text(TextFault::BadHex));
+    assert_eq!(aptos.encode_json("RawTransaction", text).unwrap_err(), ErrorKind::Text(TextFault::BadHex));
     let text = example("sui_stake_damaged.json");
-    assert_eq!(sui.encode("TransactionData", text).unwrap_err(), ErrorKind::Text(TextFault::MissingField));
+    assert_eq!(sui.encode_json("TransactionData", text).unwrap_err(), ErrorKind::Text(TextFault::MissingField));
 
-    let error = aptos.decode("RawTransaction", example_bytes("aptos_transfer_damaged")).unwrap_err();
+    let error = aptos.decode_json("RawTransaction", example_bytes("aptos_transfer_damaged")).unwrap_err();
     assert_eq!((error.reason(), error.place()), (Some("LongForm"), Some(73)));
-    let error = sui.decode("TransactionData", example_bytes("sui_stake_damaged")).unwrap_err();
+    let error = sui.decode_json("TransactionData", example_bytes("sui_stake_damaged")).unwrap_err();
     assert_eq!((error.reason(), error.place()), (Some("BadBool"), Some(65)));
 }
 
@@ -157,8 +157,8 @@ fn a_text_that_would_nest_too_deep_is_refused() {
     let registry = Registry::read(text).unwrap();
     // A link is an object, and one more stands between two: `some`. So 50 links nest 99 deep, and 51 nest 101 deep.
     let chain = |links: usize| [vec![1; links - 1], vec![0]].concat();
-    assert!(registry.decode("Chain", chain(50)).is_ok());
-    assert_eq!(registry.decode("Chain", chain(51)).unwrap_err(), ErrorKind::TooNested);
+    assert!(registry.decode_json("Chain", chain(50)).is_ok());
+    assert_eq!(registry.decode_json("Chain", chain(51)).unwrap_err(), ErrorKind::TooNested);
     assert_eq!(ErrorKind::TooNested.reason(), Some("TooNested"));
     assert_eq!(registry.scan("Chain", chain(51)), Ok(51));
 }
@@ -231,16 +231,16 @@ fn errors_tell_the_place() {
         (r#""U8""#, "x", "", "line 1, column 1: the text stops being JSON there"),
     ];
     for (format, text, pointer, words) in texts {
-        let error = registry.encode(format, text).unwrap_err();
+        let error = registry.encode_json(format, text).unwrap_err();
         assert_eq!((error.at(), error.message()), (Some(pointer), words), "{text}");
-        assert_eq!(registry.normalise(format, text).unwrap_err(), error);
-        assert_eq!(registry.equal(format, text, "").unwrap_err(), error);
+        assert_eq!(registry.normalise_json(format, text).unwrap_err(), error);
+        assert_eq!(registry.equal_json(format, text, "").unwrap_err(), error);
         assert!(error.to_string().ends_with(words), "{error}");
     }
-    let second = registry.equal("Point", r#"{"x":1,"~/":[]}"#, r#"{"x":"","~/":[]}"#).unwrap_err();
+    let second = registry.equal_json("Point", r#"{"x":1,"~/":[]}"#, r#"{"x":"","~/":[]}"#).unwrap_err();
     assert_eq!(second.at(), Some("/x"));
 
-    let error = registry.decode("Point", [7, 1, 2, 5]).unwrap_err();
+    let error = registry.decode_json("Point", [7, 1, 2, 5]).unwrap_err();
     assert_eq!(error.to_string(), "refused: EndOfInput at byte 4, .~/[0]: wanted 2 bytes of BYTES");
     assert_eq!(registry.scan("Point", [7, 1, 2, 5]).unwrap_err(), error);
     assert_eq!(registry.part("Point", &[7, 1, 2, 5], ".").unwrap_err(), error);
@@ -270,11 +270,11 @@ fn lines_begin_alike() {
         (deep.check("S"), "limits", "refused: the depth is above 500"),
         (registry.grows(&plain()), "growth", "refused: Missing at S: the newer registry has no container of that name"),
         (
-            registry.encode("S", r#"{"Circle":-1}"#).map(drop),
+            registry.encode_json("S", r#"{"Circle":-1}"#).map(drop),
             "text",
             "refused: BadNumber at /Circle: found -1, wanted a whole number from 0 to 18446744073709551615 (U64)",
         ),
-        (registry.decode("S", [2, 1]).map(drop), "bytes", "refused: EndOfInput at byte 2, ::Circle: wanted U64"),
+        (registry.decode_json("S", [2, 1]).map(drop), "bytes", "refused: EndOfInput at byte 2, ::Circle: wanted U64"),
         (
             registry.part(list, &[0], "1/x").map(drop),
             "path",

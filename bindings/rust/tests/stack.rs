@@ -29,7 +29,7 @@ fn judge_on_stack(mebibytes: usize, containers: usize) {
             let registry = chain_of(level).with_limits(Limits { depth: containers as u32, ..Limits::default() });
             let bytes = chain(containers);
             assert_eq!(registry.scan("Chain", &bytes), Ok(bytes.len()), "{level:?}");
-            assert_eq!(registry.decode("Chain", &bytes).unwrap_err(), ErrorKind::TooNested, "{level:?}");
+            assert_eq!(registry.decode_json("Chain", &bytes).unwrap_err(), ErrorKind::TooNested, "{level:?}");
             let deeper = registry.scan("Chain", chain(containers + 1)).unwrap_err();
             assert_eq!((deeper.reason(), deeper.place()), (Some("TooDeep"), Some(bytes.len() + 30)), "{level:?}");
         }
@@ -61,7 +61,7 @@ fn a_small_stack_is_no_crash() {
             let length = bytes.len();
             let (scanned, part, decoded) = on_stack(kibibytes, move || {
                 let part = registry.part("Chain", &bytes, ".").map(|part| part.unwrap().bytes.len());
-                (registry.scan("Chain", &bytes), part, registry.decode("Chain", &bytes))
+                (registry.scan("Chain", &bytes), part, registry.decode_json("Chain", &bytes))
             });
             let label = format!("{kibibytes} KiB, {level:?}");
             assert!([Ok(length), Err(ErrorKind::Stack.into())].contains(&scanned), "{label}: {scanned:?}");
@@ -83,11 +83,13 @@ fn a_small_stack_is_enough_for_what_fits() {
     for (kibibytes, few) in [(128, 3), (256, 10), (1024, 50), (2048, 50), (8192, 50)] {
         let registry = registry.clone();
         on_stack(kibibytes, move || {
-            assert_eq!(registry.encode("Chain", text(few)), Ok(bytes(few)), "{kibibytes} KiB");
-            assert_eq!(registry.decode("Chain", bytes(few)), Ok(text(few)), "{kibibytes} KiB");
-            assert_eq!(registry.normalise("Chain", text(few)), Ok(text(few)), "{kibibytes} KiB");
-            assert_eq!(registry.equal("Chain", text(few), text(few)), Ok(true), "{kibibytes} KiB");
-            for call in [registry.encode("Chain", text(50)).map(drop), registry.decode("Chain", bytes(50)).map(drop)] {
+            assert_eq!(registry.encode_json("Chain", text(few)), Ok(bytes(few)), "{kibibytes} KiB");
+            assert_eq!(registry.decode_json("Chain", bytes(few)), Ok(text(few)), "{kibibytes} KiB");
+            assert_eq!(registry.normalise_json("Chain", text(few)), Ok(text(few)), "{kibibytes} KiB");
+            assert_eq!(registry.equal_json("Chain", text(few), text(few)), Ok(true), "{kibibytes} KiB");
+            for call in
+                [registry.encode_json("Chain", text(50)).map(drop), registry.decode_json("Chain", bytes(50)).map(drop)]
+            {
                 assert!([Ok(()), Err(ErrorKind::Stack.into())].contains(&call), "{kibibytes} KiB: {call:?}");
             }
             // What is refused on every stack is refused for what it is.
