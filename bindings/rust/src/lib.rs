@@ -1,4 +1,4 @@
-//! Canonical bytes (BCS) of JSON texts, by the serde-reflection registry of a chain.
+//! Canonical bytes (BCS) of values and of JSON, by the serde-reflection registry of a chain.
 //!
 //! Wallets, explorers and auditors sign and hash such bytes, and two spellings of one value would break signatures and
 //! ids. So the library below this crate is proved: equal values have equal bytes, the decoder takes exactly the bytes that
@@ -17,7 +17,7 @@
 //! A registry stands in a file mostly, as `Registry::read(include_str!("registry.json"))?` or
 //! `Registry::read(std::fs::read("registry.json")?)?`.
 //!
-//! With the feature `serde_json`, values may also be a `serde_json::Value` or of your own `serde` types.
+//! With the feature `serde_json`, `Registry::encode` and `Registry::decode` take and return values of your own `serde` types.
 
 #[cfg(feature = "serde_json")]
 mod address;
