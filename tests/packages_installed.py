@@ -294,8 +294,8 @@ def install_source_package(rooms: Rooms) -> str:
 
 
 def use_crate(rooms: Rooms) -> str:
-    """The first whole program of its README, without other crates, and then a wallet with serde, by this machine's cargo, since
-    Debian's is older than the crate needs."""
+    """The first whole program of its README, without other crates, and then a wallet with serde. They are built by this
+    machine's cargo, since Debian's is older than the crate needs."""
     folder, crate = rooms.top / "rust", rooms.package("bcs-proved-*.crate")
     folder.mkdir()
     run("tar", "-C", folder, "-xzf", crate)
