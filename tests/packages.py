@@ -92,6 +92,7 @@ ARM64_TOOLS = {
     "/usr/aarch64-linux-gnu/include/stdio.h": "libc6-dev-arm64-cross",
     "pkg-config": "pkg-config",
 }
+CRATES = {"/usr/share/cargo/registry": "librust-serde-json-dev"}
 PARTS = [
     Part("the files of dist/", made.copy_repository),
     Part("the licence and the version", made.agree_on_licence_and_version),
@@ -114,7 +115,7 @@ PARTS = [
     Part("the library for C", installed.install_c_library, (bare_debian("compiler"),)),
     Part("the files of C", made.compile_c_files, (has({"gcc": "gcc"}),)),
     Part("the source package for pip", installed.install_source_package, (has(SETUPTOOLS),)),
-    Part("the crate for Rust", installed.use_crate, (cargo,)),
+    Part("the crate for Rust", installed.use_crate, (cargo, has(CRATES))),
 ]
 
 

@@ -294,7 +294,8 @@ def install_source_package(rooms: Rooms) -> str:
 
 
 def use_crate(rooms: Rooms) -> str:
-    """The first whole program of its README, by this machine's cargo, since Debian's is older than the crate needs."""
+    """The first whole program of its README, without other crates, and then a wallet with serde. They are built by this
+    machine's cargo, since Debian's is older than the crate needs."""
     folder, crate = rooms.top / "rust", rooms.package("bcs-proved-*.crate")
     folder.mkdir()
     run("tar", "-C", folder, "-xzf", crate)
@@ -310,6 +311,12 @@ def use_crate(rooms: Rooms) -> str:
     cargo = ["cargo", "run", "--quiet", "--offline", "--manifest-path", str(program / "Cargo.toml")]
     no_other_library: Variables = {"BCS_LIB": None, "PKG_CONFIG": "false"}
     run(*cargo, variables=no_other_library)
+    # (with Debian's serde)
+    config = ["--config", str(ROOT / "bindings/rust/.cargo/config.toml")]
+    add = ["cargo", "add", "--quiet", "--offline", *config]
+    run(*add, "bcs-proved", "--features", "serde_json", folder=program)
+    run(*add, "serde", "--features", "derive", folder=program)
+    cargo += config
     shutil.copy(ROOT / "examples/wallet/wallet.rs", program / "src/main.rs")
     require_wallet(*cargo, "examples", variables=no_other_library)
     require_wallet(*cargo, "examples", variables=no_other_library | {"BCS_FROM_C": "1", "CFLAGS": "-O0"})

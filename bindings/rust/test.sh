@@ -47,7 +47,8 @@ test_crate() {
         step cargo clippy --quiet --all-targets --all-features -- --deny warnings
     fi
     step cargo test --quiet
-    step cargo test --quiet --all-features
+    # (with MALLOC_PERTURB_, freed memory is overwritten)
+    step env MALLOC_PERTURB_=165 cargo test --quiet --all-features
     step env RUSTDOCFLAGS='--deny warnings' cargo doc --quiet --no-deps --all-features
 }
 

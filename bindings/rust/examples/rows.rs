@@ -83,9 +83,10 @@ impl Told {
             ErrorKind::Growth(_) | ErrorKind::Text(_) | ErrorKind::Bytes(_) | ErrorKind::TooNested => "refused",
             ErrorKind::Path => "path",
             ErrorKind::Memory => "memory",
+            ErrorKind::Stack => "stack",
             _ => panic!("no status has {error}"),
         };
-        Told { status, fault: error.name(), place: error.place().unwrap_or(0), ..Told::default() }
+        Told { status, fault: error.reason(), place: error.place().unwrap_or(0), ..Told::default() }
     }
 }
 
@@ -111,10 +112,10 @@ fn ask(call: &str, mut words: Words) -> Result<Told, Error> {
     }
     let input = words.bytes();
     Ok(match call {
-        "to_bcs" => Told::output(registry.encode(format, input)?),
-        "from_bcs" => Told::output(registry.decode(format, input)?.into()),
-        "normalise" => Told::output(registry.normalise(format, input)?.into()),
-        "compare" => Told::yes_or_no(registry.equal(format, input, words.bytes())?),
+        "to_bcs" => Told::output(registry.encode_json(format, input)?),
+        "from_bcs" => Told::output(registry.decode_json(format, input)?.into()),
+        "normalise" => Told::output(registry.normalise_json(format, input)?.into()),
+        "compare" => Told::yes_or_no(registry.equal_json(format, input, words.bytes())?),
         "scan" => Told { length: registry.scan(format, input)?, ..Told::done() },
         "part" => part(&registry, format, &input, &words.bytes())?,
         "part_named" => part_named(&registry, format, &input, &words.bytes(), words.next())?,
@@ -127,15 +128,15 @@ fn ask(call: &str, mut words: Words) -> Result<Told, Error> {
 
 /// Each call that takes a text refuses it alike.
 fn text_place(registry: &Registry, format: &Format, text: &[u8], what: &str) -> Told {
-    let refused = registry.encode(format, text).err();
-    assert_eq!(registry.normalise(format, text).err(), refused);
-    assert_eq!(registry.equal(format, text, text).err(), refused);
+    let refused = registry.encode_json(format, text).err();
+    assert_eq!(registry.normalise_json(format, text).err(), refused);
+    assert_eq!(registry.equal_json(format, text, text).err(), refused);
     place(refused, what)
 }
 
 /// Where the value at the front is refused, `scan` refuses it alike.
 fn stop_place(registry: &Registry, format: &Format, bytes: &[u8], what: &str) -> Told {
-    let refused = registry.decode(format, bytes).err();
+    let refused = registry.decode_json(format, bytes).err();
     if let Err(error) = registry.scan(format, bytes) {
         assert_eq!(Some(error), refused);
     }
@@ -148,9 +149,12 @@ fn place(refused: Option<Error>, what: &str) -> Told {
         return Told::yes_or_no(false);
     };
     let told = match (error.kind(), what) {
-        (ErrorKind::Format(_) | ErrorKind::Limits | ErrorKind::Memory, _) => return Told::error(error, "registry"),
-        (_, "where") => error.pointer(),
-        (_, "wanted") => error.expected(),
+        (ErrorKind::Registry(_), "where") if error.at() == Some("") => Some("the whole text"),
+        (ErrorKind::Format(_) | ErrorKind::Limits | ErrorKind::Memory | ErrorKind::Stack, _) => {
+            return Told::error(error, "registry");
+        }
+        (_, "where") => error.at(),
+        (_, "wanted") => error.at().map(|_| error.message()),
         _ => panic!("nothing is told that is named {what}"),
     };
     told.map_or(Told::yes_or_no(false), |words| Told::output(words.into()))

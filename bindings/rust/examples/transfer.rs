@@ -27,7 +27,7 @@ const TRANSFER: &str = r#"{
 
 fn main() -> Result<(), Error> {
     let registry = Registry::read(REGISTRY)?;
-    let bytes = registry.encode("RawTransaction", TRANSFER)?;
+    let bytes = registry.encode_json("RawTransaction", TRANSFER)?;
     for byte in &bytes {
         print!("{byte:02x}");
     }

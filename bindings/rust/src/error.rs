@@ -2,36 +2,37 @@ use crate::faults::{ExampleFault, GrowthFault, Reason, RegistryFault, Stop, Text
 use crate::sys::{self, Answer};
 use std::fmt;
 
-/// Why a call gives no answer, and where.
+/// Why a call refuses its input, and where.
 ///
 /// ```
 /// use bcs_proved::{Error, ErrorKind, Reason, Registry, Stop, TextFault};
 ///
 /// let registry = Registry::read(r#"{"Vote":{"STRUCT":[{"yes":"BOOL"},{"id":"BYTES"}]}}"#)?;
-/// let error = registry.decode("Vote", [2]).unwrap_err();
+/// let error = registry.decode_json("Vote", [2]).unwrap_err();
 /// assert_eq!(error, ErrorKind::Bytes(Stop { reason: Reason::BadBool, place: 0 }));
-/// assert_eq!((error.name(), error.place()), (Some("BadBool"), Some(0)));
-/// assert_eq!((error.pointer(), error.expected()), (Some(".yes"), Some("wanted BOOL")));
+/// assert_eq!((error.kind().name(), error.reason(), error.place()), ("bytes", Some("BadBool"), Some(0)));
+/// assert_eq!((error.at(), error.message()), (Some(".yes"), "wanted BOOL"));
+/// assert_eq!(error.to_string(), "refused: BadBool at byte 0, .yes: wanted BOOL");
 ///
-/// let error = registry.encode("Vote", r#"{"yes":true,"id":"0"}"#).unwrap_err();
+/// let error = registry.encode_json("Vote", r#"{"yes":true,"id":"0"}"#).unwrap_err();
 /// assert_eq!(error, ErrorKind::Text(TextFault::BadHex));
-/// assert_eq!(error.to_string(), "the text is refused: BadHex at /id: an odd number of digits");
+/// assert_eq!(error.to_string(), "refused: BadHex at /id: an odd number of digits");
 /// # Ok::<(), Error>(())
 /// ```
 #[derive(Clone, Debug, PartialEq, Eq, Hash)]
 pub struct Error {
     kind: ErrorKind,
-    told: Option<Box<Told>>,
+    found: Option<Box<Found>>,
 }
 
-/// Where something is refused, and what was wanted there, if that is told.
+/// Where something is refused, and what is wrong there.
 #[derive(Clone, Debug, PartialEq, Eq, Hash)]
-struct Told {
-    pointer: String,
-    expected: String,
+struct Found {
+    at: String,
+    message: String,
 }
 
-/// Why a call gives no answer.
+/// What is refused, and why.
 #[derive(Clone, Copy, Debug, PartialEq, Eq, Hash)]
 #[non_exhaustive]
 pub enum ErrorKind {
@@ -43,66 +44,88 @@ pub enum ErrorKind {
     Limits,
     /// The newer registry doesn't keep what the older one has.
     Growth(GrowthFault),
-    /// The JSON text denotes no value of the format.
+    /// The JSON isn't a value of the format.
     Text(TextFault),
     /// The bytes aren't a value of the format.
     Bytes(Stop),
-    /// The bytes are a value, but its JSON text would nest more than 100 deep.
+    /// The bytes are a value, but its JSON would nest more than 100 deep.
     TooNested,
-    /// The path isn't one.
+    /// The path, name or pointer of a part is invalid.
     Path,
     /// The format has no such example.
     Example(ExampleFault),
-    /// Memory ran out, or the thread has too little stack left for a value that nests so deep.
+    /// A value of a `serde` type isn't of the format, or a value of the format isn't of the type: with the feature `serde_json`.
+    Value,
+    /// The thread has too little stack left for a value that nests so deep. On a thread with more stack the call may succeed.
+    Stack,
+    /// An allocation failed.
     Memory,
-    /// A value of a `serde` type isn't of the format, or a value of the format isn't one of the type: with the feature
-    /// `serde_json`.
-    Type,
 }
 
 impl Error {
-    /// Why.
+    /// What is refused, and why.
     pub const fn kind(&self) -> ErrorKind {
         self.kind
     }
 
-    /// The fault's name, as [`ErrorKind::name`] says it.
-    pub const fn name(&self) -> Option<&'static str> {
-        self.kind.name()
+    /// The fault's name, as [`ErrorKind::reason`] returns it.
+    pub const fn reason(&self) -> Option<&'static str> {
+        self.kind.reason()
     }
 
-    /// Where bytes stop being a value, in bytes from the front.
+    /// The offset of the byte where bytes stop being a value.
     pub const fn place(&self) -> Option<usize> {
         self.kind.place()
     }
 
-    /// Where it is refused: of a text a JSON Pointer (RFC 6901), as `/payload/args/1`, which is empty where the text is
-    /// refused as a whole; of bytes the way to where they stop by names, as `.payload.args[1]`; of a format a JSON Pointer;
-    /// of a registry, growth or a path its place as the program `bcs` prints it; of a `serde` type a JSON Pointer into the JSON of the value. Everything else has none.
-    pub fn pointer(&self) -> Option<&str> {
-        self.told.as_deref().map(|told| told.pointer.as_str())
+    /// Where it is refused. In JSON, in a format and in a `serde` value it is a JSON Pointer (RFC 6901) such as `/payload/args/1`,
+    /// which is empty if the whole is refused. In bytes it is the field path, such as `.payload.args[1]`. In a registry, in two
+    /// that don't grow, and in a path it is the location that the program `bcs` prints.
+    pub fn at(&self) -> Option<&str> {
+        self.found.as_deref().map(|found| found.at.as_str())
     }
 
-    /// What was wanted there, or what is wrong with it, in words for people, which may change.
-    pub fn expected(&self) -> Option<&str> {
-        self.told.as_deref().map(|told| told.expected.as_str()).filter(|words| !words.is_empty())
+    /// What is wrong there, for people. The wording may change.
+    pub fn message(&self) -> &str {
+        match self.found.as_deref() {
+            Some(found) if !found.message.is_empty() => &found.message,
+            _ => self.kind.meaning(),
+        }
     }
 
-    /// What an answer says that isn't the one asked for.
+    /// The error of an answer that isn't the expected one.
     pub(crate) fn of(answer: Answer) -> Error {
         ErrorKind::of(answer).into()
     }
 
-    /// The same with where it is, and what was expected there, if that is reported.
-    pub(crate) fn told(mut self, told: Option<(String, String)>) -> Error {
-        self.told = told.map(|(pointer, expected)| Box::new(Told { pointer, expected }));
+    /// The same error with its location and message, if they are known.
+    pub(crate) fn found(mut self, found: Option<(String, String)>) -> Error {
+        self.found = found.map(|(at, message)| Box::new(Found { at, message }));
         self
     }
 }
 
 impl ErrorKind {
-    /// The fault's name, as the program `bcs` prints it. Limits, memory and types have none.
-    pub const fn name(&self) -> Option<&'static str> {
+    /// The name of the kind, which is the same in all languages: `registry`, `format`, `limits`, `growth`, `text`, `bytes`,
+    /// `path`, `example`, `value`, `stack` or `memory`.
+    pub const fn name(&self) -> &'static str {
+        match self {
+            ErrorKind::Registry(_) => "registry",
+            ErrorKind::Format(_) => "format",
+            ErrorKind::Limits => "limits",
+            ErrorKind::Growth(_) => "growth",
+            ErrorKind::Text(_) => "text",
+            ErrorKind::Bytes(_) | ErrorKind::TooNested => "bytes",
+            ErrorKind::Path => "path",
+            ErrorKind::Example(_) => "example",
+            ErrorKind::Value => "value",
+            ErrorKind::Stack => "stack",
+            ErrorKind::Memory => "memory",
+        }
+    }
+
+    /// The fault's name, as the program `bcs` prints it; `WrongType` for values. Limits, stack and memory have none.
+    pub const fn reason(&self) -> Option<&'static str> {
         match self {
             ErrorKind::Registry(fault) | ErrorKind::Format(fault) => Some(fault.name()),
             ErrorKind::Growth(fault) => Some(fault.name()),
@@ -111,11 +134,12 @@ impl ErrorKind {
             ErrorKind::TooNested => Some("TooNested"),
             ErrorKind::Path => Some("BadPath"),
             ErrorKind::Example(fault) => Some(fault.name()),
-            ErrorKind::Limits | ErrorKind::Memory | ErrorKind::Type => None,
+            ErrorKind::Value => Some("WrongType"),
+            ErrorKind::Limits | ErrorKind::Stack | ErrorKind::Memory => None,
         }
     }
 
-    /// Where bytes stop being a value, in bytes from the front.
+    /// The offset of the byte where bytes stop being a value.
     pub const fn place(&self) -> Option<usize> {
         match self {
             ErrorKind::Bytes(stop) => Some(stop.place),
@@ -123,33 +147,35 @@ impl ErrorKind {
         }
     }
 
-    /// What is refused.
-    const fn what(&self) -> &'static str {
+    /// What is wrong, if nothing more is known.
+    const fn meaning(&self) -> &'static str {
         match self {
-            ErrorKind::Registry(_) => "the registry is refused",
-            ErrorKind::Format(_) => "the format is refused",
-            ErrorKind::Limits => "the limits are refused",
-            ErrorKind::Growth(_) => "the registry doesn't grow",
-            ErrorKind::Text(_) => "the text is refused",
-            ErrorKind::Bytes(_) | ErrorKind::TooNested => "the bytes are refused",
-            ErrorKind::Path => "the path is refused",
-            ErrorKind::Example(_) => "there is no example",
-            ErrorKind::Memory => "memory ran out",
-            ErrorKind::Type => "the type doesn't fit",
+            ErrorKind::Registry(fault) | ErrorKind::Format(fault) => fault.meaning(),
+            ErrorKind::Limits => "the depth is above 500",
+            ErrorKind::Growth(fault) => fault.meaning(),
+            ErrorKind::Text(fault) => fault.meaning(),
+            ErrorKind::Bytes(stop) => stop.reason.meaning(),
+            ErrorKind::TooNested => "the value's JSON would nest more than 100 deep",
+            ErrorKind::Path => "not a path, a name or a pointer of a part",
+            ErrorKind::Example(fault) => fault.meaning(),
+            ErrorKind::Value => "the value and the format don't fit",
+            ErrorKind::Stack => "the thread has too little stack left",
+            ErrorKind::Memory => "out of memory",
         }
     }
 
     fn of(answer: Answer) -> ErrorKind {
-        let told = match answer.status {
+        let kind = match answer.status {
             sys::REGISTRY | sys::NEWER => RegistryFault::of(answer.fault).map(ErrorKind::Registry),
             sys::FORMAT => RegistryFault::of(answer.fault).map(ErrorKind::Format),
             sys::LIMITS => Some(ErrorKind::Limits),
             sys::REFUSED => refusal(answer),
             sys::MEMORY => Some(ErrorKind::Memory),
+            sys::STACK => Some(ErrorKind::Stack),
             sys::PATH => Some(ErrorKind::Path),
             _ => None,
         };
-        told.unwrap_or_else(|| panic!("libbcs.a isn't of this crate's version: it answered {answer:?}"))
+        kind.unwrap_or_else(|| panic!("libbcs.a isn't of this crate's version: it answered {answer:?}"))
     }
 }
 
@@ -170,49 +196,30 @@ pub(crate) fn stop(answer: Answer) -> Option<Stop> {
     Some(Stop { reason: Reason::of(answer.fault)?, place: sys::to_place(answer.place) })
 }
 
-impl fmt::Display for ErrorKind {
+/// The line `refused: REASON at byte PLACE, AT: MESSAGE`, without what there isn't.
+impl fmt::Display for Error {
     fn fmt(&self, f: &mut fmt::Formatter<'_>) -> fmt::Result {
-        let what = self.what();
-        match self {
-            ErrorKind::Registry(fault) | ErrorKind::Format(fault) => write!(f, "{what}: {fault}"),
-            ErrorKind::Limits => write!(f, "{what}: their depth is above 500"),
-            ErrorKind::Growth(fault) => write!(f, "{what}: {fault}"),
-            ErrorKind::Example(fault) => write!(f, "{what}: {fault}"),
-            ErrorKind::Text(fault) => write!(f, "{what}: {fault}"),
-            ErrorKind::Bytes(stop) => write!(f, "{what}: {stop}"),
-            ErrorKind::TooNested => write!(f, "{what}: TooNested: their text would nest more than 100 deep"),
-            ErrorKind::Path => write!(
-                f,
-                "{what}: BadPath: a path is . or steps with / between them: \
-                 a number, inner, or key: and hexadecimal digits"
-            ),
-            ErrorKind::Memory | ErrorKind::Type => f.write_str(what),
+        if self.kind == ErrorKind::Memory {
+            return f.write_str(self.message());
         }
+        f.write_str("refused")?;
+        if let Some(reason) = self.reason() {
+            write!(f, ": {reason}")?;
+        }
+        match (self.place(), self.at().unwrap_or_default()) {
+            (None, "") => Ok(()),
+            (None, at) => write!(f, " at {at}"),
+            (Some(place), "") => write!(f, " at byte {place}"),
+            (Some(place), at) => write!(f, " at byte {place}, {at}"),
+        }?;
+        write!(f, ": {}", self.message())
     }
 }
 
-/// What is refused, why, where, and what was wanted there.
-impl fmt::Display for Error {
+/// The line of an error about which nothing more is known.
+impl fmt::Display for ErrorKind {
     fn fmt(&self, f: &mut fmt::Formatter<'_>) -> fmt::Result {
-        let Some(told) = &self.told else {
-            return self.kind.fmt(f);
-        };
-        let Some(name) = self.name() else {
-            let colon = if told.pointer.is_empty() { "" } else { ": " };
-            return write!(f, "{}: {}{colon}{}", self.kind.what(), told.pointer, told.expected);
-        };
-        let is_text = matches!(self.kind, ErrorKind::Text(_) | ErrorKind::Registry(_));
-        let pointer = if told.pointer.is_empty() && is_text { "the whole text" } else { &told.pointer };
-        write!(f, "{}: {name}", self.kind.what())?;
-        match self.place() {
-            Some(place) => write!(f, " at {place}, {pointer}")?,
-            None if pointer.is_empty() => (),
-            None => write!(f, " at {pointer}")?,
-        }
-        match self.expected() {
-            Some(words) => write!(f, ": {words}"),
-            None => Ok(()),
-        }
+        Error::from(*self).fmt(f)
     }
 }
 
@@ -222,7 +229,7 @@ impl std::error::Error for ErrorKind {}
 
 impl From<ErrorKind> for Error {
     fn from(kind: ErrorKind) -> Error {
-        Error { kind, told: None }
+        Error { kind, found: None }
     }
 }
 
@@ -236,8 +243,8 @@ impl PartialEq<ErrorKind> for Error {
 #[cfg(feature = "serde_json")]
 impl From<crate::mismatch::Mismatch> for Error {
     fn from(mismatch: crate::mismatch::Mismatch) -> Error {
-        let told = Told { pointer: mismatch.pointer, expected: mismatch.words };
-        Error { kind: mismatch.kind, told: (mismatch.kind != ErrorKind::Memory).then(|| Box::new(told)) }
+        let is_found = mismatch.kind != ErrorKind::Stack;
+        Error::from(mismatch.kind).found(is_found.then_some((mismatch.pointer, mismatch.words)))
     }
 }
 

@@ -1,4 +1,5 @@
 use crate::faults::Stop;
+use crate::hex;
 use crate::json::{Json, members};
 use crate::sys;
 use std::fmt;
@@ -94,7 +95,7 @@ impl Piece {
         };
         Some(Piece {
             place: text("place")?.parse().ok()?,
-            bytes: bytes_of(&text("bytes")?)?,
+            bytes: hex::bytes_of(&text("bytes")?)?,
             kind: text("kind")?,
             what: text("what")?,
             value: text("value")?,
@@ -102,8 +103,4 @@ impl Piece {
             path: text("path"),
         })
     }
-}
-
-fn bytes_of(digits: &str) -> Option<Vec<u8>> {
-    (0..digits.len()).step_by(2).map(|place| u8::from_str_radix(digits.get(place..place + 2)?, 16).ok()).collect()
 }

@@ -124,7 +124,7 @@ pub struct Stop {
 impl fmt::Display for Stop {
     fn fmt(&self, f: &mut fmt::Formatter<'_>) -> fmt::Result {
         let (reason, place) = (self.reason, self.place);
-        write!(f, "{} at {place}: {}", reason.name(), reason.meaning())
+        write!(f, "{} at byte {place}: {}", reason.name(), reason.meaning())
     }
 }
 

@@ -9,12 +9,12 @@ use std::fmt;
 /// use bcs_proved::{Format, Registry};
 ///
 /// let registry = Registry::read(r#"{"Wallet":{"NEWTYPESTRUCT":{"SEQ":"U64"}}}"#)?;
-/// assert_eq!(registry.encode("Wallet", "[7]")?, [1, 7, 0, 0, 0, 0, 0, 0, 0]);
+/// assert_eq!(registry.encode_json("Wallet", "[7]")?, [1, 7, 0, 0, 0, 0, 0, 0, 0]);
 ///
-/// assert_eq!(registry.encode("\"U16\"", "7")?, [7, 0]);
+/// assert_eq!(registry.encode_json("\"U16\"", "7")?, [7, 0]);
 ///
 /// let pair = Format::json(r#"{"TUPLE":["U8",{"TYPENAME":"Wallet"}]}"#);
-/// assert_eq!(registry.encode(&pair, "[9, []]")?, [9, 0]);
+/// assert_eq!(registry.encode_json(&pair, "[9, []]")?, [9, 0]);
 /// # Ok::<(), bcs_proved::Error>(())
 /// ```
 ///

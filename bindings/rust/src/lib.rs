@@ -1,4 +1,4 @@
-//! Canonical bytes (BCS) of JSON texts, by the serde-reflection registry of a chain.
+//! Canonical bytes (BCS) of values and of JSON, by the serde-reflection registry of a chain.
 //!
 //! Wallets, explorers and auditors sign and hash such bytes, and two spellings of one value would break signatures and
 //! ids. So the library below this crate is proved: equal values have equal bytes, the decoder takes exactly the bytes that
@@ -8,8 +8,8 @@
 //! use bcs_proved::Registry;
 //!
 //! let registry = Registry::read(r#"{"Payment":{"STRUCT":[{"to":"STR"},{"amount":"U64"}]}}"#)?;
-//! let bytes = registry.encode("Payment", r#"{"to": "bob", "amount": 7}"#)?;
-//! let text = registry.decode("Payment", &bytes)?;
+//! let bytes = registry.encode_json("Payment", r#"{"to": "bob", "amount": 7}"#)?;
+//! let text = registry.decode_json("Payment", &bytes)?;
 //! assert_eq!(text, r#"{"amount":"7","to":"bob"}"#);
 //! # Ok::<(), bcs_proved::Error>(())
 //! ```
@@ -17,16 +17,26 @@
 //! A registry stands in a file mostly, as `Registry::read(include_str!("registry.json"))?` or
 //! `Registry::read(std::fs::read("registry.json")?)?`.
 //!
-//! With the feature `serde_json`, values may also be a `serde_json::Value` or of your own `serde` types.
+//! With the feature `serde_json`, `Registry::encode` and `Registry::decode` take and return values of your own `serde` types.
 
+#[cfg(feature = "serde_json")]
+mod address;
+#[cfg(feature = "serde_json")]
+pub mod bytes;
 mod error;
 mod explanation;
 mod faults;
 mod format;
+mod hex;
+#[cfg(feature = "serde_json")]
+mod integers;
 mod json;
 mod limits;
 #[cfg(feature = "serde_json")]
 mod mismatch;
+mod places;
+#[cfg(feature = "serde_json")]
+mod probe;
 mod registry;
 #[cfg(feature = "serde_json")]
 mod serde_in;
@@ -37,13 +47,21 @@ mod shapes;
 mod sys;
 #[cfg(feature = "serde_json")]
 mod values;
+#[cfg(feature = "serde_json")]
+mod wide_integers;
 
+#[cfg(feature = "serde_json")]
+pub use address::{Address, ParseError};
+#[cfg(feature = "serde_json")]
+pub use bytes::{Bytes, Hex};
 pub use error::{Error, ErrorKind};
 pub use explanation::{Explanation, Form, Piece, Pieces};
 pub use faults::{ExampleFault, GrowthFault, Reason, RegistryFault, Stop, TextFault};
 pub use format::Format;
 pub use limits::Limits;
 pub use registry::{Example, Part, Registry};
+#[cfg(feature = "serde_json")]
+pub use wide_integers::{I256, OutOfRange, U256};
 
 /// The examples of the README are tested with those of the crate. One of them needs the feature.
 #[cfg(all(doctest, feature = "serde_json"))]

@@ -15,9 +15,9 @@ pub struct Limits {
     /// How many nodes a value may have. Each shape of a value is one: a number, a string, an option, a list, a container,
     /// and a container's row of fields. A number is used as it is.
     ///
-    /// `None` sets the limit by what a call reads: 16 nodes for each byte and 1,000,000 more where it reads bytes, so that a
-    /// few hostile bytes can't become gigabytes; 4294967295 where it reads JSON or a value, which is at least as large as
-    /// what it becomes.
+    /// `None` sets the limit by what a call reads. For bytes it is 16 nodes per byte plus 65,536, or fewer if the registry has
+    /// a name of more than 64 bytes, so that a few hostile bytes can't become gigabytes. For JSON and values, which are at least
+    /// as large as what they become, it is 4294967295.
     pub nodes: Option<u32>,
 }
 
@@ -30,39 +30,11 @@ impl Limits {
     pub(crate) fn nodes_of_text(self) -> u32 {
         self.nodes.unwrap_or(u32::MAX)
     }
-
-    /// The nodes that a value may have which is read from this many bytes.
-    pub(crate) fn nodes_of_bytes(self, length: usize) -> u32 {
-        let by_length = length.saturating_mul(16).saturating_add(1_000_000);
-        self.nodes.unwrap_or(u32::try_from(by_length).unwrap_or(u32::MAX))
-    }
 }
 
 /// A depth of 500, and nodes by what a call reads.
 impl Default for Limits {
     fn default() -> Limits {
         Limits { depth: 500, nodes: None }
-    }
-}
-
-#[cfg(test)]
-mod tests {
-    use super::Limits;
-
-    #[test]
-    fn nodes_grow_with_the_bytes() {
-        let rows = [
-            (0, 1_000_000),
-            (5, 1_000_080),
-            (268_372_955, 4_294_967_280),
-            (268_372_956, u32::MAX),
-            (usize::MAX, u32::MAX),
-        ];
-        for (length, nodes) in rows {
-            assert_eq!(Limits::default().nodes_of_bytes(length), nodes, "{length}");
-            assert_eq!(Limits::STANDARD.nodes_of_bytes(length), u32::MAX, "{length}");
-            assert_eq!(Limits { nodes: Some(7), ..Limits::default() }.nodes_of_bytes(length), 7, "{length}");
-        }
-        assert_eq!(Limits::default().nodes_of_text(), u32::MAX);
     }
 }

@@ -1,7 +1,9 @@
 //! Why a value of a `serde` type isn't one of a format.
 use crate::error::ErrorKind;
 use crate::faults::TextFault;
+use crate::probe;
 use crate::shapes::Shape;
+use serde::de::{self, Expected, Unexpected};
 use std::fmt;
 
 /// Why, and where: a JSON Pointer.
@@ -16,13 +18,18 @@ pub struct Mismatch {
 
 impl Mismatch {
     pub(crate) fn new(words: impl fmt::Display) -> Mismatch {
-        Mismatch { kind: ErrorKind::Type, pointer: String::new(), words: words.to_string(), names_format: false }
+        Mismatch { kind: ErrorKind::Value, pointer: String::new(), words: words.to_string(), names_format: false }
     }
 
     /// The type has something that the format doesn't take.
     pub(crate) fn unfit(shape: &Shape, found: &str) -> Mismatch {
         let words = format!("{} takes {}, not {found}", shape.name(), shape.takes());
         Mismatch { names_format: true, ..Mismatch::new(words) }
+    }
+
+    /// An integer type, or an integer format, doesn't have every number of the other.
+    pub(crate) fn narrow(integer: &str, other: &str) -> Mismatch {
+        Mismatch { names_format: true, ..Mismatch::new(format_args!("{integer} doesn't hold every {other}")) }
     }
 
     /// The JSON of the value would nest too deep for the library.
@@ -33,12 +40,12 @@ impl Mismatch {
 
     /// The thread has too little stack for a value that nests so deep.
     pub(crate) fn out_of_stack() -> Mismatch {
-        Mismatch { kind: ErrorKind::Memory, ..Mismatch::new("") }
+        Mismatch { kind: ErrorKind::Stack, ..Mismatch::new("") }
     }
 
     /// The same of a member or an element. The library reports `TooNested` for the whole value, so this does, too.
     pub(crate) fn under(mut self, step: impl fmt::Display) -> Mismatch {
-        if self.kind == ErrorKind::Type {
+        if self.kind == ErrorKind::Value {
             let step = step.to_string().replace('~', "~0").replace('/', "~1");
             self.pointer.insert_str(0, &format!("/{step}"));
         }
@@ -63,9 +70,16 @@ impl fmt::Display for Mismatch {
 
 impl std::error::Error for Mismatch {}
 
-impl serde::de::Error for Mismatch {
+impl de::Error for Mismatch {
     fn custom<T: fmt::Display>(message: T) -> Mismatch {
         Mismatch::new(message)
+    }
+
+    fn invalid_type(found: Unexpected<'_>, wanted: &dyn Expected) -> Mismatch {
+        if let Unexpected::Char(character) = found {
+            probe::record(character, wanted.to_string());
+        }
+        Mismatch::new(format_args!("invalid type: {found}, expected {wanted}"))
     }
 }
 

@@ -3,6 +3,7 @@ use crate::explanation::{Explanation, Form, Pieces};
 use crate::format::Format;
 use crate::json;
 use crate::limits::Limits;
+use crate::places::{Report, location_and_message, location_in_registry};
 use crate::sys::{self, Answer, Open, Question};
 use std::collections::HashSet;
 use std::fmt;
@@ -15,8 +16,8 @@ use std::sync::Arc;
 ///
 /// Any number of threads may use one registry at the same time, and a clone of it costs next to nothing.
 ///
-/// The default [`Limits`] allow 16 nodes for each byte that a call reads and 1,000,000 more. Values of the chains' registries
-/// stay far below that; a few bytes that stand for millions of empty values are rejected as `TooManyNodes`.
+/// The default [`Limits`] allow 16 nodes per byte that a call reads, plus 65,536. Values of the chains' registries stay far below
+/// that; a few bytes that encode millions of empty values are rejected as `TooManyNodes`.
 #[derive(Clone)]
 pub struct Registry {
     open: Arc<Open>,
@@ -35,15 +36,16 @@ impl Registry {
     ///
     /// let error = Registry::read(r#"{"Receipt":{"STRUCT":[{"of":{"TYPENAME":"Payment"}}]}}"#).unwrap_err();
     /// assert_eq!(error, ErrorKind::Registry(RegistryFault::UnknownName));
-    /// assert_eq!(error.pointer(), Some("Receipt, field of"));
-    /// assert_eq!(error.expected(), Some("no container is called Payment"));
+    /// assert_eq!(error.to_string(), "refused: UnknownName at Receipt, field of: no container is called Payment");
     /// # Ok::<(), Error>(())
     /// ```
     pub fn read(text: impl AsRef<[u8]>) -> Result<Registry, Error> {
         let text = text.as_ref();
         let refused = |answer| {
-            let told = |what| told(|out| sys::registry_place(what, text, out));
-            Error::of(answer).told(told(sys::WHERE).map(|pointer| (pointer, told(sys::WANTED).unwrap_or_default())))
+            let (error, written) = (Error::of(answer), |what| written(|out| sys::registry_place(what, text, out)));
+            let report = written(sys::WHERE).zip(written(sys::WANTED));
+            let found = report.map(|(at, message)| (location_in_registry(at, error.reason()), message));
+            error.found(found)
         };
         let open = Open::read(text).map_err(refused)?;
         Ok(Registry {
@@ -74,8 +76,8 @@ impl Registry {
     ///
     /// let registry = Registry::read(r#"{"Lots":{"NEWTYPESTRUCT":{"SEQ":"U8"}}}"#)?;
     /// let small = registry.with_limits(Limits { nodes: Some(4), ..Limits::default() });
-    /// assert_eq!(small.encode("Lots", "[1,2]")?, [2, 1, 2]);
-    /// assert_eq!(small.encode("Lots", "[1,2,3]").unwrap_err(), ErrorKind::Text(TextFault::TooManyNodes));
+    /// assert_eq!(small.encode_json("Lots", "[1,2]")?, [2, 1, 2]);
+    /// assert_eq!(small.encode_json("Lots", "[1,2,3]").unwrap_err(), ErrorKind::Text(TextFault::TooManyNodes));
     /// # Ok::<(), Error>(())
     /// ```
     #[must_use]
@@ -118,7 +120,7 @@ impl Registry {
     /// ```
     pub fn grows(&self, newer: &Registry) -> Result<(), Error> {
         let grown = done(self.open.grows(&newer.open)).map(drop);
-        grown.map_err(|error| in_line(error, "", |out| self.open.growth_place(&newer.open, out)))
+        grown.map_err(|error| found_in_line(error, "", |out| self.open.growth_place(&newer.open, out)))
     }
 
     /// All differences from this registry to a newer one, a line for each, as `bcs grows --list` prints them.
@@ -189,8 +191,8 @@ impl Registry {
 
     fn shown(&self, form: u32, name: &str) -> Result<String, Error> {
         let shown = fill(4096, |out| self.open.show(form, name.as_bytes(), out));
-        let told = || Some((String::new(), format!("no container is called {name}")));
-        let refused = |error: Error| if error.name().is_some() { error.told(told()) } else { error };
+        let missing = || Some((String::new(), format!("no container is called {name}")));
+        let refused = |error: Error| if error.reason().is_some() { error.found(missing()) } else { error };
         Ok(into_text(shown.map_err(refused)?.0))
     }
 
@@ -200,11 +202,11 @@ impl Registry {
     /// use bcs_proved::Registry;
     ///
     /// let registry = Registry::read(r#"{"Payment":{"STRUCT":[{"to":"STR"},{"amount":"U64"}]}}"#)?;
-    /// let bytes = registry.encode("Payment", r#"{"amount": 7, "to": "bob"}"#)?;
+    /// let bytes = registry.encode_json("Payment", r#"{"amount": 7, "to": "bob"}"#)?;
     /// assert_eq!(bytes, b"\x03bob\x07\0\0\0\0\0\0\0");
     /// # Ok::<(), bcs_proved::Error>(())
     /// ```
-    pub fn encode(&self, format: impl Into<Format>, text: impl AsRef<[u8]>) -> Result<Vec<u8>, Error> {
+    pub fn encode_json(&self, format: impl Into<Format>, text: impl AsRef<[u8]>) -> Result<Vec<u8>, Error> {
         let (format, text) = (format.into(), text.as_ref());
         // Digits and names make most texts longer than their bytes.
         let room = text.len().saturating_add(64);
@@ -218,11 +220,11 @@ impl Registry {
     /// use bcs_proved::Registry;
     ///
     /// let registry = Registry::read(r#"{"Payment":{"STRUCT":[{"to":"STR"},{"amount":"U64"}]}}"#)?;
-    /// let text = registry.decode("Payment", b"\x03bob\x07\0\0\0\0\0\0\0")?;
+    /// let text = registry.decode_json("Payment", b"\x03bob\x07\0\0\0\0\0\0\0")?;
     /// assert_eq!(text, r#"{"amount":"7","to":"bob"}"#);
     /// # Ok::<(), bcs_proved::Error>(())
     /// ```
-    pub fn decode(&self, format: impl Into<Format>, bytes: impl AsRef<[u8]>) -> Result<String, Error> {
+    pub fn decode_json(&self, format: impl Into<Format>, bytes: impl AsRef<[u8]>) -> Result<String, Error> {
         let (format, bytes) = (format.into(), bytes.as_ref());
         let room = bytes.len().saturating_mul(4).saturating_add(256);
         let decoded = fill(room, |out| self.open.decode(self.of_bytes(&format, bytes), bytes, out));
@@ -233,16 +235,25 @@ impl Registry {
     ///
     /// ```
     /// let registry = bcs_proved::Registry::read("{}")?;
-    /// assert_eq!(registry.decode_prefix(r#""U16""#, [1, 2, 3])?, ("513".to_owned(), 2));
+    /// assert_eq!(registry.decode_prefix_json(r#""U16""#, [1, 2, 3])?, ("513".to_owned(), 2));
     /// # Ok::<(), bcs_proved::Error>(())
     /// ```
-    pub fn decode_prefix(&self, format: impl Into<Format>, bytes: impl AsRef<[u8]>) -> Result<(String, usize), Error> {
+    pub fn decode_prefix_json(
+        &self,
+        format: impl Into<Format>,
+        bytes: impl AsRef<[u8]>,
+    ) -> Result<(String, usize), Error> {
         let (format, bytes) = (format.into(), bytes.as_ref());
-        let length = self.scan(&format, bytes)?;
-        // (the default limit depends on all bytes, so both steps get the same one)
-        let nodes = Some(self.limits.nodes_of_bytes(bytes.len()));
-        let limited = self.with_limits(Limits { nodes, ..self.limits });
-        Ok((limited.decode(&format, &bytes[..length])?, length))
+        let (limited, length) = self.prefix(&format, bytes)?;
+        Ok((limited.decode_json(&format, &bytes[..length])?, length))
+    }
+
+    /// The length of the value at the beginning of the bytes, and the registry with the limit for all bytes, which the default
+    /// limit depends on.
+    pub(crate) fn prefix(&self, format: &Format, bytes: &[u8]) -> Result<(Registry, usize), Error> {
+        let length = self.scan(format, bytes)?;
+        let nodes = Some(self.nodes_of_bytes(bytes.len()));
+        Ok((self.with_limits(Limits { nodes, ..self.limits }), length))
     }
 
     /// The one normal JSON text of the value that a JSON text denotes.
@@ -252,10 +263,10 @@ impl Registry {
     ///
     /// let registry = Registry::read("{}")?;
     /// let map = Format::json(r#"{"MAP":{"KEY":"STR","VALUE":"U8"}}"#);
-    /// assert_eq!(registry.normalise(&map, r#"[ ["aa", 2], ["b", 1] ]"#)?, r#"[["b",1],["aa",2]]"#);
+    /// assert_eq!(registry.normalise_json(&map, r#"[ ["aa", 2], ["b", 1] ]"#)?, r#"[["b",1],["aa",2]]"#);
     /// # Ok::<(), bcs_proved::Error>(())
     /// ```
-    pub fn normalise(&self, format: impl Into<Format>, text: impl AsRef<[u8]>) -> Result<String, Error> {
+    pub fn normalise_json(&self, format: impl Into<Format>, text: impl AsRef<[u8]>) -> Result<String, Error> {
         let (format, text) = (format.into(), text.as_ref());
         let room = text.len().saturating_add(64);
         let normal = fill(room, |out| self.open.normalise(self.of_text(&format), text, out));
@@ -269,11 +280,11 @@ impl Registry {
     ///
     /// let registry = Registry::read("{}")?;
     /// let number = Format::json(r#""U64""#);
-    /// assert!(registry.equal(&number, "7", r#""7""#)?);
-    /// assert!(!registry.equal(&number, "7", "8")?);
+    /// assert!(registry.equal_json(&number, "7", r#""7""#)?);
+    /// assert!(!registry.equal_json(&number, "7", "8")?);
     /// # Ok::<(), bcs_proved::Error>(())
     /// ```
-    pub fn equal(
+    pub fn equal_json(
         &self,
         format: impl Into<Format>,
         first: impl AsRef<[u8]>,
@@ -283,7 +294,7 @@ impl Registry {
         let answer = self.open.equal(self.of_text(&format), first, second);
         let compared = done_unless_no(answer).map_err(|error| {
             let in_first = self.in_text(error.clone(), &format, first);
-            if in_first.pointer().is_some() { in_first } else { self.in_text(error, &format, second) }
+            if in_first.at().is_some() { in_first } else { self.in_text(error, &format, second) }
         });
         Ok(compared?.is_some())
     }
@@ -328,7 +339,7 @@ impl Registry {
         let (format, bytes) = (format.into(), bytes.as_ref());
         let (path, question) = (path.as_ref(), self.of_bytes(&format, bytes));
         let found = done_unless_no(self.open.part(question, bytes, path)).map_err(|error| match error.kind() {
-            ErrorKind::Path => in_line(error, "PATH", |out| sys::path_place(path, out)),
+            ErrorKind::Path => found_in_line(error, "PATH", |out| sys::path_place(path, out)),
             _ => self.in_bytes(error, &format, bytes),
         });
         Ok(found?.map(|answer| Part::of(answer, bytes)))
@@ -381,9 +392,13 @@ impl Registry {
         notation: u32,
         name: &[u8],
     ) -> Result<Option<Part<'b>>, Error> {
+        let wanted = match notation {
+            sys::NAME => "wanted a name such as .payload.args[1]",
+            _ => "wanted a JSON Pointer such as /payload/args/1",
+        };
         let answer = self.open.part_named(self.of_bytes(format, bytes), notation, name, bytes);
         let found = done_unless_no(answer).map_err(|error| match error.kind() {
-            ErrorKind::Path => error,
+            ErrorKind::Path => error.found(Some((String::new(), wanted.to_owned()))),
             _ => self.in_bytes(error, format, bytes),
         });
         Ok(found?.map(|answer| Part::of(answer, bytes)))
@@ -440,17 +455,19 @@ impl Registry {
     /// The error of a text, with where it is rejected.
     fn in_text(&self, error: Error, format: &Format, text: &[u8]) -> Error {
         match error.kind() {
-            ErrorKind::Text(_) => error.told(refusal(|out| self.open.text_refusal(self.of_text(format), text, out))),
+            ErrorKind::Text(_) => {
+                found(error, Report::Apart, |out| self.open.text_refusal(self.of_text(format), text, out))
+            }
             _ => self.in_format(error, format),
         }
     }
 
-    /// The error of bytes, with the way to where they stop.
+    /// The error of bytes, with the field path to where they stop.
     fn in_bytes(&self, error: Error, format: &Format, bytes: &[u8]) -> Error {
         match error.kind() {
             ErrorKind::Bytes(_) => {
                 let question = self.of_bytes(format, bytes);
-                error.told(refusal(|out| self.open.stop_refusal(question, bytes, out)))
+                found(error, Report::Apart, |out| self.open.stop_refusal(question, bytes, out))
             }
             _ => self.in_format(error, format),
         }
@@ -459,7 +476,7 @@ impl Registry {
     /// The error of a format, with where it is rejected. Any other stays as it is.
     fn in_format(&self, error: Error, format: &Format) -> Error {
         match error.kind() {
-            ErrorKind::Format(_) => in_line(error, "FORMAT", |out| self.open.format_place(format.as_json(), out)),
+            ErrorKind::Format(_) => found_in_line(error, "FORMAT", |out| self.open.format_place(format.as_json(), out)),
             _ => error,
         }
     }
@@ -473,7 +490,12 @@ impl Registry {
     /// The parameters of a call that reads these bytes.
     fn of_bytes<'a>(&self, format: &'a Format, bytes: &[u8]) -> Question<'a> {
         let Limits { depth, .. } = self.limits;
-        Question { format: format.as_json(), depth, nodes: self.limits.nodes_of_bytes(bytes.len()) }
+        Question { format: format.as_json(), depth, nodes: self.nodes_of_bytes(bytes.len()) }
+    }
+
+    /// How many nodes a value may have that is read from this many bytes.
+    fn nodes_of_bytes(&self, length: usize) -> u32 {
+        self.limits.nodes.unwrap_or_else(|| self.open.nodes_for(length))
     }
 }
 
@@ -545,32 +567,24 @@ fn put(room: usize, call: impl Fn(&mut [u8]) -> Answer) -> Result<(Vec<u8>, Answ
     }
 }
 
-/// What a call tells of a refusal, if it does.
-fn told(call: impl Fn(&mut [u8]) -> Answer) -> Option<String> {
+/// What a call writes about a refusal, if it does.
+fn written(call: impl Fn(&mut [u8]) -> Answer) -> Option<String> {
     let (text, answer) = put(200, call).ok()?;
     (answer.status == sys::DONE).then(|| into_text(text))
 }
 
-/// Where an input is refused, and what was expected there. A pointer may contain the byte between them, and the words don't.
-fn refusal(call: impl Fn(&mut [u8]) -> Answer) -> Option<(String, String)> {
-    let text = told(call)?;
-    text.rsplit_once('\0').map(|(pointer, expected)| (pointer.to_owned(), expected.to_owned()))
+/// The error with the location and the message that a call reports.
+fn found(error: Error, report: Report, call: impl Fn(&mut [u8]) -> Answer) -> Error {
+    let found = written(call).and_then(|text| location_and_message(&text, report));
+    error.found(found)
 }
 
-/// The error with what a call reports in a line of the program, such as `at FORMAT, /SEQ: BadShape: wanted a format`.
-fn in_line(error: Error, prefix: &str, call: impl Fn(&mut [u8]) -> Answer) -> Error {
-    let parts = told(call).and_then(|line| parts_of_line(&line, prefix, error.name()?));
-    error.told(parts)
-}
-
-/// The parts of such a line. Names in it may contain anything.
-fn parts_of_line(line: &str, prefix: &str, reason: &str) -> Option<(String, String)> {
-    let (line, middle) = (line.strip_prefix("at ").unwrap_or(line), format!(": {reason}"));
-    // (only the words of UnknownName have a name in them, and only the place of the others)
-    let split = if reason == "UnknownName" { line.split_once(&middle) } else { line.rsplit_once(&middle) };
-    let (place, words) = split?;
-    let pointer = place.strip_prefix(prefix).map_or(place, |rest| rest.strip_prefix(", ").unwrap_or(rest));
-    Some((pointer.to_owned(), words.strip_prefix(": ").unwrap_or(words).to_owned()))
+/// The error with what a call reports as a line of the program.
+fn found_in_line(error: Error, prefix: &str, call: impl Fn(&mut [u8]) -> Answer) -> Error {
+    match error.reason() {
+        Some(reason) => found(error, Report::Line(prefix, reason), call),
+        None => error,
+    }
 }
 
 fn into_text(text: Vec<u8>) -> String {

@@ -1,14 +1,17 @@
 //! The JSON that the library prints, as a value of a `serde` type, by the format: the way back from `serde_out`.
 //!
-//! The format decides what a type gets, and its visitor rejects what isn't of its kind. What a type asks for is looked at
-//! only where visitors accept more: an `f64` would round an integer, a struct would take a tuple's elements by their order,
-//! bytes would take a string, and an `Option` a unit.
+//! The format decides what a type gets, and its visitor rejects what isn't of its kind. What a type requests matters only where
+//! visitors accept more: an `f64` would round an integer, a struct would take a tuple's elements by their order, a set would drop
+//! bytes that occur twice, a string would take bytes, and an `Option` a unit.
+use crate::hex;
+use crate::integers::{self, Integer, U8};
 use crate::mismatch::Mismatch;
-use crate::shapes::{At, FIELD_NAME, OCTET, Shape, VOID};
+use crate::shapes::{At, FIELD_NAME, OCTET, PLAIN_LIST, Shape, VOID};
 use serde::de::{self, DeserializeOwned, DeserializeSeed, Deserializer, MapAccess, SeqAccess, VariantAccess, Visitor};
 use serde::forward_to_deserialize_any;
 use serde_json::{Map, Value, map};
 use std::collections::HashMap;
+use std::str::FromStr;
 use std::vec;
 
 /// The value that JSON of a format represents.
@@ -36,22 +39,33 @@ fn whole<T>(value: T, length: usize, left: usize) -> Result<T, Mismatch> {
 }
 
 fn bytes_of(digits: &str) -> Result<Vec<u8>, Mismatch> {
-    let byte = |place| u8::from_str_radix(digits.get(place..place + 2).unwrap_or("?"), 16).map_err(Mismatch::new);
-    (0..digits.len()).step_by(2).map(byte).collect()
+    hex::bytes_of(digits).map_or_else(other_json, Ok)
 }
 
-/// An integer, as the first type that has it: each type of `serde` rejects what is out of its range.
-fn visit_integer<'de, V: Visitor<'de>>(json: Value, visitor: V) -> Result<V::Value, Mismatch> {
-    let digits = match json {
-        Value::String(digits) => digits,
-        number => number.to_string(),
+macro_rules! visit_integer {
+    ($format:ident, $json:ident, $visitor:ident: $($name:ident $visit:ident)*) => {
+        match $format {
+            $(integers::$name => $visitor.$visit(integer_of($json)?),)*
+            _ => other_json(),
+        }
     };
-    match (digits.parse::<u64>(), digits.parse::<i64>(), digits.parse::<u128>()) {
-        (Ok(number), ..) => visitor.visit_u64(number),
-        (_, Ok(number), _) => visitor.visit_i64(number),
-        (.., Ok(number)) => visitor.visit_u128(number),
-        _ => visitor.visit_i128(digits.parse().map_err(Mismatch::new)?),
+}
+
+/// An integer, as the type of Rust that has the format's range. Wider types accept it, and no other does.
+fn visit_integer<'de, V: Visitor<'de>>(format: Integer, json: Value, visitor: V) -> Result<V::Value, Mismatch> {
+    visit_integer! {
+        format, json, visitor:
+        U8 visit_u8 U16 visit_u16 U32 visit_u32 U64 visit_u64 U128 visit_u128
+        I8 visit_i8 I16 visit_i16 I32 visit_i32 I64 visit_i64 I128 visit_i128
     }
+}
+
+fn integer_of<N: FromStr>(json: Value) -> Result<N, Mismatch> {
+    let number = match json {
+        Value::String(digits) => digits.parse(),
+        number => number.to_string().parse(),
+    };
+    number.or_else(|_| other_json())
 }
 
 impl<'w> Reader<'w> {
@@ -63,13 +77,19 @@ impl<'w> Reader<'w> {
         Err(Mismatch::unfit(self.at.entered().shape, type_is))
     }
 
-    /// What the format has here.
+    /// What the format has here, for a type that requests it.
+    fn visit_as_requested<'de, V: Visitor<'de>>(self, visitor: V) -> Result<V::Value, Mismatch> {
+        let shape = self.at.shape;
+        self.visit(visitor).map_err(|error: Mismatch| error.of_format(shape))
+    }
+
     fn visit<'de, V: Visitor<'de>>(self, visitor: V) -> Result<V::Value, Mismatch> {
         let Reader { at, json } = self;
         match (at.shape, json) {
             (Shape::Unit, _) => visitor.visit_unit(),
             (Shape::Bool, Value::Bool(truth)) => visitor.visit_bool(truth),
-            (Shape::Integer(_) | Shape::Octet, json) => visit_integer(json, visitor),
+            (Shape::Integer(format), json) => visit_integer(*format, json, visitor),
+            (Shape::Octet, json) => visit_integer(U8, json, visitor),
             (Shape::Str | Shape::FieldName | Shape::Enum(_), Value::String(text)) => visitor.visit_string(text),
             (Shape::Option(_), json) => Reader { at, json }.visit_option(visitor),
             (Shape::Struct(parts) | Shape::Enum(parts), Value::Object(members)) => {
@@ -118,12 +138,15 @@ impl<'w> Reader<'w> {
 }
 
 macro_rules! integers {
-    ($($name:ident: $type_is:literal,)*) => {
-        /// The bytes of `BYTES` are each a `u8`, and no other integer.
+    ($($name:ident: $integer:ident,)*) => {
+        /// An integer type has to hold all numbers of the format, whatever this one is. The bytes of `BYTES` are each a `u8`, and
+        /// no other integer.
         $(fn $name<V: Visitor<'de>>(self, visitor: V) -> Result<V::Value, Mismatch> {
-            match self.at.shape {
-                Shape::Octet => self.unfit($type_is),
-                _ => self.deserialize_any(visitor),
+            let (reader, integer) = (self.entered(), integers::$integer);
+            match reader.at.shape {
+                Shape::Integer(format) if !integer.holds(*format) => Err(Mismatch::narrow(integer.rust, format.format)),
+                Shape::Octet if integer != U8 => reader.unfit(&integer.found()),
+                _ => reader.visit_as_requested(visitor),
             }
         })*
     };
@@ -139,15 +162,18 @@ macro_rules! nothing {
 impl<'de> Deserializer<'de> for Reader<'_> {
     type Error = Mismatch;
 
-    /// A type that doesn't say what it is, as `serde_json::Value` and what is flattened, can't tell `None` from a `Some` of
-    /// nothing, so it gets neither of two options in one another where the outer one is there.
+    /// For a type that doesn't say what it is, such as `serde_json::Value`, and for the buffers of what is flattened. It can't tell
+    /// `None` from a `Some` of nothing, so it gets neither of two options in one another where the outer one is there.
     fn deserialize_any<V: Visitor<'de>>(self, visitor: V) -> Result<V::Value, Mismatch> {
         let reader = self.entered();
         let shape = reader.at.shape;
         if matches!(shape, Shape::Option(_)) && reader.json.get("some").is_some_and(Value::is_null) {
             return reader.unfit("a type for which Some(None) is None");
         }
-        reader.visit(visitor).map_err(|error: Mismatch| error.of_format(shape))
+        if let Some(character) = reader.at.walk.probe.in_place_of(shape) {
+            return visitor.visit_char(character).map_err(|error: Mismatch| error.of_format(shape));
+        }
+        reader.visit_as_requested(visitor)
     }
 
     fn deserialize_ignored_any<V: Visitor<'de>>(self, visitor: V) -> Result<V::Value, Mismatch> {
@@ -159,20 +185,17 @@ impl<'de> Deserializer<'de> for Reader<'_> {
     }
 
     integers! {
-        deserialize_i8: "an i8", deserialize_i16: "an i16", deserialize_i32: "an i32", deserialize_i64: "an i64",
-        deserialize_i128: "an i128", deserialize_u16: "a u16", deserialize_u32: "a u32", deserialize_u64: "a u64",
-        deserialize_u128: "a u128",
+        deserialize_i8: I8, deserialize_i16: I16, deserialize_i32: I32, deserialize_i64: I64, deserialize_i128: I128,
+        deserialize_u8: U8, deserialize_u16: U16, deserialize_u32: U32, deserialize_u64: U64, deserialize_u128: U128,
     }
 
     nothing! { deserialize_f32: "an f32", deserialize_f64: "an f64", deserialize_char: "a char", }
 
-    /// A type that reads strings gets the string that the library prints: decimal or hexadecimal digits, or a variant's name.
+    /// A string is never bytes, a number or a variant, whatever its text is.
     fn deserialize_string<V: Visitor<'de>>(self, visitor: V) -> Result<V::Value, Mismatch> {
-        match self.json {
-            Value::String(text) => {
-                visitor.visit_string(text).map_err(|error: Mismatch| error.of_format(self.at.entered().shape))
-            }
-            _ => self.deserialize_any(visitor),
+        match self.at.entered().shape {
+            Shape::Str | Shape::FieldName => self.deserialize_any(visitor),
+            _ => self.unfit("a string"),
         }
     }
 
@@ -204,23 +227,27 @@ impl<'de> Deserializer<'de> for Reader<'_> {
         visitor.visit_newtype_struct(self)
     }
 
+    /// A set is a list for `serde`, too, and `BYTES` aren't a set.
     fn deserialize_seq<V: Visitor<'de>>(self, visitor: V) -> Result<V::Value, Mismatch> {
+        match self.at.entered().shape {
+            Shape::Bytes => self.unfit(PLAIN_LIST),
+            _ => self.deserialize_tuple(0, visitor),
+        }
+    }
+
+    fn deserialize_tuple<V: Visitor<'de>>(self, _: usize, visitor: V) -> Result<V::Value, Mismatch> {
         let reader = self.entered();
         let shape = reader.at.shape;
         reader.visit_items(visitor).map_err(|error: Mismatch| error.of_format(shape))
     }
 
-    fn deserialize_tuple<V: Visitor<'de>>(self, _: usize, visitor: V) -> Result<V::Value, Mismatch> {
-        self.deserialize_seq(visitor)
-    }
-
     fn deserialize_tuple_struct<V: Visitor<'de>>(
         self,
         _: &'static str,
-        _: usize,
+        length: usize,
         visitor: V,
     ) -> Result<V::Value, Mismatch> {
-        self.deserialize_seq(visitor)
+        self.deserialize_tuple(length, visitor)
     }
 
     fn deserialize_map<V: Visitor<'de>>(self, visitor: V) -> Result<V::Value, Mismatch> {
@@ -265,7 +292,7 @@ impl<'de> Deserializer<'de> for Reader<'_> {
         visitor.visit_enum(Variant { at, name, payload }).map_err(|error: Mismatch| error.of_format(shape))
     }
 
-    forward_to_deserialize_any! { bool u8 unit unit_struct identifier }
+    forward_to_deserialize_any! { bool unit unit_struct identifier }
 }
 
 /// The formats of a list's elements.
@@ -447,8 +474,8 @@ impl<'de> VariantAccess<'de> for Variant<'_> {
         self.read(|payload| seed.deserialize(payload))
     }
 
-    fn tuple_variant<V: Visitor<'de>>(self, _: usize, visitor: V) -> Result<V::Value, Mismatch> {
-        self.read(|payload| payload.deserialize_seq(visitor))
+    fn tuple_variant<V: Visitor<'de>>(self, length: usize, visitor: V) -> Result<V::Value, Mismatch> {
+        self.read(|payload| payload.deserialize_tuple(length, visitor))
     }
 
     fn struct_variant<V: Visitor<'de>>(

@@ -1,7 +1,9 @@
 //! Values of `serde` types as the JSON that the library reads, by the format: what isn't of the format's kind is rejected
-//! here, and everything else (ranges, lengths, fields, variants) by the library.
+//! here, and everything else (lengths, fields, variants, keys) by the library.
+use crate::hex;
+use crate::integers::{self, Integer, U8};
 use crate::mismatch::Mismatch;
-use crate::shapes::{At, FIELD_NAME, OCTET, Shape, VOID};
+use crate::shapes::{At, FIELD_NAME, OCTET, PLAIN_LIST, Shape, VOID};
 use serde::ser::{self, Serialize, Serializer};
 use std::collections::HashMap;
 use std::fmt::{self, Write};
@@ -24,7 +26,7 @@ const NO_VALUE: &str = "0.5";
 enum Kind {
     Unit,
     Bool,
-    Integer,
+    Integer(Integer),
     Text,
     Bytes,
     None,
@@ -39,11 +41,8 @@ fn fits(shape: &Shape, kind: Kind) -> bool {
     match kind {
         Kind::Unit => matches!(shape, Shape::Unit),
         Kind::Bool => matches!(shape, Shape::Bool),
-        Kind::Integer => matches!(shape, Shape::Integer(_)),
-        Kind::Text => {
-            matches!(shape, Shape::Str | Shape::FieldName | Shape::Integer(_) | Shape::Enum(_))
-                || fits(shape, Kind::Bytes)
-        }
+        Kind::Integer(integer) => matches!(shape, Shape::Integer(format) if format.holds(integer)),
+        Kind::Text => matches!(shape, Shape::Str | Shape::FieldName),
         Kind::Bytes => matches!(shape, Shape::Bytes) || shape.is_octets(),
         Kind::None => matches!(shape, Shape::Option(_)),
         Kind::Variant => matches!(shape, Shape::Enum(_)),
@@ -57,17 +56,6 @@ struct Quoted<'t>(&'t str);
 impl fmt::Display for Quoted<'_> {
     fn fmt(&self, f: &mut fmt::Formatter<'_>) -> fmt::Result {
         f.write_str(&serde_json::to_string(self.0).map_err(|_| fmt::Error)?)
-    }
-}
-
-/// A JSON string of hexadecimal digits.
-struct Digits<'t>(&'t [u8]);
-
-impl fmt::Display for Digits<'_> {
-    fn fmt(&self, f: &mut fmt::Formatter<'_>) -> fmt::Result {
-        f.write_char('"')?;
-        self.0.iter().try_for_each(|byte| write!(f, "{byte:02x}"))?;
-        f.write_char('"')
     }
 }
 
@@ -88,6 +76,15 @@ impl<'w> Writer<'w> {
             shape => return Err(Mismatch::unfit(shape, found)),
         }
         Ok(())
+    }
+
+    /// Writes an integer. Its type has to fit the format, whatever this one is. JSON numbers have at most 64 bits.
+    fn put_integer(mut self, integer: Integer, number: impl fmt::Display) -> Result<(), Mismatch> {
+        self.at = self.at.entered();
+        match self.at.shape {
+            Shape::Integer(format) if !format.holds(integer) => Err(Mismatch::narrow(format.format, integer.rust)),
+            _ => self.put(Kind::Integer(integer), &integer.found(), format_args!("\"{number}\"")),
+        }
     }
 
     /// Opens an array or an object.
@@ -171,10 +168,10 @@ fn in_variant(variant: Option<&str>, error: Mismatch) -> Mismatch {
     }
 }
 
-macro_rules! numbers {
-    ($($name:ident: $number:ty, $kind:ident, $found:literal, $json:literal;)*) => {
+macro_rules! integers {
+    ($($name:ident: $number:ty, $integer:ident;)*) => {
         $(fn $name(self, number: $number) -> Result<(), Mismatch> {
-            self.put(Kind::$kind, $found, format_args!($json, number))
+            self.put_integer(integers::$integer, number)
         })*
     };
 }
@@ -190,20 +187,32 @@ impl<'w> Serializer for Writer<'w> {
     type SerializeStruct = Fields<'w>;
     type SerializeStructVariant = Fields<'w>;
 
-    numbers! {
-        serialize_bool: bool, Bool, "a bool", "{}";
-        serialize_i8: i8, Integer, "an i8", "{}";
-        serialize_i16: i16, Integer, "an i16", "{}";
-        serialize_i32: i32, Integer, "an i32", "{}";
-        serialize_i64: i64, Integer, "an i64", "{}";
-        serialize_i128: i128, Integer, "an i128", "\"{}\"";
-        serialize_u16: u16, Integer, "a u16", "{}";
-        serialize_u32: u32, Integer, "a u32", "{}";
-        serialize_u64: u64, Integer, "a u64", "{}";
-        serialize_u128: u128, Integer, "a u128", "\"{}\"";
-        serialize_f32: f32, Float, "an f32", "{}";
-        serialize_f64: f64, Float, "an f64", "{}";
-        serialize_char: char, Char, "a char", "{}";
+    integers! {
+        serialize_i8: i8, I8;
+        serialize_i16: i16, I16;
+        serialize_i32: i32, I32;
+        serialize_i64: i64, I64;
+        serialize_i128: i128, I128;
+        serialize_u16: u16, U16;
+        serialize_u32: u32, U32;
+        serialize_u64: u64, U64;
+        serialize_u128: u128, U128;
+    }
+
+    fn serialize_bool(self, truth: bool) -> Result<(), Mismatch> {
+        self.put(Kind::Bool, "a bool", truth)
+    }
+
+    fn serialize_f32(self, number: f32) -> Result<(), Mismatch> {
+        self.put(Kind::Float, "an f32", number)
+    }
+
+    fn serialize_f64(self, number: f64) -> Result<(), Mismatch> {
+        self.put(Kind::Float, "an f64", number)
+    }
+
+    fn serialize_char(self, character: char) -> Result<(), Mismatch> {
+        self.put(Kind::Char, "a char", character)
     }
 
     /// Registries have the binary form of types that have two, such as addresses.
@@ -213,17 +222,25 @@ impl<'w> Serializer for Writer<'w> {
 
     fn serialize_u8(self, number: u8) -> Result<(), Mismatch> {
         match self.at.shape {
-            Shape::Octet => write!(self.out, "{number:02x}").map_err(Mismatch::new),
-            _ => self.put(Kind::Integer, "a u8", number),
+            Shape::Octet => hex::push_digits(self.out, &[number]),
+            _ => self.put_integer(U8, number)?,
         }
+        Ok(())
     }
 
     fn serialize_str(self, text: &str) -> Result<(), Mismatch> {
         self.put(Kind::Text, "a string", Quoted(text))
     }
 
-    fn serialize_bytes(self, bytes: &[u8]) -> Result<(), Mismatch> {
-        self.put(Kind::Bytes, "bytes", Digits(bytes))
+    fn serialize_bytes(mut self, bytes: &[u8]) -> Result<(), Mismatch> {
+        self.at = self.at.entered();
+        if !fits(self.at.shape, Kind::Bytes) {
+            return self.put(Kind::Bytes, "bytes", "");
+        }
+        self.out.push('"');
+        hex::push_digits(self.out, bytes);
+        self.out.push('"');
+        Ok(())
     }
 
     fn serialize_none(self) -> Result<(), Mismatch> {
@@ -268,8 +285,13 @@ impl<'w> Serializer for Writer<'w> {
         Ok(())
     }
 
-    fn serialize_seq(self, _: Option<usize>) -> Result<Items<'w>, Mismatch> {
-        self.items("a list", None)
+    /// A set is a list for `serde`, too, and has another order in each run, so `BYTES` takes none.
+    fn serialize_seq(mut self, _: Option<usize>) -> Result<Items<'w>, Mismatch> {
+        self.at = self.at.entered();
+        match self.at.shape {
+            Shape::Bytes => Err(Mismatch::unfit(self.at.shape, PLAIN_LIST)),
+            _ => self.items("a list", None),
+        }
     }
 
     fn serialize_tuple(self, _: usize) -> Result<Items<'w>, Mismatch> {

@@ -1,5 +1,7 @@
 //! The formats of a registry, for walking them together with a value of a `serde` type.
+use crate::integers::{Integer, U8};
 use crate::mismatch::Mismatch;
+use crate::probe::Probe;
 use serde_json::Value;
 use std::collections::HashMap;
 
@@ -7,7 +9,7 @@ use std::collections::HashMap;
 pub(crate) enum Shape {
     Unit,
     Bool,
-    Integer(&'static str),
+    Integer(Integer),
     Str,
     Bytes,
     /// A byte of `BYTES`.
@@ -32,11 +34,12 @@ pub(crate) enum Shape {
 /// The containers of a registry.
 pub(crate) type Shapes = HashMap<String, Shape>;
 
+/// What a rejection calls a list at `BYTES`.
+pub(crate) const PLAIN_LIST: &str = "a plain list, which may be a set: see bcs_proved::bytes";
+
 pub(crate) static OCTET: Shape = Shape::Octet;
 pub(crate) static FIELD_NAME: Shape = Shape::FieldName;
 pub(crate) static VOID: Shape = Shape::Void;
-
-const INTEGERS: [&str; 10] = ["I8", "I16", "I32", "I64", "I128", "U8", "U16", "U32", "U64", "U128"];
 
 /// The containers of a registry that the library has read.
 pub(crate) fn read_registry(text: &str) -> Shapes {
@@ -94,20 +97,20 @@ impl Shape {
             "BOOL" => Shape::Bool,
             "STR" => Shape::Str,
             "BYTES" => Shape::Bytes,
-            _ => INTEGERS.into_iter().find(|name| *name == word).map_or(Shape::Void, Shape::Integer),
+            _ => Integer::of_format(word).map_or(Shape::Void, Shape::Integer),
         }
     }
 
-    /// Whether it is a list of the word `U8` itself, which is also written as hexadecimal digits.
+    /// Whether it is a list of the word `U8` itself, which takes bytes, too. Their JSON is hexadecimal digits.
     pub(crate) fn is_octets(&self) -> bool {
-        matches!(self, Shape::Seq(content) | Shape::Array(content) if matches!(**content, Shape::Integer("U8")))
+        matches!(self, Shape::Seq(content) | Shape::Array(content) if matches!(**content, Shape::Integer(U8)))
     }
 
     pub(crate) fn name(&self) -> &'static str {
         match self {
             Shape::Unit => "UNIT",
             Shape::Bool => "BOOL",
-            Shape::Integer(name) => name,
+            Shape::Integer(integer) => integer.format,
             Shape::Str => "STR",
             Shape::Bytes | Shape::Octet => "BYTES",
             Shape::Option(_) => "OPTION",
@@ -129,9 +132,10 @@ impl Shape {
             Shape::Bool => "a bool",
             Shape::Integer(_) => "an integer",
             Shape::Str => "a string",
-            Shape::Bytes => "bytes",
+            Shape::Bytes => "bytes, or Hex(…) for digits",
             Shape::Octet => "a u8 for each byte",
             Shape::Option(_) => "an Option",
+            Shape::Seq(_) | Shape::Array(_) if self.is_octets() => "a list, bytes, or Hex(…) for digits",
             Shape::Seq(_) | Shape::Array(_) => "a list",
             Shape::Map(_) => "a map",
             Shape::Entry(_) => "a pair for each entry",
@@ -144,23 +148,29 @@ impl Shape {
     }
 }
 
+/// What a walk needs everywhere.
+pub(crate) struct Walk<'w> {
+    pub(crate) shapes: &'w Shapes,
+    /// Whether the thread has stack left for a call of the library, which is more than some levels need.
+    pub(crate) has_stack: &'w dyn Fn() -> bool,
+    pub(crate) probe: Probe,
+}
+
 /// A format where a walk is.
 #[derive(Clone, Copy)]
 pub(crate) struct At<'w> {
     pub(crate) shape: &'w Shape,
-    shapes: &'w Shapes,
+    pub(crate) walk: &'w Walk<'w>,
     /// How many more containers may be opened.
     depth: u32,
     /// How many parts the walk went into.
     levels: u32,
-    /// Whether the thread has stack left for a call of the library, which is more than some levels need.
-    has_stack: &'w dyn Fn() -> bool,
 }
 
 impl<'w> At<'w> {
-    pub(crate) fn new(shape: &'w Shape, shapes: &'w Shapes, depth: u32, has_stack: &'w dyn Fn() -> bool) -> At<'w> {
+    pub(crate) fn new(shape: &'w Shape, walk: &'w Walk<'w>, depth: u32) -> At<'w> {
         // The library rejects a larger depth. The bound keeps newtypes that name themselves from being followed for long.
-        At { shape, shapes, depth: depth.min(500), levels: 0, has_stack }
+        At { shape, walk, depth: depth.min(500), levels: 0 }
     }
 
     /// At another format of the same level: a variant's payload, or a name.
@@ -168,10 +178,10 @@ impl<'w> At<'w> {
         At { shape, ..self }
     }
 
-    /// At a part. Each level calls the code of a type, so every few levels the stack is looked at.
+    /// At a part. Each level calls the code of a type, so the stack is checked every few levels.
     pub(crate) fn part(self, shape: &'w Shape) -> Result<At<'w>, Mismatch> {
         let levels = self.levels + 1;
-        if levels % 8 == 0 && !(self.has_stack)() {
+        if levels % 8 == 0 && !(self.walk.has_stack)() {
             return Err(Mismatch::out_of_stack());
         }
         Ok(At { shape, levels, ..self })
@@ -181,7 +191,7 @@ impl<'w> At<'w> {
     pub(crate) fn entered(mut self) -> At<'w> {
         while let Shape::Name(name) = self.shape {
             // Too deep, or a name of the format's that the registry doesn't have.
-            self.shape = self.shapes.get(name).filter(|_| self.depth > 0).unwrap_or(&VOID);
+            self.shape = self.walk.shapes.get(name).filter(|_| self.depth > 0).unwrap_or(&VOID);
             self.depth = self.depth.saturating_sub(1);
         }
         self

@@ -14,6 +14,7 @@ pub(crate) const MEMORY: u32 = 6;
 pub(crate) const NO: u32 = 7;
 pub(crate) const PATH: u32 = 8;
 pub(crate) const NEWER: u32 = 9;
+pub(crate) const STACK: u32 = 11;
 
 // How bytes are explained: `enum bcs_form`.
 pub(crate) const WAYS: u32 = 0;
@@ -55,6 +56,7 @@ pub(crate) struct Answer {
 unsafe extern "C" {
     fn bcs_open(handle: *mut *mut Handle, registry: *const u8, registry_length: usize) -> Answer;
     fn bcs_close(handle: *mut Handle);
+    fn bcs_handle_nodes_for(handle: *const Handle, bytes_length: usize) -> u32;
     fn bcs_grows(older: *const u8, older_length: usize, newer: *const u8, newer_length: usize) -> Answer;
     fn bcs_handle_check(handle: *mut Handle, format: *const u8, format_length: usize, depth: u32, nodes: u32)
     -> Answer;
@@ -294,6 +296,12 @@ impl Open {
         let (older, newer) = (&self.text, &newer.text);
         // SAFETY: both slices are borrowed for the call.
         unsafe { bcs_grows(older.as_ptr(), older.len(), newer.as_ptr(), newer.len()) }
+    }
+
+    /// The default limit on the nodes of a value that is read from this many bytes.
+    pub(crate) fn nodes_for(&self, length: usize) -> u32 {
+        // SAFETY: the handle is open.
+        unsafe { bcs_handle_nodes_for(self.handle.as_ptr(), length) }
     }
 
     pub(crate) fn check(&self, question: Question) -> Answer {

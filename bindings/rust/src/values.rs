@@ -1,10 +1,11 @@
 //! Values as `serde_json` holds them.
 use crate::error::{Error, ErrorKind};
 use crate::format::Format;
+use crate::probe::Probe;
 use crate::registry::Registry;
 use crate::serde_in::value_of;
 use crate::serde_out::json_of;
-use crate::shapes::{At, Shape, read_registry};
+use crate::shapes::{At, Shape, Walk, read_registry};
 use serde::Serialize;
 use serde::de::DeserializeOwned;
 use serde_json::Value;
@@ -27,16 +28,16 @@ impl Registry {
     /// use serde_json::json;
     ///
     /// let registry = Registry::read(r#"{"Payment":{"STRUCT":[{"to":"STR"},{"amount":"U128"}]}}"#)?;
-    /// let bytes = registry.encode_value("Payment", &json!({"to": "bob", "amount": "7"}))?;
+    /// let bytes = registry.encode_json_value("Payment", &json!({"to": "bob", "amount": "7"}))?;
     /// assert_eq!(bytes, b"\x03bob\x07\0\0\0\0\0\0\0\0\0\0\0\0\0\0\0");
     /// # Ok::<(), bcs_proved::Error>(())
     /// ```
-    pub fn encode_value(&self, format: impl Into<Format>, value: &Value) -> Result<Vec<u8>, Error> {
+    pub fn encode_json_value(&self, format: impl Into<Format>, value: &Value) -> Result<Vec<u8>, Error> {
         if nests(value, 127) {
             // Writing it would exhaust the stack. The library rejects any text that nests so deep.
-            return self.encode(format, "[".repeat(128) + &"]".repeat(128));
+            return self.encode_json(format, "[".repeat(128) + &"]".repeat(128));
         }
-        self.encode(format, value.to_string())
+        self.encode_json(format, value.to_string())
     }
 
     /// The value whose bytes these are, all of them, in its normal form: numbers of 64 and 128 bits are strings.
@@ -46,18 +47,17 @@ impl Registry {
     /// use serde_json::json;
     ///
     /// let registry = Registry::read(r#"{"Payment":{"STRUCT":[{"to":"STR"},{"amount":"U64"}]}}"#)?;
-    /// let value = registry.decode_value("Payment", b"\x03bob\x07\0\0\0\0\0\0\0")?;
+    /// let value = registry.decode_json_value("Payment", b"\x03bob\x07\0\0\0\0\0\0\0")?;
     /// assert_eq!(value, json!({"to": "bob", "amount": "7"}));
     /// # Ok::<(), bcs_proved::Error>(())
     /// ```
-    pub fn decode_value(&self, format: impl Into<Format>, bytes: impl AsRef<[u8]>) -> Result<Value, Error> {
-        let text = self.decode(format, bytes)?;
-        Ok(serde_json::from_str(&text).expect("a normal text is JSON"))
+    pub fn decode_json_value(&self, format: impl Into<Format>, bytes: impl AsRef<[u8]>) -> Result<Value, Error> {
+        Ok(json_value(&self.decode_json(format, bytes)?))
     }
 
-    /// The bytes of a value of a `serde` type, by the format: each part has to be of the format's kind, and none is guessed.
-    /// Anything else is rejected with its JSON Pointer, as [`ErrorKind::Type`](crate::ErrorKind::Type). The README of this
-    /// crate has a table of what each format takes.
+    /// The bytes of a value of a `serde` type, by the format: the type of each part has to fit the format, whatever its value is.
+    /// Anything else is rejected with its JSON Pointer, as [`ErrorKind::Value`](crate::ErrorKind::Value). The README of this crate
+    /// has a table of the types that each format takes.
     ///
     /// `serialize` is called with `is_human_readable` false, since registries have the binary form of types.
     ///
@@ -73,26 +73,29 @@ impl Registry {
     ///
     /// let registry = Registry::read(r#"{"Payment":{"STRUCT":[{"to":"STR"},{"amount":"U64"}]}}"#)?;
     /// let payment = Payment { to: "bob".into(), amount: 7 };
-    /// let bytes = registry.to_bytes("Payment", &payment)?;
+    /// let bytes = registry.encode("Payment", &payment)?;
     /// assert_eq!(bytes, b"\x03bob\x07\0\0\0\0\0\0\0");
-    /// assert_eq!(registry.from_bytes::<Payment>("Payment", &bytes)?, payment);
+    /// assert_eq!(registry.decode::<Payment>("Payment", &bytes)?, payment);
     ///
-    /// let error = registry.to_bytes("Payment", &("bob", 7)).unwrap_err();
-    /// assert_eq!(error.to_string(), "the type doesn't fit: STRUCT takes a struct, not a tuple");
+    /// let error = registry.encode("Payment", &("bob", 7)).unwrap_err();
+    /// assert_eq!(error.to_string(), "refused: WrongType: STRUCT takes a struct, not a tuple");
     /// # Ok::<(), bcs_proved::Error>(())
     /// ```
-    pub fn to_bytes<T: Serialize + ?Sized>(&self, format: impl Into<Format>, value: &T) -> Result<Vec<u8>, Error> {
+    pub fn encode<T: Serialize + ?Sized>(&self, format: impl Into<Format>, value: &T) -> Result<Vec<u8>, Error> {
         let format = format.into();
-        let shape = Shape::read(format.as_json());
-        match json_of(value, self.at(&shape, &|| self.has_stack())) {
-            Ok(text) => self.encode(format, text),
+        let (shape, has_stack) = (Shape::read(format.as_json()), || self.has_stack());
+        let walk = self.walk(&has_stack);
+        match json_of(value, At::new(&shape, &walk, self.limits().depth)) {
+            Ok(text) => self.encode_json(format, text),
             // A format that the registry doesn't have is reported before what the value is.
             Err(mismatch) => self.check(format).and(Err(mismatch.into())),
         }
     }
 
-    /// The value whose bytes these are, all of them, as a `serde` type. A type of another kind than the format is rejected with
-    /// the JSON Pointer of the part, as [`ErrorKind::Type`](crate::ErrorKind::Type); so is one that leaves elements unread.
+    /// The value whose bytes these are, all of them, as a `serde` type. A type that doesn't fit the format is rejected with the JSON
+    /// Pointer of the part, as [`ErrorKind::Value`](crate::ErrorKind::Value); so is one that leaves elements unread.
+    ///
+    /// A type that `serde` buffers, such as a flattened struct or an untagged enum, is deserialized more than once.
     ///
     /// ```
     /// use bcs_proved::{ErrorKind, Registry};
@@ -100,30 +103,53 @@ impl Registry {
     /// let registry = Registry::read("{}")?;
     /// let pair = r#"{"TUPLE":["U8","U64"]}"#;
     /// let bytes = [7, 8, 0, 0, 0, 0, 0, 0, 0];
-    /// assert_eq!(registry.from_bytes::<(u8, u64)>(pair, bytes)?, (7, 8));
+    /// assert_eq!(registry.decode::<(u8, u64)>(pair, bytes)?, (7, 8));
     ///
-    /// let error = registry.from_bytes::<(u8, f64)>(pair, bytes).unwrap_err();
-    /// assert_eq!((error.kind(), error.pointer()), (ErrorKind::Type, Some("/1")));
-    /// assert_eq!(error.expected(), Some("U64 takes an integer, not an f64"));
+    /// let error = registry.decode::<(u8, u32)>(pair, bytes).unwrap_err();
+    /// assert_eq!((error.kind(), error.at()), (ErrorKind::Value, Some("/1")));
+    /// assert_eq!(error.message(), "u32 doesn't hold every U64");
     /// # Ok::<(), bcs_proved::Error>(())
     /// ```
-    pub fn from_bytes<T: DeserializeOwned>(
+    pub fn decode<T: DeserializeOwned>(&self, format: impl Into<Format>, bytes: impl AsRef<[u8]>) -> Result<T, Error> {
+        let format = format.into();
+        let text = self.decode_json(&format, bytes)?;
+        let (shape, has_stack) = (Shape::read(format.as_json()), || self.has_stack());
+        let walk = self.walk(&has_stack);
+        let at = At::new(&shape, &walk, self.limits().depth);
+        let read = || value_of::<T>(json_value(&text), at);
+        let value = read()?;
+        walk.probe.check(|| read().map(drop))?;
+        Ok(value)
+    }
+
+    /// The value at the beginning of the bytes, as a `serde` type, and its length. The bytes that follow aren't read.
+    ///
+    /// ```
+    /// let registry = bcs_proved::Registry::read("{}")?;
+    /// assert_eq!(registry.decode_prefix::<u16>(r#""U16""#, [1, 2, 3])?, (513, 2));
+    /// # Ok::<(), bcs_proved::Error>(())
+    /// ```
+    pub fn decode_prefix<T: DeserializeOwned>(
         &self,
         format: impl Into<Format>,
         bytes: impl AsRef<[u8]>,
-    ) -> Result<T, Error> {
-        let format = format.into();
-        let json = self.decode_value(&format, bytes)?;
-        let shape = Shape::read(format.as_json());
-        Ok(value_of(json, self.at(&shape, &|| self.has_stack()))?)
+    ) -> Result<(T, usize), Error> {
+        let (format, bytes) = (format.into(), bytes.as_ref());
+        let (limited, length) = self.prefix(&format, bytes)?;
+        Ok((limited.decode(&format, &bytes[..length])?, length))
     }
 
-    fn at<'w>(&'w self, shape: &'w Shape, has_stack: &'w dyn Fn() -> bool) -> At<'w> {
-        At::new(shape, self.shapes.get_or_init(|| read_registry(self.text())), self.limits().depth, has_stack)
+    fn walk<'w>(&'w self, has_stack: &'w dyn Fn() -> bool) -> Walk<'w> {
+        let shapes = self.shapes.get_or_init(|| read_registry(self.text()));
+        Walk { shapes, has_stack, probe: Probe::new() }
     }
 
     /// Whether the thread has stack left. Rust doesn't know, and the library does: no call succeeds without some of it.
     fn has_stack(&self) -> bool {
-        self.check(r#""UNIT""#) != Err(ErrorKind::Memory.into())
+        self.check(r#""UNIT""#) != Err(ErrorKind::Stack.into())
     }
+}
+
+fn json_value(normal: &str) -> Value {
+    serde_json::from_str(normal).expect("the library prints JSON")
 }

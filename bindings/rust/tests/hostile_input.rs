@@ -1,5 +1,5 @@
-//! Five bytes that denote 2147483647 empty values cost little. It is the only test of its program, since it reads how much
-//! memory the process had.
+//! A few bytes that encode many empty values cost little. This program has one test, since it reads the peak memory of the
+//! process.
 use bcs_proved::{Error, ErrorKind, Form, Format, Limits, Reason, Registry, Stop};
 use std::fs;
 use std::time::{Duration, Instant};
@@ -15,15 +15,15 @@ fn peak_memory() -> u64 {
 
 /// Each call that reads bytes.
 fn stops(registry: &Registry, format: &Format) -> Vec<Result<Stop, Error>> {
-    // 1,000,080 nodes are the list and 1,000,079 values, so the value of this number is one too many. Finding that out reads
-    // the bytes once more, with the same limits.
-    let rejected = |error: Error| match (error.kind(), error.pointer()) {
-        (ErrorKind::Bytes(stop), Some("[1000079]")) => Ok(stop),
+    // 65,616 nodes are the list and 65,615 values, so the value of this number is one too many. Finding that out reads the bytes
+    // once more, with the same limits.
+    let rejected = |error: Error| match (error.kind(), error.at()) {
+        (ErrorKind::Bytes(stop), Some("[65615]")) => Ok(stop),
         _ => Err(error),
     };
     #[allow(unused_mut, reason = "the feature serde_json has more calls")]
     let mut stops = vec![
-        rejected(registry.decode(format, BYTES).unwrap_err()),
+        rejected(registry.decode_json(format, BYTES).unwrap_err()),
         rejected(registry.scan(format, BYTES).unwrap_err()),
         rejected(registry.part(format, &BYTES, ".").unwrap_err()),
         registry.explain(format, BYTES).map(|pieces| pieces.stop.unwrap()),
@@ -31,15 +31,52 @@ fn stops(registry: &Registry, format: &Format) -> Vec<Result<Stop, Error>> {
     ];
     #[cfg(feature = "serde_json")]
     stops.extend([
-        rejected(registry.decode_value(format, BYTES).unwrap_err()),
-        rejected(registry.from_bytes::<Vec<()>>(format, BYTES).unwrap_err()),
+        rejected(registry.decode_json_value(format, BYTES).unwrap_err()),
+        rejected(registry.decode::<Vec<()>>(format, BYTES).unwrap_err()),
     ]);
     stops
 }
 
+/// A registry with a list of structs, which are 20 units with names of this length.
+fn units_with_names(length: usize) -> Registry {
+    let fields: Vec<String> = (10..30).map(|number| format!(r#"{{"{number:x<length$}":"UNIT"}}"#)).collect();
+    let text = format!(
+        r#"{{"Units":{{"STRUCT":[{}]}},"List":{{"NEWTYPESTRUCT":{{"SEQ":{{"TYPENAME":"Units"}}}}}}}}"#,
+        fields.join(",")
+    );
+    Registry::read(text).unwrap()
+}
+
+/// The bytes of a list of this many structs: its length, and nothing.
+fn structs(count: usize) -> Vec<u8> {
+    let groups = (0..5).map(|at| count >> (7 * at)).take_while(|rest| *rest > 0);
+    groups.map(|rest| (rest & 0x7f) as u8 | if rest > 0x7f { 0x80 } else { 0 }).collect()
+}
+
+/// Names repeat in a decoded value, so long ones count towards its nodes. 40,000 structs are refused, and what is allowed is
+/// small. A struct is 22 nodes: the container, its row of fields, and the units. The newtype and the list are two more.
+fn long_names_cost_little() {
+    assert_eq!(structs(40_000), [0xc0, 0xb8, 0x02]);
+    // 65,536 nodes, and 16 for each of the two bytes; names longer than 64 bytes divide them.
+    for (length, allowed) in [(10, 2980), (64, 2980), (65, 2934), (1000, 190), (60_000, 3)] {
+        let registry = units_with_names(length);
+        assert_eq!(
+            registry.decode_json("List", structs(40_000)).unwrap_err().reason(),
+            Some("TooManyNodes"),
+            "{length}"
+        );
+        assert_eq!(registry.scan("List", structs(allowed + 1)).unwrap_err().reason(), Some("TooManyNodes"), "{length}");
+        assert!(registry.decode_json("List", structs(allowed)).unwrap().len() < 20 << 20, "{length}");
+        #[cfg(feature = "serde_json")]
+        drop(registry.decode_json_value("List", structs(allowed)).unwrap());
+    }
+}
+
 #[test]
-fn five_bytes_cost_little() {
+fn a_few_bytes_cost_little() {
     let start = Instant::now();
+    long_names_cost_little();
+    assert!(peak_memory() < 64 << 10, "it took {} KiB", peak_memory());
     let registry = Registry::read("{}").unwrap();
     let units = &Format::json(r#"{"SEQ":"UNIT"}"#);
     let stop = Stop { reason: Reason::TooManyNodes, place: 5 };
@@ -48,13 +85,13 @@ fn five_bytes_cost_little() {
     }
     // 3,000,000 units are more than the default allows for so few bytes, and any number may be allowed.
     let many = [0xc0, 0x8d, 0xb7, 0x01];
-    assert_eq!(registry.scan(units, many).unwrap_err().name(), Some("TooManyNodes"));
+    assert_eq!(registry.scan(units, many).unwrap_err().reason(), Some("TooManyNodes"));
     assert_eq!(registry.with_limits(Limits::STANDARD).scan(units, many), Ok(4));
     let enough = Limits { nodes: Some(3_000_001), ..Limits::default() };
     assert_eq!(registry.with_limits(enough).scan(units, many), Ok(4));
     // A smaller depth leaves the default of the nodes as it is.
     let shallow = Limits { depth: 10, ..Limits::default() };
-    assert_eq!(registry.with_limits(shallow).scan(units, many).unwrap_err().name(), Some("TooManyNodes"));
+    assert_eq!(registry.with_limits(shallow).scan(units, many).unwrap_err().reason(), Some("TooManyNodes"));
     assert!(start.elapsed() < Duration::from_secs(10), "it took {:?}", start.elapsed());
     assert!(peak_memory() < 256 << 10, "it took {} KiB", peak_memory());
 }

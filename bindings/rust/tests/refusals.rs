@@ -1,5 +1,7 @@
 //! What is refused, with the fault's name and its place. The faults are those that docs/FORMAT.md tells.
-use bcs_proved::{Error, ErrorKind, Form, Format, GrowthFault, Reason, Registry, RegistryFault, Stop, TextFault};
+use bcs_proved::{
+    Error, ErrorKind, Example, Form, Format, GrowthFault, Limits, Reason, Registry, RegistryFault, Stop, TextFault,
+};
 
 mod common;
 use common::{bytes, example, example_bytes, example_registry, plain};
@@ -40,10 +42,10 @@ fn formats_are_refused_by_each_call() {
     for (format, fault) in &rows {
         let error = ErrorKind::Format(*fault);
         assert_eq!(registry.check(format).unwrap_err(), error, "{format:?}");
-        assert_eq!(registry.encode(format, "null").unwrap_err(), error, "{format:?}");
-        assert_eq!(registry.decode(format, "").unwrap_err(), error, "{format:?}");
-        assert_eq!(registry.normalise(format, "null").unwrap_err(), error, "{format:?}");
-        assert_eq!(registry.equal(format, "null", "null").unwrap_err(), error, "{format:?}");
+        assert_eq!(registry.encode_json(format, "null").unwrap_err(), error, "{format:?}");
+        assert_eq!(registry.decode_json(format, "").unwrap_err(), error, "{format:?}");
+        assert_eq!(registry.normalise_json(format, "null").unwrap_err(), error, "{format:?}");
+        assert_eq!(registry.equal_json(format, "null", "null").unwrap_err(), error, "{format:?}");
         assert_eq!(registry.scan(format, "").unwrap_err(), error, "{format:?}");
         assert_eq!(registry.part(format, "", ".").unwrap_err(), error, "{format:?}");
         assert_eq!(registry.explain_text(format, "", Form::Ways).unwrap_err(), error, "{format:?}");
@@ -86,17 +88,17 @@ fn texts_are_refused() {
     let registry = Registry::read(r#"{"P":{"STRUCT":[{"x":"U8"}]},"E":{"ENUM":{"0":{"A":"UNIT"}}}}"#).unwrap();
     for (format, text, fault) in rows {
         let format = &Format::json(format);
-        assert_eq!(registry.encode(format, text).unwrap_err(), ErrorKind::Text(fault), "{text}");
-        assert_eq!(registry.normalise(format, text).unwrap_err(), ErrorKind::Text(fault), "{text}");
-        assert_eq!(registry.equal(format, text, text).unwrap_err(), ErrorKind::Text(fault), "{text}");
+        assert_eq!(registry.encode_json(format, text).unwrap_err(), ErrorKind::Text(fault), "{text}");
+        assert_eq!(registry.normalise_json(format, text).unwrap_err(), ErrorKind::Text(fault), "{text}");
+        assert_eq!(registry.equal_json(format, text, text).unwrap_err(), ErrorKind::Text(fault), "{text}");
     }
 }
 
 #[test]
 fn a_fault_of_the_first_text_is_told() {
     let number = &Format::json(r#""U64""#);
-    assert_eq!(plain().equal(number, "null", "x").unwrap_err(), ErrorKind::Text(TextFault::BadShape));
-    assert_eq!(plain().equal(number, "7", "x").unwrap_err(), ErrorKind::Text(TextFault::NotJson));
+    assert_eq!(plain().equal_json(number, "null", "x").unwrap_err(), ErrorKind::Text(TextFault::BadShape));
+    assert_eq!(plain().equal_json(number, "7", "x").unwrap_err(), ErrorKind::Text(TextFault::NotJson));
 }
 
 #[test]
@@ -127,7 +129,7 @@ fn bytes_are_refused_at_a_place() {
             assert_eq!(registry.scan(format, &input).unwrap_err(), ErrorKind::Bytes(stop), "{digits}");
             assert_eq!(registry.part(format, &input, ".").unwrap_err(), ErrorKind::Bytes(stop), "{digits}");
         }
-        assert_eq!(registry.decode(format, &input).unwrap_err(), ErrorKind::Bytes(stop), "{digits}");
+        assert_eq!(registry.decode_json(format, &input).unwrap_err(), ErrorKind::Bytes(stop), "{digits}");
         let explanation = registry.explain_text(format, &input, Form::Ways).unwrap();
         assert_eq!(explanation.stop, Some(stop), "{digits}");
         let last_line = explanation.text.lines().last().unwrap();
@@ -139,14 +141,14 @@ fn bytes_are_refused_at_a_place() {
 fn damaged_transactions_are_refused() {
     let (aptos, sui) = (example_registry("aptos_registry"), example_registry("sui_registry"));
     let text = example("aptos_transfer_damaged.json");
-    assert_eq!(aptos.encode("RawTransaction", text).unwrap_err(), ErrorKind::Text(TextFault::BadHex));
+    assert_eq!(aptos.encode_json("RawTransaction", text).unwrap_err(), ErrorKind::Text(TextFault::BadHex));
     let text = example("sui_stake_damaged.json");
-    assert_eq!(sui.encode("TransactionData", text).unwrap_err(), ErrorKind::Text(TextFault::MissingField));
+    assert_eq!(sui.encode_json("TransactionData", text).unwrap_err(), ErrorKind::Text(TextFault::MissingField));
 
-    let error = aptos.decode("RawTransaction", example_bytes("aptos_transfer_damaged")).unwrap_err();
-    assert_eq!((error.name(), error.place()), (Some("LongForm"), Some(73)));
-    let error = sui.decode("TransactionData", example_bytes("sui_stake_damaged")).unwrap_err();
-    assert_eq!((error.name(), error.place()), (Some("BadBool"), Some(65)));
+    let error = aptos.decode_json("RawTransaction", example_bytes("aptos_transfer_damaged")).unwrap_err();
+    assert_eq!((error.reason(), error.place()), (Some("LongForm"), Some(73)));
+    let error = sui.decode_json("TransactionData", example_bytes("sui_stake_damaged")).unwrap_err();
+    assert_eq!((error.reason(), error.place()), (Some("BadBool"), Some(65)));
 }
 
 #[test]
@@ -155,9 +157,9 @@ fn a_text_that_would_nest_too_deep_is_refused() {
     let registry = Registry::read(text).unwrap();
     // A link is an object, and one more stands between two: `some`. So 50 links nest 99 deep, and 51 nest 101 deep.
     let chain = |links: usize| [vec![1; links - 1], vec![0]].concat();
-    assert!(registry.decode("Chain", chain(50)).is_ok());
-    assert_eq!(registry.decode("Chain", chain(51)).unwrap_err(), ErrorKind::TooNested);
-    assert_eq!(ErrorKind::TooNested.name(), Some("TooNested"));
+    assert!(registry.decode_json("Chain", chain(50)).is_ok());
+    assert_eq!(registry.decode_json("Chain", chain(51)).unwrap_err(), ErrorKind::TooNested);
+    assert_eq!(ErrorKind::TooNested.reason(), Some("TooNested"));
     assert_eq!(registry.scan("Chain", chain(51)), Ok(51));
 }
 
@@ -173,7 +175,7 @@ fn paths_are_refused() {
     for pointer in ["a", ".", "/~", "/~2"] {
         assert_eq!(plain().part_by_pointer(list, &[0], pointer).unwrap_err(), ErrorKind::Path, "{pointer}");
     }
-    assert_eq!(ErrorKind::Path.name(), Some("BadPath"));
+    assert_eq!(ErrorKind::Path.reason(), Some("BadPath"));
 }
 
 #[test]
@@ -181,18 +183,20 @@ fn errors_say_what_is_wrong() {
     let rows = [
         (
             ErrorKind::Registry(RegistryFault::UnknownName),
-            "the registry is refused: UnknownName: a TYPENAME names no container of the registry",
+            "refused: UnknownName: a TYPENAME names no container of the registry",
         ),
         (
             ErrorKind::Text(TextFault::BadHex),
-            "the text is refused: BadHex: a text of bytes isn't an even number of hexadecimal digits",
+            "refused: BadHex: a text of bytes isn't an even number of hexadecimal digits",
         ),
         (
             ErrorKind::Bytes(Stop { reason: Reason::BadBool, place: 65 }),
-            "the bytes are refused: BadBool at 65: a truth value is neither 00 nor 01",
+            "refused: BadBool at byte 65: a truth value is neither 00 nor 01",
         ),
-        (ErrorKind::Limits, "the limits are refused: their depth is above 500"),
-        (ErrorKind::Memory, "memory ran out"),
+        (ErrorKind::Limits, "refused: the depth is above 500"),
+        (ErrorKind::TooNested, "refused: TooNested: the value's JSON would nest more than 100 deep"),
+        (ErrorKind::Stack, "refused: the thread has too little stack left"),
+        (ErrorKind::Memory, "out of memory"),
     ];
     for (error, message) in rows {
         assert_eq!(error.to_string(), message);
@@ -227,25 +231,73 @@ fn errors_tell_the_place() {
         (r#""U8""#, "x", "", "line 1, column 1: the text stops being JSON there"),
     ];
     for (format, text, pointer, words) in texts {
-        let error = registry.encode(format, text).unwrap_err();
-        assert_eq!((error.pointer(), error.expected()), (Some(pointer), Some(words)), "{text}");
-        assert_eq!(registry.normalise(format, text).unwrap_err(), error);
-        assert_eq!(registry.equal(format, text, "").unwrap_err(), error);
+        let error = registry.encode_json(format, text).unwrap_err();
+        assert_eq!((error.at(), error.message()), (Some(pointer), words), "{text}");
+        assert_eq!(registry.normalise_json(format, text).unwrap_err(), error);
+        assert_eq!(registry.equal_json(format, text, "").unwrap_err(), error);
         assert!(error.to_string().ends_with(words), "{error}");
     }
-    let second = registry.equal("Point", r#"{"x":1,"~/":[]}"#, r#"{"x":"","~/":[]}"#).unwrap_err();
-    assert_eq!(second.pointer(), Some("/x"));
+    let second = registry.equal_json("Point", r#"{"x":1,"~/":[]}"#, r#"{"x":"","~/":[]}"#).unwrap_err();
+    assert_eq!(second.at(), Some("/x"));
 
-    let error = registry.decode("Point", [7, 1, 2, 5]).unwrap_err();
-    assert_eq!(error.to_string(), "the bytes are refused: EndOfInput at 4, .~/[0]: wanted 2 bytes of BYTES");
+    let error = registry.decode_json("Point", [7, 1, 2, 5]).unwrap_err();
+    assert_eq!(error.to_string(), "refused: EndOfInput at byte 4, .~/[0]: wanted 2 bytes of BYTES");
     assert_eq!(registry.scan("Point", [7, 1, 2, 5]).unwrap_err(), error);
     assert_eq!(registry.part("Point", &[7, 1, 2, 5], ".").unwrap_err(), error);
 
     let error = Registry::read(r#"{"S":{"ENUM":{"x":{"A":"UNIT"}}}}"#).unwrap_err();
-    assert_eq!(error.pointer(), Some("/S/ENUM/x"));
-    assert_eq!(
-        error.to_string(),
-        "the registry is refused: BadNumber at /S/ENUM/x: wanted a plain decimal number below 4294967296"
-    );
-    assert_eq!(Error::from(ErrorKind::Path).pointer(), None);
+    assert_eq!(error.at(), Some("/S/ENUM/x"));
+    assert_eq!(error.to_string(), "refused: BadNumber at /S/ENUM/x: wanted a plain decimal number below 4294967296");
+    assert_eq!(Error::from(ErrorKind::Path).at(), None);
+}
+
+/// Each kind of refusal has its name, and a line that begins like those of the program and of other languages.
+#[test]
+fn lines_begin_alike() {
+    let registry = Registry::read(r#"{"S":{"ENUM":{"2":{"Circle":{"NEWTYPE":"U64"}}}}}"#).unwrap();
+    let deep = registry.with_limits(Limits { depth: 501, nodes: None });
+    let list = r#"{"SEQ":"U8"}"#;
+    let rows = [
+        (Registry::read("[]").map(drop), "registry", "refused: BadShape: wanted an object of containers"),
+        (
+            Registry::read(r#"{"the whole text":{"NEWTYPESTRUCT":{"TYPENAME":"T"}}}"#).map(drop),
+            "registry",
+            "refused: UnknownName at the whole text: no container is called T",
+        ),
+        (registry.check("T"), "format", "refused: UnknownName: no container is called T"),
+        (registry.check(r#"{"SEQ":"U7"}"#), "format", "refused: BadShape at /SEQ: wanted a format"),
+        (registry.show(Some("T")).map(drop), "format", "refused: UnknownName: no container is called T"),
+        (deep.check("S"), "limits", "refused: the depth is above 500"),
+        (registry.grows(&plain()), "growth", "refused: Missing at S: the newer registry has no container of that name"),
+        (
+            registry.encode_json("S", r#"{"Circle":-1}"#).map(drop),
+            "text",
+            "refused: BadNumber at /Circle: found -1, wanted a whole number from 0 to 18446744073709551615 (U64)",
+        ),
+        (registry.decode_json("S", [2, 1]).map(drop), "bytes", "refused: EndOfInput at byte 2, ::Circle: wanted U64"),
+        (
+            registry.part(list, &[0], "1/x").map(drop),
+            "path",
+            "refused: BadPath at step 2 x: wanted a number, inner, or key: and hexadecimal digits",
+        ),
+        (
+            registry.part_by_name(list, &[0], "a").map(drop),
+            "path",
+            "refused: BadPath: wanted a name such as .payload.args[1]",
+        ),
+        (
+            registry.part_by_pointer(list, &[0], "a").map(drop),
+            "path",
+            "refused: BadPath: wanted a JSON Pointer such as /payload/args/1",
+        ),
+        (
+            registry.example("S", Example { variant: "Dot", full: false }).map(drop),
+            "example",
+            "refused: UnknownVariant: the format's enum has no variant of that name, or it isn't an enum",
+        ),
+    ];
+    for (refused, kind, line) in rows {
+        let error = refused.unwrap_err();
+        assert_eq!((error.kind().name(), error.to_string().as_str()), (kind, line));
+    }
 }

@@ -27,28 +27,28 @@ fn chain() -> Registry {
 #[test]
 fn a_value_nests_as_deep_as_its_json_may() {
     let deepest = [vec![1; 100], vec![0]].concat();
-    assert_eq!(chain().to_bytes("Chain", &Options(100)), Ok(deepest.clone()));
+    assert_eq!(chain().encode("Chain", &Options(100)), Ok(deepest.clone()));
     // (the library counts alike: the decoder prints the same JSON)
-    assert_eq!(chain().decode("Chain", &deepest).unwrap().matches('{').count(), 100);
+    assert_eq!(chain().decode_json("Chain", &deepest).unwrap().matches('{').count(), 100);
     for levels in [101, 500, u32::MAX] {
-        let error = chain().to_bytes("Chain", &Options(levels)).unwrap_err();
-        assert_eq!((error.kind(), error.pointer()), (ErrorKind::Text(TextFault::TooNested), Some("")), "{levels}");
+        let error = chain().encode("Chain", &Options(levels)).unwrap_err();
+        assert_eq!((error.kind(), error.at()), (ErrorKind::Text(TextFault::TooNested), Some("")), "{levels}");
     }
-    assert_eq!(chain().from_bytes::<Value>("Chain", [1; 101]).unwrap_err().name(), Some("EndOfInput"));
+    assert_eq!(chain().decode::<Value>("Chain", [1; 101]).unwrap_err().reason(), Some("EndOfInput"));
 }
 
 #[test]
 fn a_smaller_depth_is_kept() {
     let shallow = chain().with_limits(Limits { depth: 3, ..Limits::default() });
-    assert_eq!(shallow.to_bytes("Chain", &Options(2)), Ok(vec![1, 1, 0]));
+    assert_eq!(shallow.encode("Chain", &Options(2)), Ok(vec![1, 1, 0]));
     for levels in [3, 50, u32::MAX] {
-        let error = shallow.to_bytes("Chain", &Options(levels)).unwrap_err();
+        let error = shallow.encode("Chain", &Options(levels)).unwrap_err();
         let place = Some("/some/some/some");
-        assert_eq!((error.kind(), error.pointer()), (ErrorKind::Text(TextFault::TooDeep), place), "{levels}");
+        assert_eq!((error.kind(), error.at()), (ErrorKind::Text(TextFault::TooDeep), place), "{levels}");
     }
     let wrong = chain().with_limits(Limits { depth: 501, ..Limits::default() });
-    assert_eq!(wrong.to_bytes("Chain", &Options(0)).unwrap_err(), ErrorKind::Limits);
-    assert_eq!(wrong.to_bytes("Chain", &7).unwrap_err(), ErrorKind::Limits);
+    assert_eq!(wrong.encode("Chain", &Options(0)).unwrap_err(), ErrorKind::Limits);
+    assert_eq!(wrong.encode("Chain", &7).unwrap_err(), ErrorKind::Limits);
 }
 
 #[test]
@@ -56,16 +56,16 @@ fn a_newtype_that_names_itself_has_no_value() {
     let text = r#"{"A":{"NEWTYPESTRUCT":{"TYPENAME":"B"}},"B":{"NEWTYPESTRUCT":{"TYPENAME":"A"}}}"#;
     let registry = Registry::read(text).unwrap();
     let rejections = [
-        registry.to_bytes("A", &7),
-        registry.to_bytes("A", &None::<u8>),
-        registry.to_bytes("A", &[7]),
-        registry.to_bytes("A", &Options(3)),
-        registry.to_bytes("A", &BTreeMap::from([((), ())])),
+        registry.encode("A", &7),
+        registry.encode("A", &None::<u8>),
+        registry.encode("A", &[7]),
+        registry.encode("A", &Options(3)),
+        registry.encode("A", &BTreeMap::from([((), ())])),
     ];
     for told in rejections {
         assert_eq!(told.unwrap_err(), ErrorKind::Text(TextFault::TooDeep));
     }
-    assert_eq!(registry.from_bytes::<u8>("A", [7]).unwrap_err().name(), Some("TooDeep"));
+    assert_eq!(registry.decode::<u8>("A", [7]).unwrap_err().reason(), Some("TooDeep"));
 }
 
 #[test]
@@ -79,9 +79,9 @@ fn formats_are_rejected_before_what_the_value_is() {
         (r#"{}"#, RegistryFault::BadShape),
     ];
     for (format, fault) in rows {
-        assert_eq!(chain().to_bytes(format, &7).unwrap_err(), ErrorKind::Format(fault), "{format}");
-        assert_eq!(chain().to_bytes(format, &(true, 'x')).unwrap_err(), ErrorKind::Format(fault), "{format}");
-        assert_eq!(chain().from_bytes::<u8>(format, [7]).unwrap_err(), ErrorKind::Format(fault), "{format}");
+        assert_eq!(chain().encode(format, &7).unwrap_err(), ErrorKind::Format(fault), "{format}");
+        assert_eq!(chain().encode(format, &(true, 'x')).unwrap_err(), ErrorKind::Format(fault), "{format}");
+        assert_eq!(chain().decode::<u8>(format, [7]).unwrap_err(), ErrorKind::Format(fault), "{format}");
     }
 }
 
@@ -93,7 +93,7 @@ fn deep_json_is_rejected() {
         for _ in 0..100_000 {
             value = Value::Array(vec![value]);
         }
-        let told = chain().encode_value("Chain", &value);
+        let told = chain().encode_json_value("Chain", &value);
         while let Value::Array(mut values) = value {
             value = values.pop().unwrap();
         }
@@ -101,8 +101,8 @@ fn deep_json_is_rejected() {
     });
     assert_eq!(told.unwrap().join().unwrap().unwrap_err(), ErrorKind::Text(TextFault::NotJson));
     let nested = |levels| (0..levels).fold(Value::Null, |value, _| Value::Array(vec![value]));
-    assert_eq!(chain().encode_value("Chain", &nested(127)).unwrap_err(), ErrorKind::Text(TextFault::TooNested));
-    assert_eq!(chain().encode_value("Chain", &nested(128)).unwrap_err(), ErrorKind::Text(TextFault::NotJson));
+    assert_eq!(chain().encode_json_value("Chain", &nested(127)).unwrap_err(), ErrorKind::Text(TextFault::TooNested));
+    assert_eq!(chain().encode_json_value("Chain", &nested(128)).unwrap_err(), ErrorKind::Text(TextFault::NotJson));
 }
 
 #[derive(serde::Serialize, Deserialize, Debug, PartialEq)]
@@ -121,14 +121,14 @@ fn a_small_stack_is_no_crash() {
     let links = &(0..49).fold(link(None), |next, _| link(Some(Box::new(next))));
     let bytes = &[vec![1; 49], vec![0], [7, 0, 0, 0, 0, 0, 0, 0, 1, b'x'].repeat(50)].concat();
     for kibibytes in [64, 96, 128, 160, 192, 224, 256, 320, 384, 512, 1024] {
-        let calls = || (registry.to_bytes("Link", links), registry.from_bytes::<Link>("Link", bytes));
+        let calls = || (registry.encode("Link", links), registry.decode::<Link>("Link", bytes));
         let (encoded, decoded) = thread::scope(|scope| {
             thread::Builder::new().stack_size(kibibytes << 10).spawn_scoped(scope, calls).unwrap().join().unwrap()
         });
-        let memory = || ErrorKind::Memory.into();
+        let stack = || ErrorKind::Stack.into();
         if kibibytes < 1024 {
-            assert!([Ok(bytes), Err(&memory())].contains(&encoded.as_ref()), "{kibibytes} KiB: {encoded:?}");
-            assert!([Ok(links), Err(&memory())].contains(&decoded.as_ref()), "{kibibytes} KiB: {decoded:?}");
+            assert!([Ok(bytes), Err(&stack())].contains(&encoded.as_ref()), "{kibibytes} KiB: {encoded:?}");
+            assert!([Ok(links), Err(&stack())].contains(&decoded.as_ref()), "{kibibytes} KiB: {decoded:?}");
         } else {
             assert_eq!((encoded.as_ref(), decoded.as_ref()), (Ok(bytes), Ok(links)));
         }
@@ -149,13 +149,13 @@ fn a_small_stack_holds_no_variants() {
     let number = &(0..98).fold(Peano::Zero, |number, _| Peano::Next(Box::new(number)));
     let bytes = &[vec![1; 98], vec![0]].concat();
     for kibibytes in [64, 96, 128, 192, 256, 320, 384, 512, 1024] {
-        let calls = || (registry.to_bytes("Peano", number), registry.from_bytes::<Peano>("Peano", bytes));
+        let calls = || (registry.encode("Peano", number), registry.decode::<Peano>("Peano", bytes));
         let (encoded, decoded) = thread::scope(|scope| {
             thread::Builder::new().stack_size(kibibytes << 10).spawn_scoped(scope, calls).unwrap().join().unwrap()
         });
-        let memory = || ErrorKind::Memory.into();
-        assert!([Ok(bytes), Err(&memory())].contains(&encoded.as_ref()), "{kibibytes} KiB: {encoded:?}");
-        assert!([Ok(number), Err(&memory())].contains(&decoded.as_ref()), "{kibibytes} KiB: {decoded:?}");
+        let stack = || ErrorKind::Stack.into();
+        assert!([Ok(bytes), Err(&stack())].contains(&encoded.as_ref()), "{kibibytes} KiB: {encoded:?}");
+        assert!([Ok(number), Err(&stack())].contains(&decoded.as_ref()), "{kibibytes} KiB: {decoded:?}");
     }
 }
 
@@ -167,9 +167,9 @@ fn threads_share_the_formats() {
         thread::scope(|scope| {
             for levels in 0..16 {
                 scope.spawn(move || {
-                    let bytes = registry.to_bytes("Chain", &Options(levels)).unwrap();
+                    let bytes = registry.encode("Chain", &Options(levels)).unwrap();
                     assert_eq!(bytes, [vec![1; levels as usize], vec![0]].concat());
-                    assert!(registry.to_bytes("Chain", &true).is_err());
+                    assert!(registry.encode("Chain", &true).is_err());
                 });
             }
         });
@@ -191,6 +191,7 @@ struct All {
     number: u64,
     signed: i64,
     octets: Vec<u8>,
+    #[serde(with = "bcs_proved::bytes")]
     bytes: Vec<u8>,
     map: BTreeMap<u16, (i32, String)>,
     unit: (),
@@ -310,16 +311,16 @@ fn all_bytes(all: &All) -> Vec<u8> {
 #[test]
 fn random_values_come_and_go() {
     fn same<T: DeserializeOwned + PartialEq + std::fmt::Debug>(registry: &Registry, bytes: &[u8], value: &T) {
-        assert_eq!(registry.from_bytes::<T>("All", bytes).as_ref(), Ok(value));
+        assert_eq!(registry.decode::<T>("All", bytes).as_ref(), Ok(value));
     }
     let (registry, mut random) = (Registry::read(REGISTRY).unwrap(), Random(20261128));
     for _ in 0..200 {
         let all = random.all();
         let bytes = all_bytes(&all);
-        assert_eq!(registry.to_bytes("All", &all).as_ref(), Ok(&bytes), "{all:?}");
+        assert_eq!(registry.encode("All", &all).as_ref(), Ok(&bytes), "{all:?}");
         same(&registry, &bytes, &all);
         // The JSON of the value, too, is the same value.
-        let json = registry.decode_value("All", &bytes).unwrap();
-        assert_eq!(registry.encode_value("All", &json).as_ref(), Ok(&bytes), "{all:?}");
+        let json = registry.decode_json_value("All", &bytes).unwrap();
+        assert_eq!(registry.encode_json_value("All", &json).as_ref(), Ok(&bytes), "{all:?}");
     }
 }

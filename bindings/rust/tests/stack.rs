@@ -29,9 +29,9 @@ fn judge_on_stack(mebibytes: usize, containers: usize) {
             let registry = chain_of(level).with_limits(Limits { depth: containers as u32, ..Limits::default() });
             let bytes = chain(containers);
             assert_eq!(registry.scan("Chain", &bytes), Ok(bytes.len()), "{level:?}");
-            assert_eq!(registry.decode("Chain", &bytes).unwrap_err(), ErrorKind::TooNested, "{level:?}");
+            assert_eq!(registry.decode_json("Chain", &bytes).unwrap_err(), ErrorKind::TooNested, "{level:?}");
             let deeper = registry.scan("Chain", chain(containers + 1)).unwrap_err();
-            assert_eq!((deeper.name(), deeper.place()), (Some("TooDeep"), Some(bytes.len() + 30)), "{level:?}");
+            assert_eq!((deeper.reason(), deeper.place()), (Some("TooDeep"), Some(bytes.len() + 30)), "{level:?}");
         }
     };
     thread::Builder::new().stack_size(mebibytes << 20).spawn(judge).unwrap().join().unwrap();
@@ -61,13 +61,13 @@ fn a_small_stack_is_no_crash() {
             let length = bytes.len();
             let (scanned, part, decoded) = on_stack(kibibytes, move || {
                 let part = registry.part("Chain", &bytes, ".").map(|part| part.unwrap().bytes.len());
-                (registry.scan("Chain", &bytes), part, registry.decode("Chain", &bytes))
+                (registry.scan("Chain", &bytes), part, registry.decode_json("Chain", &bytes))
             });
             let label = format!("{kibibytes} KiB, {level:?}");
-            assert!([Ok(length), Err(ErrorKind::Memory.into())].contains(&scanned), "{label}: {scanned:?}");
-            assert!([Ok(length), Err(ErrorKind::Memory.into())].contains(&part), "{label}: {part:?}");
+            assert!([Ok(length), Err(ErrorKind::Stack.into())].contains(&scanned), "{label}: {scanned:?}");
+            assert!([Ok(length), Err(ErrorKind::Stack.into())].contains(&part), "{label}: {part:?}");
             let decoded = decoded.unwrap_err();
-            assert!([ErrorKind::TooNested, ErrorKind::Memory].contains(&decoded.kind()), "{label}: {decoded}");
+            assert!([ErrorKind::TooNested, ErrorKind::Stack].contains(&decoded.kind()), "{label}: {decoded}");
         }
     }
 }
@@ -83,18 +83,20 @@ fn a_small_stack_is_enough_for_what_fits() {
     for (kibibytes, few) in [(128, 3), (256, 10), (1024, 50), (2048, 50), (8192, 50)] {
         let registry = registry.clone();
         on_stack(kibibytes, move || {
-            assert_eq!(registry.encode("Chain", text(few)), Ok(bytes(few)), "{kibibytes} KiB");
-            assert_eq!(registry.decode("Chain", bytes(few)), Ok(text(few)), "{kibibytes} KiB");
-            assert_eq!(registry.normalise("Chain", text(few)), Ok(text(few)), "{kibibytes} KiB");
-            assert_eq!(registry.equal("Chain", text(few), text(few)), Ok(true), "{kibibytes} KiB");
-            for call in [registry.encode("Chain", text(50)).map(drop), registry.decode("Chain", bytes(50)).map(drop)] {
-                assert!([Ok(()), Err(ErrorKind::Memory.into())].contains(&call), "{kibibytes} KiB: {call:?}");
+            assert_eq!(registry.encode_json("Chain", text(few)), Ok(bytes(few)), "{kibibytes} KiB");
+            assert_eq!(registry.decode_json("Chain", bytes(few)), Ok(text(few)), "{kibibytes} KiB");
+            assert_eq!(registry.normalise_json("Chain", text(few)), Ok(text(few)), "{kibibytes} KiB");
+            assert_eq!(registry.equal_json("Chain", text(few), text(few)), Ok(true), "{kibibytes} KiB");
+            for call in
+                [registry.encode_json("Chain", text(50)).map(drop), registry.decode_json("Chain", bytes(50)).map(drop)]
+            {
+                assert!([Ok(()), Err(ErrorKind::Stack.into())].contains(&call), "{kibibytes} KiB: {call:?}");
             }
             // What is refused on every stack is refused for what it is.
             let error = registry.scan("Chain", [vec![1; 2], vec![2]].concat()).unwrap_err();
-            assert_eq!((error.name(), error.place()), (Some("BadOption"), Some(2)), "{kibibytes} KiB");
+            assert_eq!((error.reason(), error.place()), (Some("BadOption"), Some(2)), "{kibibytes} KiB");
             let shallow = registry.with_limits(Limits { depth: 2, ..Limits::default() });
-            assert_eq!(shallow.scan("Chain", bytes(3)).unwrap_err().name(), Some("TooDeep"), "{kibibytes} KiB");
+            assert_eq!(shallow.scan("Chain", bytes(3)).unwrap_err().reason(), Some("TooDeep"), "{kibibytes} KiB");
         });
     }
 }

@@ -15,8 +15,8 @@ fn eight_threads_use_one_registry() {
         for _ in 0..8 {
             scope.spawn(move || {
                 for _ in 0..100 {
-                    assert_eq!(&registry.encode("TransactionData", text).unwrap(), hex);
-                    assert_eq!(registry.decode("TransactionData", hex).unwrap(), normal.trim_end());
+                    assert_eq!(&registry.encode_json("TransactionData", text).unwrap(), hex);
+                    assert_eq!(registry.decode_json("TransactionData", hex).unwrap(), normal.trim_end());
                     let explanation = registry.explain_text("TransactionData", damaged, Form::Ways).unwrap();
                     assert_eq!(format!("{explanation}refused: BadBool at 65\n"), *explained);
                     assert_eq!(explanation.stop.unwrap().place, 65);
@@ -32,12 +32,32 @@ fn a_registry_moves_to_other_threads() {
     let threads: Vec<_> = (0..8)
         .map(|_| {
             let registry = registry.clone();
-            thread::spawn(move || registry.encode("RawTransaction", example("aptos_transfer.json")))
+            thread::spawn(move || registry.encode_json("RawTransaction", example("aptos_transfer.json")))
         })
         .collect();
     drop(registry);
     for thread in threads {
         assert_eq!(thread.join().unwrap().unwrap(), example_bytes("aptos_transfer"));
+    }
+}
+
+/// The registry is closed when its last owner drops it, which may be in any thread and between a refusal and its message.
+#[test]
+fn a_registry_stays_open_for_each_call() {
+    let expected = example_registry("sui_registry").decode_json("Coins", []).unwrap_err();
+    assert_eq!(expected.message(), "no container is called Coins");
+    for _ in 0..50 {
+        let registry = example_registry("sui_registry");
+        let threads: Vec<_> = (0..8)
+            .map(|_| {
+                let registry = registry.clone();
+                thread::spawn(move || registry.decode_json("Coins", []).unwrap_err())
+            })
+            .collect();
+        drop(registry);
+        for thread in threads {
+            assert_eq!(thread.join().unwrap(), expected);
+        }
     }
 }
 

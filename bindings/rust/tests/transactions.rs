@@ -19,11 +19,11 @@ fn texts_and_bytes_are_those_of_the_examples() {
         let (text, hex) = (example(&format!("{name}.json")), example_bytes(name));
         let normal = example(&format!("{name}_normal.json"));
         let normal = normal.trim_end();
-        assert_eq!(registry.encode(format, &text).unwrap(), hex, "{name}");
-        assert_eq!(registry.encode(format, normal).unwrap(), hex, "{name}");
-        assert_eq!(registry.decode(format, &hex).unwrap(), normal, "{name}");
-        assert_eq!(registry.normalise(format, &text).unwrap(), normal, "{name}");
-        assert!(registry.equal(format, &text, normal).unwrap(), "{name}");
+        assert_eq!(registry.encode_json(format, &text).unwrap(), hex, "{name}");
+        assert_eq!(registry.encode_json(format, normal).unwrap(), hex, "{name}");
+        assert_eq!(registry.decode_json(format, &hex).unwrap(), normal, "{name}");
+        assert_eq!(registry.normalise_json(format, &text).unwrap(), normal, "{name}");
+        assert!(registry.equal_json(format, &text, normal).unwrap(), "{name}");
         assert_eq!(registry.scan(format, [&hex[..], b"more"].concat()).unwrap(), hex.len(), "{name}");
     }
 }
@@ -34,7 +34,7 @@ fn another_chain_id_is_another_value() {
     let text = example("aptos_transfer.json");
     let other = text.replace("\"chain_id\": 4", "\"chain_id\": 1");
     assert_ne!(text, other);
-    assert!(!registry.equal("RawTransaction", text, other).unwrap());
+    assert!(!registry.equal_json("RawTransaction", text, other).unwrap());
 }
 
 #[test]
@@ -92,7 +92,7 @@ fn a_registry_grows() {
     let (older, newer) = (example_registry("aptos_registry_before_multisig"), example_registry("aptos_registry"));
     older.grows(&newer).unwrap();
     let text = example("aptos_transfer.json");
-    assert_eq!(older.encode("RawTransaction", text).unwrap(), example_bytes("aptos_transfer"));
+    assert_eq!(older.encode_json("RawTransaction", text).unwrap(), example_bytes("aptos_transfer"));
 }
 
 #[test]

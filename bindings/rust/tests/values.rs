@@ -18,9 +18,9 @@ fn values_have_their_bytes() {
     ];
     for (format, text, digits, normal) in rows {
         let (format, encoded) = (&Format::json(format), bytes(digits));
-        assert_eq!(plain().encode(format, text).unwrap(), encoded, "{text}");
-        assert_eq!(plain().decode(format, &encoded).unwrap(), normal);
-        assert_eq!(plain().normalise(format, text).unwrap(), normal);
+        assert_eq!(plain().encode_json(format, text).unwrap(), encoded, "{text}");
+        assert_eq!(plain().decode_json(format, &encoded).unwrap(), normal);
+        assert_eq!(plain().normalise_json(format, text).unwrap(), normal);
         assert_eq!(plain().scan(format, &encoded).unwrap(), encoded.len());
     }
 }
@@ -31,15 +31,15 @@ fn container_names_may_be_any_text() {
     for name in names {
         let text = format!(r#"{{{}:{{"NEWTYPESTRUCT":"U8"}}}}"#, json_string(name));
         let registry = Registry::read(text).unwrap();
-        assert_eq!(registry.encode(Format::named(name), "7").unwrap(), [7], "{name:?}");
+        assert_eq!(registry.encode_json(Format::named(name), "7").unwrap(), [7], "{name:?}");
         // (a text that begins so is JSON, as for the program)
         if name.starts_with(['{', '"']) {
             continue;
         }
-        assert_eq!(registry.encode(name, "7").unwrap(), [7], "{name:?}");
+        assert_eq!(registry.encode_json(name, "7").unwrap(), [7], "{name:?}");
         let owned = name.to_owned();
-        assert_eq!(registry.encode(&owned, "7").unwrap(), [7], "{name:?}");
-        assert_eq!(registry.encode(owned, "7").unwrap(), [7], "{name:?}");
+        assert_eq!(registry.encode_json(&owned, "7").unwrap(), [7], "{name:?}");
+        assert_eq!(registry.encode_json(owned, "7").unwrap(), [7], "{name:?}");
     }
 }
 
@@ -52,7 +52,7 @@ fn json_string(text: &str) -> String {
 #[test]
 fn bytes_may_be_larger_than_their_text() {
     let text = format!("[{}0]", "0,".repeat(999));
-    let encoded = plain().encode(Format::json(r#"{"SEQ":"U128"}"#), text).unwrap();
+    let encoded = plain().encode_json(Format::json(r#"{"SEQ":"U128"}"#), text).unwrap();
     assert_eq!(encoded, [vec![0xe8, 7], vec![0; 16_000]].concat());
 }
 
@@ -60,11 +60,11 @@ fn bytes_may_be_larger_than_their_text() {
 fn texts_may_be_larger_than_what_they_come_from() {
     let truths = Format::json(r#"{"SEQ":"BOOL"}"#);
     let input = [vec![0xe8, 7], vec![0; 1000]].concat();
-    let text = plain().decode(&truths, &input).unwrap();
+    let text = plain().decode_json(&truths, &input).unwrap();
     assert_eq!(text, format!("[{}false]", "false,".repeat(999)));
 
     let numbers = Format::json(r#"{"SEQ":"U64"}"#);
-    let normal = plain().normalise(&numbers, format!("[{}7]", "7,".repeat(999))).unwrap();
+    let normal = plain().normalise_json(&numbers, format!("[{}7]", "7,".repeat(999))).unwrap();
     assert_eq!(normal, format!("[{}\"7\"]", "\"7\",".repeat(999)));
 
     let explanation = plain().explain_text(&truths, &input, Form::Ways).unwrap();
@@ -75,8 +75,8 @@ fn texts_may_be_larger_than_what_they_come_from() {
 #[test]
 fn nothing_is_an_input_too() {
     let unit = &Format::json(r#""UNIT""#);
-    assert_eq!(plain().encode(unit, "null").unwrap(), b"");
-    assert_eq!(plain().decode(unit, "").unwrap(), "null");
+    assert_eq!(plain().encode_json(unit, "null").unwrap(), b"");
+    assert_eq!(plain().decode_json(unit, "").unwrap(), "null");
     assert_eq!(plain().scan(unit, "").unwrap(), 0);
     assert_eq!(plain().explain_text(unit, "", Form::Ways).unwrap().text, "");
     let part = plain().part(unit, "", ".").unwrap().unwrap();
@@ -167,8 +167,8 @@ fn names_are_those_of_the_containers() {
 fn formats_are_taken_as_the_program_takes_them() {
     let registry = Registry::read(r#"{"Id":{"NEWTYPESTRUCT":"U16"}}"#).unwrap();
     for format in ["Id", r#"{"TYPENAME":"Id"}"#, r#""U16""#] {
-        assert_eq!(registry.encode(format, "7").unwrap(), [7, 0]);
-        assert_eq!(registry.encode(String::from(format), "7").unwrap(), [7, 0]);
+        assert_eq!(registry.encode_json(format, "7").unwrap(), [7, 0]);
+        assert_eq!(registry.encode_json(String::from(format), "7").unwrap(), [7, 0]);
     }
-    assert_eq!(registry.check(Format::named(r#""U16""#)).unwrap_err().name(), Some("UnknownName"));
+    assert_eq!(registry.check(Format::named(r#""U16""#)).unwrap_err().reason(), Some("UnknownName"));
 }

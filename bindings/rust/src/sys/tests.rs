@@ -1,7 +1,6 @@
 //! The declarations beside the library's header and its names of faults.
-use super::Answer;
+use super::{Answer, Open};
 use crate::faults::{ExampleFault, GrowthFault, Reason, RegistryFault, TextFault};
-use crate::limits::Limits;
 use crate::sys;
 use std::collections::BTreeMap;
 use std::mem::{offset_of, size_of};
@@ -31,10 +30,11 @@ fn layouts_are_those_of_the_header() {
 
 #[test]
 fn default_nodes_are_those_of_the_header() {
-    let lengths = [0, 5, 1 << 20, 268_372_955, 268_372_956, usize::MAX];
+    let lengths = [0, 5, 1 << 20, 268_431_359, 268_431_360, usize::MAX];
     let expressions = lengths.map(|length| format!("(size_t)bcs_nodes_for({length}u)"));
     let told = ask_c_compiler(&expressions.each_ref().map(String::as_str));
-    assert_eq!(told, lengths.map(|length| Limits::default().nodes_of_bytes(length) as usize));
+    let registry = Open::read(b"{}").unwrap_or_else(|answer| panic!("{answer:?}"));
+    assert_eq!(told, lengths.map(|length| registry.nodes_for(length) as usize));
 }
 
 /// A C compiler accepts this crate's declarations beside those of the header only if their types are the same.
@@ -44,8 +44,8 @@ fn declarations_are_those_of_the_header() {
     let block = source.split_once("unsafe extern \"C\" {").unwrap().1.split_once("\n}").unwrap().0;
     let calls = block.split(';').filter_map(|call| call.split_once("fn ").map(|(_, call)| c_declaration(call)));
     let calls: Vec<String> = calls.collect();
-    // Those that open, close and grow a registry, fifteen on a handle, and those of places, lists and names.
-    assert_eq!(calls.len(), 23);
+    // Those that open, close and grow a registry, sixteen on a handle, and those of places, lists and names.
+    assert_eq!(calls.len(), 24);
     assert_eq!(calls[1], "void bcs_close(bcs_handle *);");
     run_c(&calls.concat(), "");
 }
@@ -54,7 +54,11 @@ fn declarations_are_those_of_the_header() {
 fn c_declaration(call: &str) -> String {
     let (name, rest) = call.split_once('(').unwrap();
     let (parameters, answer) = rest.split_once(')').unwrap();
-    let answer = if answer.trim() == "-> Answer" { "bcs_answer" } else { "void" };
+    let answer = match answer.trim() {
+        "" => "void",
+        "-> Answer" => "bcs_answer",
+        arrow => c_type(arrow.trim_start_matches("-> ")),
+    };
     let parameters = parameters.split(',').filter_map(|parameter| parameter.split_once(": "));
     let types: Vec<&str> = parameters.map(|(_, of_rust)| c_type(of_rust.trim())).collect();
     format!("{answer} {name}({});", types.join(", "))
@@ -64,6 +68,7 @@ fn c_type(of_rust: &str) -> &'static str {
     match of_rust {
         "*const u8" => "const uint8_t *",
         "*mut u8" => "uint8_t *",
+        "*const Handle" => "const bcs_handle *",
         "*mut Handle" => "bcs_handle *",
         "*mut *mut Handle" => "bcs_handle **",
         "u32" => "uint32_t",
@@ -129,6 +134,7 @@ fn numbers_are_those_of_the_header() {
             ("NO", sys::NO),
             ("PATH", sys::PATH),
             ("NEWER", sys::NEWER),
+            ("STACK", sys::STACK),
             // A handle of this crate is never closed.
             ("CLOSED", 10),
             ("WAYS", sys::WAYS),
