@@ -55,7 +55,7 @@ names=$(sed 's/.* [A-Z] //' "$room/symbols" | grep -v '^Java_bcsproved_Native_')
 mkdir "$room/temporary"
 set -- "$JAVA_HOME/bin/java" -XX:+UseSerialGC -Xcheck:jni -Djava.io.tmpdir="$room/temporary" \
     -cp "$room/first/bcsproved.jar:$room/tests"
-run "the tests" "$@" -Xmx64m Tests "$root/examples"
+run "the tests" env MALLOC_PERTURB_=165 "$@" -Xmx64m Tests "$root/examples"
 [ "$(wc -l <"$room/log")" = 1 ] || {
     cat "$room/log"
     fail "JNI finds an error"

@@ -15,7 +15,7 @@ public final class Wallet {
     public static void main(String[] arguments) throws Exception {
         Path examples = Path.of(arguments[0]);
         try (Registry registry = Registry.open(Files.readString(examples.resolve("aptos_registry.json")))) {
-            byte[] data = registry.encode("RawTransaction", Files.readString(examples.resolve("aptos_transfer.json")));
+            byte[] data = registry.encodeJson("RawTransaction", Files.readString(examples.resolve("aptos_transfer.json")));
             System.out.println(HexFormat.of().formatHex(data));
 
             // Aptos signs the bytes behind the hash of this name.
@@ -28,10 +28,10 @@ public final class Wallet {
             signature.update(message.toByteArray());
             System.out.println(signature.sign().length);
 
-            System.out.println(registry.decode("RawTransaction", data));
-            registry.decode("RawTransaction", java.util.Arrays.copyOf(data, 100));
+            System.out.println(registry.decodeJson("RawTransaction", data));
+            registry.decodeJson("RawTransaction", java.util.Arrays.copyOf(data, 100));
         } catch (BcsException e) {
-            System.out.println(e.reason() + " " + e.place() + " " + e.pointer());
+            System.out.println(e.reason() + " " + e.place() + " " + e.at());
         }
     }
 }
