@@ -15,58 +15,18 @@ import java.util.ArrayList;
 import java.util.Arrays;
 import java.util.HexFormat;
 import java.util.List;
-import java.util.Objects;
 import java.util.Optional;
 import java.util.concurrent.atomic.AtomicInteger;
 import java.util.stream.IntStream;
 
 /** Tests the calls: {@code java Tests EXAMPLES}. */
-public final class Tests {
+public final class Tests extends Check {
     private static final String SHAPES = """
             {"Point":{"STRUCT":[{"x":"U8"},{"~/":{"SEQ":"BYTES"}}]},
              "Shape":{"ENUM":{"0":{"Dot":"UNIT"},"2":{"Circle":{"NEWTYPE":"U64"}}}}}""";
     private static final byte[] NOTHING = {};
 
-    private interface Test {
-        void run() throws Exception;
-    }
-
     private static Path examples;
-
-    private static byte[] unhex(String digits) {
-        return HexFormat.of().parseHex(digits.strip());
-    }
-
-    private static void equal(Object is, Object wanted) {
-        if (!Objects.equals(is, wanted)) {
-            throw new AssertionError(is + " instead of " + wanted);
-        }
-    }
-
-    private static <E extends Throwable> E thrown(Class<E> type, Test test) {
-        try {
-            test.run();
-        } catch (Throwable e) {
-            if (type.isInstance(e)) {
-                return type.cast(e);
-            }
-            if (e instanceof IllegalStateException closed) {
-                throw closed; // which a test of threads allows
-            }
-            throw new AssertionError("not " + type, e);
-        }
-        throw new AssertionError("no " + type);
-    }
-
-    private static void refused(Kind kind, String reason, long place, String at, String message, Test test) throws BcsException {
-        BcsException e = thrown(BcsException.class, test);
-        if (e.kind() == Kind.STACK && kind != Kind.STACK) {
-            throw e; // which some tests allow
-        }
-        equal(List.of(e.kind(), String.valueOf(e.reason()), e.place()), List.of(kind, String.valueOf(reason), place));
-        equal(e.at(), at);
-        equal(e.message(), message);
-    }
 
     private static void value(Registry registry, String format, String json, String digits, String normal) throws BcsException {
         byte[] data = registry.encodeJson(format, json);

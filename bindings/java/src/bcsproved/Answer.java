@@ -1,7 +1,5 @@
 package bcsproved;
 
-import bcsproved.BcsException.Kind;
-
 /** What a call answers: the fields of bcs_answer, and its output, which is null if there is none. */
 record Answer(int status, int fault, long place, long length, byte[] output) {
     /** enum bcs_status. */
@@ -42,7 +40,7 @@ record Answer(int status, int fault, long place, long length, byte[] output) {
             throw new OutOfMemoryError("bcs: out of memory");
         }
         if (answer.status == STACK) {
-            throw new BcsException(Kind.STACK, null, -1, null, BcsException.TOO_LITTLE_STACK);
+            throw BcsException.tooLittleStack();
         }
         return answer;
     }

@@ -3,7 +3,6 @@ package bcsproved;
 /** A refusal. Its message is a line that begins like that of the program {@code bcs}: {@code refused: BadNumber at /amount: ..} */
 public final class BcsException extends Exception {
     private static final long serialVersionUID = 1;
-    static final String TOO_LITTLE_STACK = "the thread has too little stack";
 
     /** What is refused. */
     public enum Kind {
@@ -43,6 +42,10 @@ public final class BcsException extends Exception {
         this.place = place;
         this.at = at;
         this.message = message;
+    }
+
+    static BcsException tooLittleStack() {
+        return new BcsException(Kind.STACK, null, -1, null, "the thread has too little stack");
     }
 
     private static String line(String reason, long place, String at, String message) {

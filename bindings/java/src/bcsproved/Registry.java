@@ -29,19 +29,46 @@ public final class Registry implements AutoCloseable {
 
     /** Reads the JSON of a registry, in UTF-8. */
     public static Registry open(byte[] registry) throws BcsException {
+        return open(registry, Names.STANDARD);
+    }
+
+    /**
+     * The same, with the names of containers that have a Java form of their own. An {@link IllegalArgumentException} if the registry
+     * has no newtype of 32 bytes of such a name, other than the standard ones.
+     */
+    public static Registry open(byte[] registry, Names names) throws BcsException {
         Objects.requireNonNull(registry, "registry");
+        Objects.requireNonNull(names, "names");
         long[] fields = new long[4];
         long address = Native.open(registry, fields);
         Answer answer = Answer.of(fields, null);
         if (answer.status() != Answer.DONE) {
             throw Refusals.ofRegistry(Kind.REGISTRY, answer, registry);
         }
-        return new Registry(new Shared(address), null);
+        Registry opened = new Registry(new Shared(address, names), null);
+        if (!names.equals(Names.STANDARD)) {
+            opened.readNames();
+        }
+        return opened;
+    }
+
+    private void readNames() throws BcsException {
+        try (Session session = begin()) {
+            session.codec();
+        } catch (BcsException | RuntimeException e) {
+            close();
+            throw e;
+        }
     }
 
     /** Reads the JSON of a registry. */
     public static Registry open(String registry) throws BcsException {
         return open(Question.utf8(registry));
+    }
+
+    /** Reads the JSON of a registry, with the names of containers that have a Java form of their own. */
+    public static Registry open(String registry, Names names) throws BcsException {
+        return open(Question.utf8(registry), names);
     }
 
     /**
@@ -68,7 +95,53 @@ public final class Registry implements AutoCloseable {
     /** Throws an exception if the format isn't one of the registry. */
     public void check(String format) throws BcsException {
         try (Session session = begin()) {
-            session.ask(Call.CHECK, session.question(format), NOTHING, null);
+            session.check(format);
+        }
+    }
+
+    /**
+     * The bytes of a Java value. The README has a table of the types that each format takes; the kind of an exception for another
+     * value is VALUE, and for what only the proved call rejects, such as repeated keys, it is TEXT.
+     */
+    public byte[] encode(String format, Object value) throws BcsException {
+        try (Session session = begin()) {
+            return Values.encode(session, format, value);
+        }
+    }
+
+    /** The Java value that all these bytes encode. */
+    public Object decode(String format, byte[] data) throws BcsException {
+        return decode(format, data, Object.class);
+    }
+
+    /**
+     * The value that all these bytes encode, as one of a record, a bean, a sealed interface of records or another type. If the type
+     * can't hold all numbers of the format, the kind of the exception is TYPE, and the bytes aren't read.
+     */
+    @SuppressWarnings("unchecked") // Class.cast has none for int.class
+    public <T> T decode(String format, byte[] data, Class<T> type) throws BcsException {
+        Objects.requireNonNull(data, "data");
+        Objects.requireNonNull(type, "type");
+        try (Session session = begin()) {
+            return (T) Values.decode(session, session.question(format, data.length), format, data, type);
+        }
+    }
+
+    /** The Java value at the beginning of the data, and how many bytes it has. What follows isn't read. */
+    public Prefix<Object> decodePrefix(String format, byte[] data) throws BcsException {
+        Objects.requireNonNull(data, "data");
+        try (Session session = begin()) {
+            Question question = session.question(format, data.length); // for all of the data, so both steps have the same limits
+            byte[] prefix = session.prefix(question, data);
+            return new Prefix<>(Values.decode(session, question, format, prefix, Object.class), prefix.length);
+        }
+    }
+
+    /** Throws an exception unless values of this type can be passed to encode, and returned by decode. Call it when you start. */
+    public void checkType(String format, Class<?> type) throws BcsException {
+        Objects.requireNonNull(type, "type");
+        try (Session session = begin()) {
+            Values.check(session, format, type);
         }
     }
 

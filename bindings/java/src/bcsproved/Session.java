@@ -10,6 +10,7 @@ import java.util.Arrays;
  */
 final class Session implements AutoCloseable {
     private static final Limits ANY = Limits.STANDARD;
+    private static final byte[] NOTHING = new byte[0];
 
     private final Shared shared;
     private final long handle;
@@ -27,6 +28,10 @@ final class Session implements AutoCloseable {
         Reference.reachabilityFence(shared);
     }
 
+    Codec codec() throws BcsException {
+        return shared.codec(this);
+    }
+
     /** The question of a call that reads JSON, or no input. */
     Question question(String format) {
         return Question.of(format, limits != null ? limits : ANY);
@@ -39,6 +44,11 @@ final class Session implements AutoCloseable {
 
     private long nodesFor(int length) {
         return Integer.toUnsignedLong(Native.nodesFor(handle, length));
+    }
+
+    /** Throws an exception if the format isn't one of the registry. */
+    void check(String format) throws BcsException {
+        ask(Call.CHECK, question(format), NOTHING, null);
     }
 
     /** Makes a call without output. Its status is DONE or NO; any other is thrown. */
