@@ -18,7 +18,8 @@ final class Samples {
                              "2":{"Odd":{"NEWTYPE":"F32"}}}},
              "All":{"STRUCT":[{"max_gas":"U32"},{"memo":{"OPTION":"STR"}},{"hash":"BYTES"},{"sizes":{"SEQ":"U16"}},
                               {"shares":{"MAP":{"KEY":{"TYPENAME":"address"},"VALUE":{"TYPENAME":"u256"}}}},
-                              {"pair":{"TUPLE":["I8",{"TYPENAME":"S"}]}},{"shape":{"TYPENAME":"E"}},{"next":{"OPTION":{"TYPENAME":"All"}}}]}}""";
+                              {"pair":{"TUPLE":["I8",{"TYPENAME":"S"}]}},{"shape":{"TYPENAME":"E"}},
+                              {"next":{"OPTION":{"TYPENAME":"All"}}}]}}""";
 
     private Samples() {}
 

@@ -178,7 +178,8 @@ public final class Tests extends Check {
         String fields = IntStream.range(0, 20).mapToObj(i -> "{\"" + "n".repeat(500) + i + "\":\"UNIT\"}").collect(joining(","));
         Registry longNames = Registry.open("{\"S\":{\"STRUCT\":[" + fields + "]}}");
         // 16 * 3 + 65,536 nodes, times 64 / 502 bytes of the longest name; a list of structs with 22 nodes each (docs/FORMAT.md)
-        refused(Kind.BYTES, "TooManyNodes", 3, "[380]", "wanted room for S", () -> longNames.decodeJson("{\"SEQ\":{\"TYPENAME\":\"S\"}}", unhex("c0b802")));
+        refused(Kind.BYTES, "TooManyNodes", 3, "[380]", "wanted room for S",
+                () -> longNames.decodeJson("{\"SEQ\":{\"TYPENAME\":\"S\"}}", unhex("c0b802")));
         equal(Limits.STANDARD, new Limits(500, 4294967295L));
         equal(thrown(BcsException.class, () -> registry.withLimits(new Limits(0, 3)).encodeJson(format, "[null,null,null]")).reason(),
                 "TooManyNodes");
@@ -306,7 +307,8 @@ public final class Tests extends Check {
                 () -> refused(Kind.BYTES, "TooNested", -1, null, null, () -> options.decodeJson("C", far)),
                 () -> equal(chain.explain("C", near, Form.PATHS).damage(), null),
                 () -> refused(Kind.BYTES, "TooNested", -1, null, null, () -> chain.decodeJson("C", near)),
-                () -> refused(Kind.TEXT, "BadShape", -1, "/n", "wanted null, or an object with the one member some", () -> chain.encodeJson("C", json)));
+                () -> refused(Kind.TEXT, "BadShape", -1, "/n", "wanted null, or an object with the one member some",
+                        () -> chain.encodeJson("C", json)));
         for (long kibibytes : new long[] {256, 512, 1024, 16 << 10}) {
             onThreads(1, kibibytes << 10, () -> {
                 for (Test test : tests) {
@@ -332,8 +334,8 @@ public final class Tests extends Check {
     public static void main(String[] words) throws Exception {
         examples = Path.of(words[0]);
         List<Test> tests = words.length > 1 ? List.of(Tests::memory)
-                : List.of(Tests::values, Tests::documents, Tests::refusals, Tests::arguments, Tests::explanations, Tests::limits, Tests::sharing,
-                        Tests::closing, Tests::collecting, Tests::stacks);
+                : List.of(Tests::values, Tests::documents, Tests::refusals, Tests::arguments, Tests::explanations, Tests::limits,
+                        Tests::sharing, Tests::closing, Tests::collecting, Tests::stacks);
         for (Test test : tests) {
             test.run();
         }

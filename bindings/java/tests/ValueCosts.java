@@ -65,7 +65,8 @@ final class ValueCosts extends Check {
         rejected("more nodes than the limits allow", () -> limited.encode("Tree", tree));
         rejected("more nodes than the limits allow", () -> limited.encode("{\"SEQ\":\"U16\"}", endless()));
         rejected("a number of 1048577 bits", () -> registry.encode("\"U64\"", BigInteger.ONE.shiftLeft(1 << 20)));
-        rejected("has 4 bytes, not 100000000", () -> registry.encode("{\"TUPLEARRAY\":{\"CONTENT\":\"U8\",\"SIZE\":4}}", new byte[100_000_000]));
+        String four = "{\"TUPLEARRAY\":{\"CONTENT\":\"U8\",\"SIZE\":4}}";
+        rejected("has 4 bytes, not 100000000", () -> registry.encode(four, new byte[100_000_000]));
         // Names of members and variants aren't repeated as they are.
         rejected("has no field \"xxx", () -> registry.encode("P", Map.of("x".repeat(1_000_000), 1)));
     }
@@ -73,8 +74,8 @@ final class ValueCosts extends Check {
     /** Formats from strangers aren't kept: all of these together would need more memory than there is. */
     private static void formats(Registry registry) throws BcsException {
         for (int i = 0; i < 3000; i++) {
-            String format = "{\"TUPLE\":[" + "\"U8\",".repeat(i % 50 == 0 ? 20_000 : 100) + "{\"TUPLEARRAY\":{\"CONTENT\":\"BOOL\",\"SIZE\":" + i
-                    + "}}]}";
+            String last = "{\"TUPLEARRAY\":{\"CONTENT\":\"BOOL\",\"SIZE\":" + i + "}}";
+            String format = "{\"TUPLE\":[" + "\"U8\",".repeat(i % 50 == 0 ? 20_000 : 100) + last + "]}";
             thrown(BcsException.class, () -> registry.encode(format, List.of(1)));
         }
     }
@@ -109,7 +110,8 @@ final class ValueCosts extends Check {
                 return 2;
             }
         };
-        refused(Kind.TEXT, "RepeatedKey", -1, "", "two keys of a map are equal", () -> refusing.encode("{\"MAP\":{\"KEY\":\"STR\",\"VALUE\":\"U8\"}}", doubled));
+        refused(Kind.TEXT, "RepeatedKey", -1, "", "two keys of a map are equal",
+                () -> refusing.encode("{\"MAP\":{\"KEY\":\"STR\",\"VALUE\":\"U8\"}}", doubled));
     }
 
     private static void onThread(long stack, Check.Test test) throws Exception {
@@ -143,7 +145,8 @@ final class ValueCosts extends Check {
         AtomicInteger refused = new AtomicInteger();
         for (long kibibytes : new long[] {144, 160, 192, 256, 512, 1024, 16 << 10}) {
             onThread(kibibytes << 10, () -> {
-                for (Check.Test test : List.<Check.Test>of(() -> chain.encode("C", deep), () -> chain.decode("C", data), () -> chain.encode("C", circle))) {
+                for (Check.Test test : List.<Check.Test>of(() -> chain.encode("C", deep), () -> chain.decode("C", data),
+                        () -> chain.encode("C", circle))) {
                     try {
                         test.run();
                     } catch (BcsException e) {

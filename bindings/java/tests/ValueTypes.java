@@ -52,7 +52,8 @@ final class ValueTypes extends Check {
     }
 
     private static void decodes(String format, String digits, Class<?> type, String wanted) {
-        equal(format + " " + digits + " as " + type + ": " + decoded(format, digits, type), format + " " + digits + " as " + type + ": " + wanted);
+        String shown = format + " " + digits + " as " + type + ": ";
+        equal(shown + decoded(format, digits, type), shown + wanted);
     }
 
     private static final String U64 = "0100000000000000", P = "03626f62" + U64, REFUSED = "TYPE refused: WrongType";
@@ -70,8 +71,8 @@ final class ValueTypes extends Check {
                 new Row("u256", u256, all.subList(8, 9)), new Row("i256", u256, all.subList(8, 9)))) {
             for (Class<?> type : all) {
                 String name = row.format.replace("\"", "");
-                String short_ = type.getSimpleName();
-                decodes(row.format, row.digits, type, row.types.contains(type) ? "1" : REFUSED + ": " + name + " doesn't fit in " + short_);
+                String wanted = row.types.contains(type) ? "1" : REFUSED + ": " + name + " doesn't fit in " + type.getSimpleName();
+                decodes(row.format, row.digits, type, wanted);
             }
             decodes(row.format, row.digits, double.class, REFUSED + ": " + row.format.replace("\"", "") + " takes an integer, not double");
         }
@@ -129,7 +130,8 @@ final class ValueTypes extends Check {
         decodes("i256", "00".repeat(31) + "80", BigInteger.class, BigInteger.TWO.pow(255).negate().toString());
         decodes("u256", "ff".repeat(32), Object.class, BigInteger.TWO.pow(256).subtract(BigInteger.ONE).toString());
         decodes("\"F64\"", "0000000000000000", double.class, REFUSED + ": F64 has no values, not double");
-        decodes("Tree", "010000", Object.class, "Variant[name=Fork, value=[Variant[name=Leaf, value=Unit[]], Variant[name=Leaf, value=Unit[]]]]");
+        String leaf = "Variant[name=Leaf, value=Unit[]]";
+        decodes("Tree", "010000", Object.class, "Variant[name=Fork, value=[" + leaf + ", " + leaf + "]]");
     }
 
     private static void rejected(String format, Object value, String at, String message) throws BcsException {
@@ -180,7 +182,8 @@ final class ValueTypes extends Check {
     private static void twoDoors() throws BcsException {
         for (String format : List.of("\"BYTES\"", "{\"SEQ\":\"U8\"}")) {
             for (String text : List.of("000000", "cafe", "69b71d", "AbCd", "1234")) {
-                equal(HexFormat.of().formatHex(registry.encodeJson(format, "\"" + text + "\"")), "0" + text.length() / 2 + text.toLowerCase());
+                byte[] digits = registry.encodeJson(format, "\"" + text + "\"");
+                equal(HexFormat.of().formatHex(digits), "0" + text.length() / 2 + text.toLowerCase());
                 BcsException e = thrown(BcsException.class, () -> registry.encode(format, text));
                 equal(e.message().endsWith(" takes bytes, or Hex(…) for digits, not String"), true);
                 equal(Arrays.equals(registry.encode(format, new Hex(text)), registry.encode(format, unhex(text))), true);
@@ -242,8 +245,8 @@ final class ValueTypes extends Check {
         record Entries(List<Map.Entry<byte[], String>> map) {}
         record Digits(Map<Hex, String> map) {}
         Registry maps = Registry.open("{\"M\":{\"STRUCT\":[{\"map\":{\"MAP\":{\"KEY\":\"BYTES\",\"VALUE\":\"STR\"}}}]}}");
-        refused(Kind.TYPE, "WrongType", -1, "/map/-/0", "BYTES takes no byte[] as keys, which equal only themselves: use Hex, or a List of Map.Entry",
-                () -> maps.decode("M", unhex("0101aa0162"), Keyed.class));
+        refused(Kind.TYPE, "WrongType", -1, "/map/-/0",
+                "BYTES takes no byte[] as keys, which equal only themselves: use Hex, or a List of Map.Entry", () -> maps.decode("M", unhex("0101aa0162"), Keyed.class));
         equal(HexFormat.of().formatHex(maps.encode("M", new Keyed(Map.of(unhex("aa"), "b")))), "0101aa0162");
         Entries entries = maps.decode("M", unhex("0101aa0162"), Entries.class);
         equal(shown(entries.map().get(0).getKey()) + entries.map().get(0).getValue(), "byte[-86]b");
@@ -260,7 +263,8 @@ final class ValueTypes extends Check {
             equal(named.decode("A", unhex(digits)), "0x" + digits);
             equal(number.encode("A", -1).length, 32);
             equal(number.decode("A", unhex("ff".repeat(32))), BigInteger.valueOf(-1));
-            refused(Kind.VALUE, "WrongType", -1, "", "TUPLEARRAY of U8 takes bytes, or Hex(…) for digits, not String", () -> plain.encode("A", "0x1"));
+            refused(Kind.VALUE, "WrongType", -1, "", "TUPLEARRAY of U8 takes bytes, or Hex(…) for digits, not String",
+                    () -> plain.encode("A", "0x1"));
             equal(named.encodeJson("A", "\"" + digits + "\"").length, 32);
         }
         for (String name : List.of("B", "C")) {
@@ -278,7 +282,8 @@ final class ValueTypes extends Check {
         equal(odd.decode("O", unhex("010203")), Map.of("\ud83d\ude00", 1L, "\uffff", 2L, "\n\"", 3L));
         record Plain(int maxGas) {}
         Registry two = Registry.open("{\"O\":{\"STRUCT\":[{\"max_gas\":\"U8\"},{\"maxGas\":\"U8\"}]}}");
-        refused(Kind.VALUE, "WrongType", -1, "", "O has two names for ValueTypes$1Plain.maxGas: it needs @Bcs", () -> two.encode("O", new Plain(1)));
+        refused(Kind.VALUE, "WrongType", -1, "", "O has two names for ValueTypes$1Plain.maxGas: it needs @Bcs",
+                () -> two.encode("O", new Plain(1)));
     }
 
     /** A constructor or an accessor that throws is the caller's own. */

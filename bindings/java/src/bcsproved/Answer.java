@@ -3,7 +3,8 @@ package bcsproved;
 /** What a call answers: the fields of bcs_answer, and its output, which is null if there is none. */
 record Answer(int status, int fault, long place, long length, byte[] output) {
     /** enum bcs_status. */
-    static final int DONE = 0, REGISTRY = 2, FORMAT = 3, LIMITS = 4, REFUSED = 5, MEMORY = 6, NO = 7, PATH = 8, NEWER = 9, STACK = 11;
+    static final int DONE = 0, REGISTRY = 2, FORMAT = 3, LIMITS = 4, REFUSED = 5, MEMORY = 6, NO = 7, PATH = 8, NEWER = 9;
+    static final int STACK = 11;
 
     /** enum bcs_notation. */
     static final int NAME = 1, POINTER = 2;

@@ -42,7 +42,8 @@ final class Decoders {
     Decoder keys(Node node, Type type) {
         Class<?> raw = Types.raw(type);
         if (raw.isArray()) {
-            throw node.reject("takes no " + Types.name(type) + " as keys, which equal only themselves: use Hex, or a List of Map.Entry");
+            throw node.reject("takes no " + Types.name(type)
+                    + " as keys, which equal only themselves: use Hex, or a List of Map.Entry");
         }
         return decoder(node, type == Object.class ? Key.class : type);
     }

@@ -64,7 +64,8 @@ final class EnumDecoders {
     }
 
     private Mismatch missing(Type type, int variant) {
-        return node.reject("is " + Mismatch.quoted(node.names.get(variant)) + " here, and " + Types.name(type) + " has no record for it");
+        String name = Mismatch.quoted(node.names.get(variant));
+        return node.reject("is " + name + " here, and " + Types.name(type) + " has no record for it");
     }
 
     private Decoder absent(Type type, int variant) {

@@ -105,11 +105,15 @@ final class Formats {
             case "TYPENAME" -> containers.get((String) content);
             case "OPTION" -> compound("OPTION", Kind.OPTION, format(content));
             case "SEQ" -> list("SEQ", format(content), Node.ANY_LENGTH);
-            case "MAP" -> compound("MAP", Kind.MAP, format(Json.members(content).get("KEY")), format(Json.members(content).get("VALUE")));
+            case "MAP" -> compound("MAP", Kind.MAP, format(member(content, "KEY")), format(member(content, "VALUE")));
             case "TUPLE" -> compound("TUPLE", Kind.TUPLE, formats(content).toArray(Node[]::new));
-            case "TUPLEARRAY" -> list("TUPLEARRAY", format(Json.members(content).get("CONTENT")), size(Json.members(content).get("SIZE")));
+            case "TUPLEARRAY" -> list("TUPLEARRAY", format(member(content, "CONTENT")), size(member(content, "SIZE")));
             default -> throw new AssertionError("a format that isn't known: " + only.getKey());
         };
+    }
+
+    private static Object member(Object object, String name) {
+        return Json.members(object).get(name);
     }
 
     private static Node compound(String what, Kind kind, Node... parts) {

@@ -20,7 +20,7 @@ final class Records {
         return records.stream().allMatch(Class::isRecord) ? records : null;
     }
 
-    /** For each variant, the index of the record that has its name, or MISSING: a registry may grow. Each record needs a variant. */
+    /** For each variant, the index of the record with its name, or MISSING, since a registry may grow. Each record needs a variant. */
     static int[] match(Node node, List<Class<?>> records) {
         int[] indices = new int[node.names.size()];
         Arrays.fill(indices, Shape.MISSING);

@@ -33,8 +33,8 @@ public final class Registry implements AutoCloseable {
     }
 
     /**
-     * The same, with the names of containers that have a Java form of their own. An {@link IllegalArgumentException} if the registry
-     * has no newtype of 32 bytes of such a name, other than the standard ones.
+     * The same, with the names of containers that have a Java form of their own. It throws an {@link IllegalArgumentException} if
+     * the registry has no newtype of 32 bytes with such a name, other than the standard ones.
      */
     public static Registry open(byte[] registry, Names names) throws BcsException {
         Objects.requireNonNull(registry, "registry");
@@ -246,9 +246,9 @@ public final class Registry implements AutoCloseable {
     }
 
     /**
-     * The part to which the path leads, in the value at the beginning of the data, unless the path leads nowhere. Paths are those of
-     * {@code bcs part}: "." for the whole value, or steps such as inner/2/inner or key:0161, where the key's bytes are hexadecimal
-     * digits.
+     * The part to which the path leads, in the value at the beginning of the data, unless the path leads nowhere. Paths are those
+     * of {@code bcs part}: "." for the whole value, or steps such as inner/2/inner or key:0161, where the key's bytes are
+     * hexadecimal digits.
      */
     public Optional<Part> part(String format, byte[] data, String path) throws BcsException {
         return part(Call.PART, format, data, path, 0);

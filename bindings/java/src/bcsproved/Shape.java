@@ -76,7 +76,8 @@ abstract class Shape {
         int find(Node node, String name, String tag, String shown) {
             Integer found = tag != null ? exact.get(tag) : plain.get(plain(name));
             if (found == null) {
-                throw node.reject("has no name for " + shown + (tag == null ? "" : ", which is @Bcs(" + Mismatch.quoted(tag) + ")"));
+                String tagged = tag == null ? "" : ", which is @Bcs(" + Mismatch.quoted(tag) + ")";
+                throw node.reject("has no name for " + shown + tagged);
             }
             if (found == MISSING) {
                 throw node.reject("has two names for " + shown + ": it needs @Bcs");
