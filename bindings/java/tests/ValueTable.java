@@ -1,7 +1,6 @@
 import static java.util.Map.entry;
 
 import bcsproved.BcsException;
-import bcsproved.BcsException.Kind;
 import bcsproved.Hex;
 import bcsproved.Registry;
 import bcsproved.Unit;

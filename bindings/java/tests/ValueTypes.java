@@ -20,7 +20,6 @@ import java.util.HexFormat;
 import java.util.List;
 import java.util.Map;
 import java.util.Optional;
-import java.util.Set;
 
 /** Values as Java types, and where values and types are rejected: {@code java ValueTypes EXAMPLES}. */
 final class ValueTypes extends Check {

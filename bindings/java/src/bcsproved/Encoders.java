@@ -2,6 +2,7 @@ package bcsproved;
 
 import bcsproved.Node.Kind;
 import java.lang.reflect.Type;
+import java.lang.reflect.TypeVariable;
 import java.math.BigInteger;
 import java.util.HashMap;
 import java.util.Map;
@@ -31,11 +32,36 @@ final class Encoders {
 
     private final Map<Codec.Pair, Late> made = new HashMap<>();
 
-    /** The encoder for a format and a type. Of an Object, the class decides. */
+    /** The encoder of an Object, whose class decides. The last class is remembered here, since the next one is often the same. */
+    private static final class Dynamic implements Encoder {
+        private record Known(Class<?> type, Encoder encoder) {}
+
+        private final Node node;
+        private Known last = new Known(null, null);
+
+        Dynamic(Node node) {
+            this.node = node;
+        }
+
+        @Override
+        public void write(JsonWriter w, Object value) {
+            if (value == null || value.getClass() == Object.class) {
+                throw node.mismatch(value == null ? null : Object.class);
+            }
+            Known known = last;
+            if (known.type != value.getClass()) {
+                known = new Known(value.getClass(), w.codec.encoder(node, value.getClass()));
+                last = known;
+            }
+            known.encoder.write(w, value);
+        }
+    }
+
+    /** The encoder for a format and a type. */
     Encoder encoder(Node node, Type declared) {
         Type type = Types.bound(declared);
-        if (type instanceof java.lang.reflect.TypeVariable<?> || type == Object.class) {
-            return (w, value) -> dynamic(w, node, value);
+        if (type instanceof TypeVariable<?> || type == Object.class) {
+            return new Dynamic(node);
         }
         Codec.Pair pair = new Codec.Pair(node, type);
         if (!made.containsKey(pair)) {
@@ -44,13 +70,6 @@ final class Encoders {
             late.body = body(node, type);
         }
         return made.get(pair);
-    }
-
-    private static void dynamic(JsonWriter w, Node node, Object value) {
-        if (value == null || value.getClass() == Object.class) {
-            throw node.mismatch(value == null ? null : Object.class);
-        }
-        w.codec.encoder(node, value.getClass()).write(w, value);
     }
 
     private Encoder body(Node node, Type type) {
@@ -97,6 +116,10 @@ final class Encoders {
 
     /** Writes an integer of any type. Its value must be in the format's range. */
     private static void integer(JsonWriter w, Node node, Object value) {
+        if (node.kind == Kind.INTEGER && value instanceof Long small && small >= 0 && node.bits >= Long.SIZE) {
+            w.put(small.toString()); // the most frequent case, without a BigInteger
+            return;
+        }
         BigInteger x = big(node, value);
         int bits = node.isSigned ? node.bits - 1 : node.bits;
         if (x.signum() < 0 && !node.isSigned || x.bitLength() > bits) {
@@ -105,7 +128,9 @@ final class Encoders {
         if (node.kind == Kind.BIG_INTEGER) {
             w.hex(LittleEndian.bytes(x));
         } else {
-            w.put("\"" + x + "\"");
+            w.put('"');
+            w.put(x.toString());
+            w.put('"');
         }
     }
 

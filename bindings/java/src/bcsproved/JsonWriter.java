@@ -92,16 +92,20 @@ final class JsonWriter {
 
     void hex(byte[] bytes) {
         reserve(2L * bytes.length + 2);
-        out[length++] = '"';
+        byte[] to = out;
+        int at = length;
+        to[at++] = '"';
         for (byte b : bytes) {
-            out[length++] = DIGITS[b >> 4 & 15];
-            out[length++] = DIGITS[b & 15];
+            to[at++] = DIGITS[b >> 4 & 15];
+            to[at++] = DIGITS[b & 15];
         }
-        out[length++] = '"';
+        to[at++] = '"';
+        length = at;
     }
 
     /** Writes a string. Returns false if it isn't Unicode: if it has half of a surrogate pair. */
     boolean text(String text) {
+        reserve(text.length() + 2L);
         put('"');
         for (int i = 0; i < text.length(); i++) {
             int point = text.codePointAt(i);

@@ -17,7 +17,7 @@ final class Values {
         Codec.Root root = session.codec().root(session, format);
         byte[] json = refusing(Kind.VALUE, () -> {
             JsonWriter w = new JsonWriter(root.codec(), question.limits().nodes());
-            new Encoders().encoder(root.node(), Object.class).write(w, value);
+            root.codec().encoder(root.node(), Object.class).write(w, value);
             return w.written();
         });
         return session.output(Call.TO_BCS, question, json, 1);
