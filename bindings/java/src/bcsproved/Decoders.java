@@ -150,13 +150,13 @@ final class Decoders {
             throw node.mismatch(type);
         }
         Type part = part(Types.argument(type, Optional.class, 0), any);
-        Decoder content = Encoders.under("some", () -> decoder(node.parts.get(0), part));
+        Decoder content = Mismatch.at("some", () -> decoder(node.parts.get(0), part));
         return r -> {
             if (r.take("null")) {
                 return Optional.empty();
             }
             r.must("{\"some\":");
-            Object value = Encoders.under("some", () -> content.read(r));
+            Object value = Mismatch.at("some", () -> content.read(r));
             r.must("}");
             return Optional.of(value);
         };

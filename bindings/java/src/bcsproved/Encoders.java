@@ -151,7 +151,7 @@ final class Encoders {
         if (Types.raw(type) != Optional.class) {
             throw node.mismatch(type);
         }
-        Encoder content = under("some", () -> encoder(node.parts.get(0), Types.argument(type, Optional.class, 0)));
+        Encoder content = Mismatch.at("some", () -> encoder(node.parts.get(0), Types.argument(type, Optional.class, 0)));
         return (w, value) -> {
             Optional<?> option = (Optional<?>) value;
             if (option.isEmpty()) {
@@ -166,14 +166,5 @@ final class Encoders {
             }
             w.put('}');
         };
-    }
-
-    /** Makes something at a step of a JSON Pointer. */
-    static <T> T under(Object step, java.util.function.Supplier<T> make) {
-        try {
-            return make.get();
-        } catch (Mismatch e) {
-            throw e.under(step);
-        }
     }
 }

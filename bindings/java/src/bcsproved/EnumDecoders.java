@@ -36,7 +36,7 @@ final class EnumDecoders {
         List<Decoder> each = new ArrayList<>();
         for (int i = 0; i < node.parts.size(); i++) {
             Node part = node.parts.get(i);
-            each.add(Encoders.under(node.names.get(i), () -> made.decoder(part, any)));
+            each.add(Mismatch.at(node.names.get(i), () -> made.decoder(part, any)));
         }
         return r -> read(r, each, (index, content) -> new Variant(node.names.get(index), content == null ? new Unit() : content));
     }
@@ -77,7 +77,7 @@ final class EnumDecoders {
     /** The decoder for the content of a variant, as a record. */
     private Decoder content(int variant, Class<?> record) {
         Node part = node.parts.get(variant);
-        return Encoders.under(node.names.get(variant), () -> {
+        return Mismatch.at(node.names.get(variant), () -> {
             if (part.kind != Kind.NEWTYPE && part.kind != Kind.UNIT) {
                 return made.decoder(part, record);
             }

@@ -44,7 +44,7 @@ final class EnumEncoders {
     }
 
     private Encoder ofRecord(int variant, Class<?> record) {
-        Encoder content = Encoders.under(node.names.get(variant), () -> content(node.parts.get(variant), record));
+        Encoder content = Mismatch.at(node.names.get(variant), () -> content(node.parts.get(variant), record));
         return (w, value) -> write(w, variant, content, value);
     }
 

@@ -12,7 +12,7 @@ final class ListDecoders {
     static Decoder list(Decoders made, Node node, Type type, Type any) {
         expectSequence(node, type, ListEncoders.isListOf(node, type));
         Type part = Decoders.part(Types.element(type), any);
-        Decoder element = Encoders.under("-", () -> made.decoder(node.parts.get(0), part));
+        Decoder element = Mismatch.at("-", () -> made.decoder(node.parts.get(0), part));
         return r -> {
             List<Object> values = new ArrayList<>();
             r.each(index -> values.add(element.read(r)));
@@ -46,7 +46,7 @@ final class ListDecoders {
         List<Decoder> each = new ArrayList<>();
         for (int i = 0; i < node.parts.size(); i++) {
             Node part = node.parts.get(i);
-            each.add(Encoders.under(i, () -> made.decoder(part, Decoders.part(Types.element(type), any))));
+            each.add(Mismatch.at(i, () -> made.decoder(part, Decoders.part(Types.element(type), any))));
         }
         return r -> {
             List<Object> values = new ArrayList<>();

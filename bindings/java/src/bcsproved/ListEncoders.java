@@ -14,7 +14,7 @@ final class ListEncoders {
         if (!isListOf(node, type)) {
             throw node.mismatch(type);
         }
-        Encoder element = Encoders.under("-", () -> made.encoder(node.parts.get(0), Types.element(type)));
+        Encoder element = Mismatch.at("-", () -> made.encoder(node.parts.get(0), Types.element(type)));
         return (w, value) -> {
             w.put('[');
             int count = Sequence.each(value, (index, part) -> {
@@ -50,7 +50,7 @@ final class ListEncoders {
         List<Encoder> each = new ArrayList<>();
         for (int i = 0; i < node.parts.size(); i++) {
             Node part = node.parts.get(i);
-            each.add(Encoders.under(i, () -> made.encoder(part, Types.element(type))));
+            each.add(Mismatch.at(i, () -> made.encoder(part, Types.element(type))));
         }
         return (w, value) -> {
             w.put('[');

@@ -5,6 +5,7 @@ import java.util.ArrayList;
 import java.util.LinkedHashMap;
 import java.util.List;
 import java.util.Map;
+import java.util.function.Supplier;
 
 /** Decoders for maps: a Map in the order of the bytes, or a List of entries. */
 final class MapDecoders {
@@ -27,8 +28,8 @@ final class MapDecoders {
         };
     }
 
-    private static Decoder at(int part, java.util.function.Supplier<Decoder> make) {
-        return Encoders.under("-", () -> Encoders.under(part, make));
+    private static Decoder at(int part, Supplier<Decoder> make) {
+        return Mismatch.at("-", () -> Mismatch.at(part, make));
     }
 
     private static Decoder intoMap(Decoders made, Node node, Type type, Type any) {
@@ -49,9 +50,9 @@ final class MapDecoders {
 
     private static Map.Entry<Object, Object> entry(JsonReader r, Decoder key, Decoder value) {
         r.must("[");
-        Object first = Encoders.under(0, () -> key.read(r));
+        Object first = Mismatch.at(0, () -> key.read(r));
         r.must(",");
-        Object second = Encoders.under(1, () -> value.read(r));
+        Object second = Mismatch.at(1, () -> value.read(r));
         r.must("]");
         return Map.entry(first, second);
     }

@@ -29,7 +29,7 @@ final class MapEncoders {
     /** The encoder of the keys (0) or the values (1). */
     private static Encoder part(Encoders made, Node node, Type type, Type entry, int index) {
         Type part = entry == null ? Types.argument(type, Map.class, index) : Types.argument(entry, Map.Entry.class, index);
-        return Encoders.under("-", () -> Encoders.under(index, () -> made.encoder(node.parts.get(index), part)));
+        return Mismatch.at("-", () -> Mismatch.at(index, () -> made.encoder(node.parts.get(index), part)));
     }
 
     private static void write(JsonWriter w, Node node, Object entry, int index, List<Encoder> parts) {

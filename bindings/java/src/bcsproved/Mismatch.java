@@ -2,6 +2,7 @@ package bcsproved;
 
 import bcsproved.BcsException.Kind;
 import java.util.ArrayDeque;
+import java.util.function.Supplier;
 
 /** Why a value or a type can't stand for a format. The caller of each step adds it, so that a JSON Pointer leads there. */
 final class Mismatch extends RuntimeException {
@@ -18,6 +19,15 @@ final class Mismatch extends RuntimeException {
     Mismatch under(Object step) {
         steps.addFirst("/" + step.toString().replace("~", "~0").replace("/", "~1"));
         return this;
+    }
+
+    /** Makes something at a step of a JSON Pointer. */
+    static <T> T at(Object step, Supplier<T> make) {
+        try {
+            return make.get();
+        } catch (Mismatch e) {
+            throw e.under(step);
+        }
     }
 
     BcsException refusal(Kind kind) {

@@ -31,7 +31,7 @@ final class StructDecoders {
         return r -> {
             Object[] values = new Object[each.size()];
             members(r, node.names, order, i -> values[i] = each.get(i).read(r));
-            Map<String, Object> map = new LinkedHashMap<>();
+            Map<String, Object> map = new LinkedHashMap<>(2 * values.length); // the usual size is a multiple of a small struct's
             for (int i = 0; i < values.length; i++) {
                 map.put(node.names.get(i), values[i]);
             }
@@ -56,7 +56,7 @@ final class StructDecoders {
         List<Decoder> each = new ArrayList<>();
         for (int i = 0; i < indices.length; i++) {
             int part = i;
-            each.add(Encoders.under(names.get(i), () -> made.decoder(node.parts.get(part), shape.parts.get(indices[part]).type())));
+            each.add(Mismatch.at(names.get(i), () -> made.decoder(node.parts.get(part), shape.parts.get(indices[part]).type())));
         }
         return each;
     }
@@ -71,7 +71,7 @@ final class StructDecoders {
         List<Decoder> each = new ArrayList<>();
         for (int i = 0; i < node.parts.size(); i++) {
             Node field = node.parts.get(i);
-            each.add(Encoders.under(node.names.get(i), () -> made.decoder(field, part)));
+            each.add(Mismatch.at(node.names.get(i), () -> made.decoder(field, part)));
         }
         return each;
     }

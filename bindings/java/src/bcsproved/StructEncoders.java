@@ -24,7 +24,7 @@ final class StructEncoders {
         List<Encoder> each = new ArrayList<>();
         for (int i = 0; i < indices.length; i++) {
             int part = i;
-            each.add(Encoders.under(names.get(i), () -> made.encoder(node.parts.get(part), shape.parts.get(indices[part]).type())));
+            each.add(Mismatch.at(names.get(i), () -> made.encoder(node.parts.get(part), shape.parts.get(indices[part]).type())));
         }
         List<byte[]> starts = open.equals("{") ? starts(names) : null;
         return (w, value) -> {
@@ -73,7 +73,7 @@ final class StructEncoders {
         Map<String, Integer> indices = new HashMap<>();
         for (int i = 0; i < node.names.size(); i++) {
             Node part = node.parts.get(i);
-            each.add(Encoders.under(node.names.get(i), () -> made.encoder(part, Types.argument(type, Map.class, 1))));
+            each.add(Mismatch.at(node.names.get(i), () -> made.encoder(part, Types.argument(type, Map.class, 1))));
             indices.put(node.names.get(i), i);
         }
         List<byte[]> starts = starts(node.names);
