@@ -1,6 +1,7 @@
 #!/bin/sh
 # Tests the jar of Java over the library that bindings/c/build.sh installed: in the variable BCS_PREFIX, or bindings/c/out. If
-# there is no JDK, it installs Debian's package of Java 17. Prints a line for each part that passes.
+# there is no JDK, it installs Debian's package of Java 17. Prints a line for each part that passes. ROUNDS=200 tries 50,000 random
+# values.
 set -eu
 unset CDPATH
 here=$(cd "$(dirname "$0")" && pwd)
@@ -46,18 +47,28 @@ nm -D --defined-only "$room/first/libbcs_jni.so" >"$room/symbols"
 grep -q ' Java_bcsproved_Native_' "$room/symbols" || fail "the native library exports nothing"
 names=$(sed 's/.* [A-Z] //' "$room/symbols" | grep -v '^Java_bcsproved_Native_') || true
 [ -z "$names" ] || fail "the native library exports $names"
-"$JAVA_HOME/bin/javac" -Xlint:all -Werror --release 17 -cp "$room/first/bcsproved.jar" -d "$room/tests" "$here"/tests/*.java
+"$JAVA_HOME/bin/javac" -Xlint:all -Werror --release 17 -cp "$room/first/bcsproved.jar" -d "$room/tests" "$here"/tests/*.java \
+    "$root/examples/wallet/Wallet.java"
 
 # "$@" is now the command for Java, which unpacks the library from the jar and prints invalid calls of JNI.
 mkdir "$room/temporary"
 set -- "$JAVA_HOME/bin/java" -XX:+UseSerialGC -Xcheck:jni -Djava.io.tmpdir="$room/temporary" \
     -cp "$room/first/bcsproved.jar:$room/tests"
-run "the tests" "$@" -Xmx64m Tests "$root/examples"
-[ "$(wc -l <"$room/log")" = 1 ] || {
-    cat "$room/log"
-    fail "JNI finds an error"
+
+# passes NAME COMMAND..: the command prints one line, so JNI finds no error.
+passes() {
+    run "$@"
+    [ "$(wc -l <"$room/log")" = 1 ] || {
+        cat "$room/log"
+        fail "$1: JNI finds an error"
+    }
+    echo "java: $(cat "$room/log")"
 }
-echo "java: $(cat "$room/log"), with the calls of JNI checked"
+passes "the tests" env MALLOC_PERTURB_=165 "$@" -Xmx64m Tests "$root/examples"
+passes "the table of values" "$@" ValueTable
+passes "values as types" "$@" ValueTypes "$root/examples"
+passes "values without end" env MALLOC_PERTURB_=165 "$@" -Xmx400m ValueCosts
+passes "random values" "$@" RandomValues "${ROUNDS:-40}"
 run "the test of memory" "$@" -Xmx16m Tests "$root/examples" memory
 echo "java: more output than Java has memory for"
 "$@" Wallet "$root/examples" >"$room/wallet" || fail "the wallet"

@@ -52,7 +52,7 @@ def test_java(bench: Bench) -> None:
     options = words("--prefix", prefix, "--arm64", bench.built, "--out", made)
     run("the jar", words(ROOT / "bindings/java/build.sh", *options))
     jar = made / "bcsproved.jar"
-    sources = sorted((ROOT / "bindings/java/tests").glob("*.java"))
+    sources = [*sorted((ROOT / "bindings/java/tests").glob("*.java")), ROOT / "examples/wallet/Wallet.java"]
     run("javac", words("javac", "--release", "17", "-cp", jar, "-d", made, *sources))
     temporary = bench.room / "temporary"
     temporary.mkdir()

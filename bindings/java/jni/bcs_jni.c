@@ -151,6 +151,12 @@ JNIEXPORT void JNICALL Java_bcsproved_Native_close(JNIEnv *env, jclass type, jlo
     bcs_close((bcs_handle *)(intptr_t)handle);
 }
 
+JNIEXPORT jint JNICALL Java_bcsproved_Native_nodesFor(JNIEnv *env, jclass type, jlong handle, jlong length) {
+    (void)env;
+    (void)type;
+    return (jint)bcs_handle_nodes_for((const bcs_handle *)(intptr_t)handle, (size_t)length);
+}
+
 JNIEXPORT jbyteArray JNICALL Java_bcsproved_Native_call(JNIEnv *env, jclass type, jint call, jlong handle, jbyteArray format,
                                                         jint depth, jint nodes, jint number, jbyteArray first,
                                                         jbyteArray second, jlong room, jlongArray fields) {

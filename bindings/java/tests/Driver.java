@@ -14,6 +14,7 @@ import java.nio.charset.StandardCharsets;
 import java.util.HexFormat;
 import java.util.Locale;
 import java.util.Objects;
+import java.util.Optional;
 
 /** The driver of Java: reads lines of calls and answers them, as bindings/README.md says. */
 public final class Driver {
@@ -54,7 +55,7 @@ public final class Driver {
 
     private static String refused(BcsException e) {
         String status = switch (e.kind()) {
-            case JSON, BYTES, GROWTH -> "refused";
+            case TEXT, BYTES, GROWTH -> "refused";
             default -> e.kind().name().toLowerCase(Locale.ROOT);
         };
         return line(status, e.reason() == null ? "-" : e.reason(), Math.max(e.place(), 0), 0, new byte[0]);
@@ -66,7 +67,7 @@ public final class Driver {
             call.call();
             return null;
         } catch (BcsException e) {
-            if (e.kind() != Kind.JSON && e.kind() != Kind.BYTES && e.kind() != Kind.REGISTRY) {
+            if (e.kind() != Kind.TEXT && e.kind() != Kind.BYTES && e.kind() != Kind.REGISTRY) {
                 throw e;
             }
             return e;
@@ -75,26 +76,26 @@ public final class Driver {
 
     private static void expectAlike(BcsException first, BcsException other) {
         if ((first == null) != (other == null) || first != null && !(first.getMessage().equals(other.getMessage())
-                && first.place() == other.place() && Objects.equals(first.pointer(), other.pointer()))) {
+                && first.place() == other.place() && Objects.equals(first.at(), other.at()))) {
             throw new AssertionError(first + ", but " + other);
         }
     }
 
     private static String place(BcsException refusal, String what) {
-        String told = refusal == null ? null : what.equals("where") ? refusal.pointer() : refusal.expected();
+        String told = refusal == null ? null : what.equals("where") ? refusal.at() : refusal.message();
         return told == null ? NO : output(told);
     }
 
     private static String textPlace(Registry registry, String format, byte[] json, String what) throws BcsException {
-        BcsException encoded = refusal(() -> registry.encode(format, json));
-        expectAlike(encoded, refusal(() -> registry.normalise(format, json)));
-        expectAlike(encoded, refusal(() -> registry.equal(format, json, json)));
+        BcsException encoded = refusal(() -> registry.encodeJson(format, json));
+        expectAlike(encoded, refusal(() -> registry.normaliseJson(format, json)));
+        expectAlike(encoded, refusal(() -> registry.equalJson(format, json, json)));
         return place(encoded, what);
     }
 
     /** Asks three calls. {@code scan} accepts bytes behind the value. */
     private static String stopPlace(Registry registry, String format, byte[] data, String what) throws BcsException {
-        BcsException decoded = refusal(() -> registry.decode(format, data));
+        BcsException decoded = refusal(() -> registry.decodeJson(format, data));
         BcsException scanned = refusal(() -> registry.scan(format, data));
         BcsException damage = registry.explain(format, data, Form.WAYS).damage();
         if (scanned != null) {
@@ -113,8 +114,8 @@ public final class Driver {
         return damage == null ? output(text) : line("done", damage.reason(), damage.place(), text.length, text);
     }
 
-    private static String part(Part part) {
-        return part == null ? NO : line("done", "-", part.place(), part.data().length, new byte[0]);
+    private static String part(Optional<Part> part) {
+        return part.map(found -> line("done", "-", found.place(), found.data().length, new byte[0])).orElse(NO);
     }
 
     private static String lastText = null;
@@ -139,13 +140,13 @@ public final class Driver {
                 registry.check(format);
                 return DONE;
             case "to_bcs":
-                return output(registry.encode(format, first));
+                return output(registry.encodeJson(format, first));
             case "from_bcs":
-                return output(registry.decode(format, first));
+                return output(registry.decodeJson(format, first));
             case "normalise":
-                return output(registry.normalise(format, first));
+                return output(registry.normaliseJson(format, first));
             case "compare":
-                return registry.equal(format, first, unhex(words[6])) ? DONE : NO;
+                return registry.equalJson(format, first, unhex(words[6])) ? DONE : NO;
             case "scan":
                 return line("done", "-", 0, registry.scan(format, first), new byte[0]);
             case "part":

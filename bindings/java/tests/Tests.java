@@ -1,3 +1,5 @@
+import static java.util.stream.Collectors.joining;
+
 import bcsproved.BcsException;
 import bcsproved.BcsException.Kind;
 import bcsproved.Explanation;
@@ -13,62 +15,28 @@ import java.util.ArrayList;
 import java.util.Arrays;
 import java.util.HexFormat;
 import java.util.List;
-import java.util.Objects;
+import java.util.Optional;
+import java.util.concurrent.atomic.AtomicInteger;
+import java.util.stream.IntStream;
 
 /** Tests the calls: {@code java Tests EXAMPLES}. */
-public final class Tests {
+public final class Tests extends Check {
     private static final String SHAPES = """
             {"Point":{"STRUCT":[{"x":"U8"},{"~/":{"SEQ":"BYTES"}}]},
              "Shape":{"ENUM":{"0":{"Dot":"UNIT"},"2":{"Circle":{"NEWTYPE":"U64"}}}}}""";
     private static final byte[] NOTHING = {};
 
-    private interface Test {
-        void run() throws Exception;
-    }
-
     private static Path examples;
 
-    private static byte[] unhex(String digits) {
-        return HexFormat.of().parseHex(digits.strip());
-    }
-
-    private static void equal(Object is, Object wanted) {
-        if (!Objects.equals(is, wanted)) {
-            throw new AssertionError(is + " instead of " + wanted);
-        }
-    }
-
-    private static <E extends Throwable> E thrown(Class<E> type, Test test) {
-        try {
-            test.run();
-        } catch (Throwable e) {
-            if (type.isInstance(e)) {
-                return type.cast(e);
-            }
-            if (e instanceof OutOfMemoryError) {
-                throw (OutOfMemoryError) e; // which some tests allow
-            }
-            throw new AssertionError("not " + type, e);
-        }
-        throw new AssertionError("no " + type);
-    }
-
-    private static void refused(Kind kind, String reason, long place, String pointer, String expected, Test test) {
-        BcsException e = thrown(BcsException.class, test);
-        equal(List.of(e.kind(), String.valueOf(e.reason()), e.place()), List.of(kind, String.valueOf(reason), place));
-        equal(e.pointer(), pointer);
-        equal(e.expected(), expected);
-    }
-
     private static void value(Registry registry, String format, String json, String digits, String normal) throws BcsException {
-        byte[] data = registry.encode(format, json);
+        byte[] data = registry.encodeJson(format, json);
         equal(HexFormat.of().formatHex(data), digits);
-        equal(registry.decode(format, data), normal);
-        equal(registry.normalise(format, json), normal);
-        equal(registry.equal(format, json, normal), true);
+        equal(registry.decodeJson(format, data), normal);
+        equal(registry.normaliseJson(format, json), normal);
+        equal(registry.equalJson(format, json, normal), true);
         byte[] more = Arrays.copyOf(data, data.length + 2);
         equal(registry.scan(format, more), data.length);
-        Part part = registry.part(format, more, ".");
+        Part part = registry.part(format, more, ".").get();
         equal(part.place(), 0);
         equal(HexFormat.of().formatHex(part.data()), digits);
     }
@@ -81,16 +49,16 @@ public final class Tests {
             value(registry, "\"UNIT\"", "null", "", "null");
             value(registry, "{\"SEQ\":\"U16\"}", "[]", "00", "[]");
             value(registry, "\"STR\"", "\"\ud83d\ude00é\"", "06f09f9880c3a9", "\"\ud83d\ude00é\"");
-            equal(registry.equal("Shape", "\"Dot\"", "{\"Circle\":1}"), false);
-            equal(registry.part("Point", unhex("070202000100"), "inner/2"), null);
-            Part part = registry.part("Point", unhex("070202000100"), "inner/1/0");
+            equal(registry.equalJson("Shape", "\"Dot\"", "{\"Circle\":1}"), false);
+            equal(registry.part("Point", unhex("070202000100"), "inner/2"), Optional.empty());
+            Part part = registry.part("Point", unhex("070202000100"), "inner/1/0").get();
             equal(part.place() + " " + HexFormat.of().formatHex(part.data()), "2 020001");
-            part = registry.partByName("Point", unhex("070202000100"), ".~/[0]");
+            part = registry.partByName("Point", unhex("070202000100"), ".~/[0]").get();
             equal(part.place() + " " + HexFormat.of().formatHex(part.data()), "2 020001");
-            part = registry.partByPointer("Point", unhex("070202000100"), "/~0~1/1");
+            part = registry.partByPointer("Point", unhex("070202000100"), "/~0~1/1").get();
             equal(part.place() + " " + HexFormat.of().formatHex(part.data()), "5 00");
-            equal(registry.partByName("Point", unhex("070202000100"), ".y"), null);
-            equal(registry.partByPointer("Point", unhex("070202000100"), "/~0~1/2"), null);
+            equal(registry.partByName("Point", unhex("070202000100"), ".y"), Optional.empty());
+            equal(registry.partByPointer("Point", unhex("070202000100"), "/~0~1/2"), Optional.empty());
         }
         String name = "a\"b\\c\u0000\u001f é";
         Registry odd = Registry.open("{\"a\\\"b\\\\c\\u0000\\u001f é\":{\"STRUCT\":[{\"x\":\"U8\"}]}}");
@@ -106,24 +74,24 @@ public final class Tests {
         equal(ring.show("R", Form.WAYS).contains("1 Ring: U64?"), true);
         equal(ring.show("", Form.WAYS), ring.show("R", Form.WAYS));
         equal(ring.show("", Form.JSON).startsWith("{\"R\":{\"ENUM\""), true);
-        equal(ring.decodePrefix("\"U16\"", new byte[] {1, 2, 3}), new Prefix("513", 2));
-        equal(ring.withLimits(Limits.STANDARD).decodePrefix("\"UNIT\"", NOTHING), new Prefix("null", 0));
-        equal(thrown(BcsException.class, () -> ring.decodePrefix("{\"SEQ\":\"UNIT\"}", unhex("ffffffff07"))).reason(), "TooManyNodes");
+        equal(ring.decodePrefixJson("\"U16\"", new byte[] {1, 2, 3}), new Prefix<>("513", 2));
+        equal(ring.withLimits(Limits.STANDARD).decodePrefixJson("\"UNIT\"", NOTHING), new Prefix<>("null", 0));
+        equal(thrown(BcsException.class, () -> ring.decodePrefixJson("{\"SEQ\":\"UNIT\"}", unhex("ffffffff07"))).reason(), "TooManyNodes");
     }
 
     private static void refusals() throws BcsException {
         Registry registry = Registry.open(SHAPES);
         String wanted = "wanted a whole number from 0 to 255 (U8)";
         byte[] shapes = SHAPES.getBytes(StandardCharsets.UTF_8), none = "{}".getBytes(StandardCharsets.UTF_8);
-        refused(Kind.JSON, "BadHex", -1, "/~0~1/1", "an odd number of digits",
-                () -> registry.encode("Point", "{\"x\":1,\"~/\":[\"\",\"0\"]}"));
-        refused(Kind.JSON, "BadNumber", -1, "/x", "found 256, " + wanted,
-                () -> registry.normalise("Point", "{\"x\":256,\"~/\":[]}"));
-        refused(Kind.JSON, "BadNumber", -1, "/x", "found \"\", " + wanted,
-                () -> registry.equal("Point", "{\"x\":1,\"~/\":[]}", "{\"x\":\"\",\"~/\":[]}"));
-        refused(Kind.JSON, "MissingField", -1, "", "no member is called ~/", () -> registry.encode("Point", "{\"x\":1}"));
-        refused(Kind.BYTES, "EndOfInput", 4, ".~/[0]", "wanted 2 bytes of BYTES", () -> registry.decode("Point", unhex("07010205")));
-        refused(Kind.BYTES, "EndOfInput", 0, ".", "wanted BOOL", () -> registry.decode("\"BOOL\"", NOTHING));
+        refused(Kind.TEXT, "BadHex", -1, "/~0~1/1", "an odd number of digits",
+                () -> registry.encodeJson("Point", "{\"x\":1,\"~/\":[\"\",\"0\"]}"));
+        refused(Kind.TEXT, "BadNumber", -1, "/x", "found 256, " + wanted,
+                () -> registry.normaliseJson("Point", "{\"x\":256,\"~/\":[]}"));
+        refused(Kind.TEXT, "BadNumber", -1, "/x", "found \"\", " + wanted,
+                () -> registry.equalJson("Point", "{\"x\":1,\"~/\":[]}", "{\"x\":\"\",\"~/\":[]}"));
+        refused(Kind.TEXT, "MissingField", -1, "", "no member is called ~/", () -> registry.encodeJson("Point", "{\"x\":1}"));
+        refused(Kind.BYTES, "EndOfInput", 4, ".~/[0]", "wanted 2 bytes of BYTES", () -> registry.decodeJson("Point", unhex("07010205")));
+        refused(Kind.BYTES, "EndOfInput", 0, ".", "wanted BOOL", () -> registry.decodeJson("\"BOOL\"", NOTHING));
         refused(Kind.BYTES, "UnknownVariant", 0, ".", "wanted number of a variant; found 1; variants: 0 Dot, 2 Circle",
                 () -> registry.scan("Shape", new byte[] {1}));
         refused(Kind.BYTES, "BadBool", 1, "[0]", "wanted BOOL", () -> registry.part("{\"SEQ\":\"BOOL\"}", new byte[] {1, 2}, "."));
@@ -132,11 +100,11 @@ public final class Tests {
         refused(Kind.PATH, "BadPath", -1, null, null, () -> registry.partByPointer("Point", unhex("0700"), "/~2"));
         refused(Kind.FORMAT, "BadShape", -1, "/SEQ", "wanted a format", () -> registry.check("{\"SEQ\":\"U7\"}"));
         refused(Kind.FORMAT, "UnknownName", -1, "", "no container is called x: UnknownName: y",
-                () -> registry.decode("{\"SEQ\":{\"TYPENAME\":\"x: UnknownName: y\"}}", none));
+                () -> registry.decodeJson("{\"SEQ\":{\"TYPENAME\":\"x: UnknownName: y\"}}", none));
         refused(Kind.FORMAT, "UnknownName", -1, "", "no container is called Circle", () -> registry.show("Circle", Form.WAYS));
         refused(Kind.EXAMPLE, "NoValue", -1, null, null, () -> registry.example("\"F32\""));
         refused(Kind.EXAMPLE, "UnknownVariant", -1, null, null, () -> registry.example("Point", "Oval", false));
-        refused(Kind.LIMITS, null, -1, null, null, () -> registry.withLimits(new Limits(501, 1)).check("Point"));
+        refused(Kind.LIMITS, null, -1, null, "the depth is above 500", () -> registry.withLimits(new Limits(501, 1)).check("Point"));
         byte[] odd = "{\"a: Missing: b\":\"UNITSTRUCT\"}".getBytes(StandardCharsets.UTF_8);
         refused(Kind.GROWTH, "Missing", -1, "a: Missing: b", "the newer registry has no container of that name",
                 () -> Registry.grows(odd, none));
@@ -146,9 +114,9 @@ public final class Tests {
         equal(thrown(BcsException.class, () -> Registry.grows(NOTHING, none)).kind(), Kind.REGISTRY);
         equal(thrown(BcsException.class, () -> Registry.grows(none, NOTHING)).kind(), Kind.NEWER);
         BcsException unknown = thrown(BcsException.class, () -> Registry.open("{\"A\":{\"STRUCT\":[{\"x\":{\"TYPENAME\":\"B\"}}]}}"));
-        equal(unknown.reason() + " " + unknown.pointer(), "UnknownName A, field x");
-        equal(thrown(BcsException.class, () -> registry.decode("Point", unhex("07010205"))).getMessage(),
-                "bytes refused: EndOfInput at 4, .~/[0]: wanted 2 bytes of BYTES");
+        equal(unknown.reason() + " " + unknown.at(), "UnknownName A, field x");
+        equal(thrown(BcsException.class, () -> registry.decodeJson("Point", unhex("07010205"))).getMessage(),
+                "refused: EndOfInput at byte 4, .~/[0]: wanted 2 bytes of BYTES");
     }
 
     /** What Java finds wrong before a call is made. */
@@ -156,15 +124,15 @@ public final class Tests {
         Registry registry = Registry.open(SHAPES);
         String half = "\ud83d";
         for (Test test : List.<Test>of(() -> Registry.open((String) null), () -> Registry.open((byte[]) null),
-                () -> registry.check(null), () -> registry.encode(null, "1"), () -> registry.encode("Point", (byte[]) null),
-                () -> registry.decode("Point", null), () -> registry.equal("Point", NOTHING, null),
-                () -> registry.equal("Point", (byte[]) null, NOTHING), () -> registry.part("Point", NOTHING, null),
+                () -> registry.check(null), () -> registry.encodeJson(null, "1"), () -> registry.encodeJson("Point", (byte[]) null),
+                () -> registry.decodeJson("Point", null), () -> registry.equalJson("Point", NOTHING, null),
+                () -> registry.equalJson("Point", (byte[]) null, NOTHING), () -> registry.part("Point", NOTHING, null),
                 () -> registry.partByName("Point", NOTHING, null), () -> registry.partByPointer("Point", null, ""),
                 () -> registry.explain("Point", NOTHING, null), () -> registry.explain("Point", null, Form.JSON),
                 () -> registry.withLimits(null), () -> Registry.grows(null, NOTHING), () -> Registry.grows(NOTHING, null))) {
             thrown(NullPointerException.class, test);
         }
-        for (Test test : List.<Test>of(() -> registry.encode("\"STR\"", "\"" + half + "\""), () -> registry.check(half),
+        for (Test test : List.<Test>of(() -> registry.encodeJson("\"STR\"", "\"" + half + "\""), () -> registry.check(half),
                 () -> registry.part("Point", NOTHING, half), () -> Registry.open(half), () -> new Limits(-1, 0),
                 () -> new Limits(0, 1L << 32))) {
             thrown(IllegalArgumentException.class, test);
@@ -188,7 +156,7 @@ public final class Tests {
             if (explanation.damage() != null) {
                 wanted = wanted.substring(0, wanted.lastIndexOf("refused: "));
                 equal(explanation.damage().getMessage(),
-                        thrown(BcsException.class, () -> registry.decode("RawTransaction", data)).getMessage());
+                        thrown(BcsException.class, () -> registry.decodeJson("RawTransaction", data)).getMessage());
             }
             equal(explanation.text(), wanted);
         }
@@ -201,14 +169,19 @@ public final class Tests {
         String format = "{\"SEQ\":\"UNIT\"}";
         // Without a limit, decoding would take all memory, so the others come first.
         List<Test> tests = List.of(() -> registry.scan(format, units), () -> registry.part(format, units, "."),
-                () -> registry.decode(format, units));
+                () -> registry.decodeJson(format, units));
         for (Test test : tests) {
             equal(thrown(BcsException.class, test).reason(), "TooManyNodes");
         }
         equal(registry.explain(format, units, Form.TREE).damage().reason(), "TooManyNodes");
         equal(registry.withLimits(Limits.STANDARD).scan(format, units), 5);
+        String fields = IntStream.range(0, 20).mapToObj(i -> "{\"" + "n".repeat(500) + i + "\":\"UNIT\"}").collect(joining(","));
+        Registry longNames = Registry.open("{\"S\":{\"STRUCT\":[" + fields + "]}}");
+        // 16 * 3 + 65,536 nodes, times 64 / 502 bytes of the longest name; a list of structs with 22 nodes each (docs/FORMAT.md)
+        refused(Kind.BYTES, "TooManyNodes", 3, "[380]", "wanted room for S",
+                () -> longNames.decodeJson("{\"SEQ\":{\"TYPENAME\":\"S\"}}", unhex("c0b802")));
         equal(Limits.STANDARD, new Limits(500, 4294967295L));
-        equal(thrown(BcsException.class, () -> registry.withLimits(new Limits(0, 3)).encode(format, "[null,null,null]")).reason(),
+        equal(thrown(BcsException.class, () -> registry.withLimits(new Limits(0, 3)).encodeJson(format, "[null,null,null]")).reason(),
                 "TooManyNodes");
     }
 
@@ -240,24 +213,39 @@ public final class Tests {
         byte[] data = unhex(Files.readString(examples.resolve("aptos_transfer.hex")));
         onThreads(40, 0, () -> {
             for (int round = 0; round < 50; round++) {
-                equal(Arrays.equals(registry.encode("RawTransaction", json), data), true);
+                equal(Arrays.equals(registry.encodeJson("RawTransaction", json), data), true);
                 equal(registry.scan("RawTransaction", data), data.length);
                 refused(Kind.BYTES, "EndOfInput", 100, ".payload::EntryFunction.ty_args[0]::Struct.address",
-                        "wanted 32 x U8", () -> registry.decode("RawTransaction", Arrays.copyOf(data, 100)));
+                        "wanted 32 x U8", () -> registry.decodeJson("RawTransaction", Arrays.copyOf(data, 100)));
             }
         });
     }
 
-    /** Each call succeeds, or finds the registry closed. */
+    /** Calls that make several calls of C, with the answers that each has. */
+    private static List<Test> answers(Registry registry) {
+        byte[] damaged = unhex("07010205"), more = unhex("0007");
+        return List.of(() -> equal(registry.encodeJson("Shape", "\"Dot\"").length, 1),
+                () -> equal(registry.decodePrefixJson("Shape", more), new Prefix<>("\"Dot\"", 1)),
+                () -> refused(Kind.BYTES, "EndOfInput", 4, ".~/[0]", "wanted 2 bytes of BYTES", () -> registry.decodeJson("Point", damaged)),
+                () -> equal(registry.explain("Point", damaged, Form.WAYS).damage().at(), ".~/[0]"),
+                () -> refused(Kind.TEXT, "MissingField", -1, "", "no member is called ~/", () -> registry.encodeJson("Point", "{\"x\":1}")),
+                () -> refused(Kind.FORMAT, "UnknownName", -1, "", "no container is called Qq", () -> registry.check("Qq")));
+    }
+
+    /** A call that runs while the registry is closed ends with its own answer, and a later one finds the registry closed. */
     private static void closing() throws Exception {
+        String many = Files.readString(examples.resolve("many_containers.json"));
+        String large = many.substring(0, many.lastIndexOf('}')) + "," + SHAPES.substring(1);
         for (int round = 0; round < 30; round++) {
-            Registry registry = Registry.open(SHAPES);
-            java.util.concurrent.atomic.AtomicInteger calls = new java.util.concurrent.atomic.AtomicInteger();
+            Registry registry = Registry.open(round % 3 == 0 ? large : SHAPES);
+            List<Test> tests = answers(registry);
+            AtomicInteger calls = new AtomicInteger();
             onThreads(8, 0, () -> {
                 try {
                     while (true) {
-                        equal(registry.encode("Shape", "\"Dot\"").length, 1);
-                        if (calls.incrementAndGet() == 100) {
+                        int number = calls.incrementAndGet();
+                        tests.get(number % tests.size()).run();
+                        if (number == 100) {
                             registry.close();
                         }
                     }
@@ -291,12 +279,14 @@ public final class Tests {
         return 1 + recurse(depth + 1);
     }
 
-    /** A call succeeds or throws OutOfMemoryError; and then the thread's stack still ends as Java has it. Returns whether it did. */
+    /** A call succeeds or is refused for the stack; and then the thread's stack still ends as Java has it. Returns whether it did. */
     private static boolean deep(Test test) throws Exception {
         boolean isDone = true;
         try {
             test.run();
-        } catch (OutOfMemoryError e) {
+        } catch (BcsException e) {
+            equal(e.getMessage(), "refused: the thread has too little stack");
+            refused(Kind.STACK, null, -1, null, "the thread has too little stack", () -> { throw e; });
             isDone = false;
         }
         thrown(StackOverflowError.class, () -> recurse(0));
@@ -313,11 +303,12 @@ public final class Tests {
         Arrays.fill(near, 0, near.length - 1, (byte) 1);
         String json = "{\"n\":".repeat(40) + "null" + "}".repeat(40);
         List<Test> tests = List.of(() -> equal(options.scan("C", far), far.length), () -> equal(chain.scan("C", near), 500),
-                () -> equal(chain.part("C", near, "inner/0").place(), 0),
-                () -> refused(Kind.BYTES, "TooNested", -1, null, null, () -> options.decode("C", far)),
+                () -> equal(chain.part("C", near, "inner/0").get().place(), 0),
+                () -> refused(Kind.BYTES, "TooNested", -1, null, null, () -> options.decodeJson("C", far)),
                 () -> equal(chain.explain("C", near, Form.PATHS).damage(), null),
-                () -> refused(Kind.BYTES, "TooNested", -1, null, null, () -> chain.decode("C", near)),
-                () -> equal(thrown(BcsException.class, () -> chain.encode("C", json)).kind(), Kind.JSON));
+                () -> refused(Kind.BYTES, "TooNested", -1, null, null, () -> chain.decodeJson("C", near)),
+                () -> refused(Kind.TEXT, "BadShape", -1, "/n", "wanted null, or an object with the one member some",
+                        () -> chain.encodeJson("C", json)));
         for (long kibibytes : new long[] {256, 512, 1024, 16 << 10}) {
             onThreads(1, kibibytes << 10, () -> {
                 for (Test test : tests) {
@@ -335,16 +326,16 @@ public final class Tests {
         Registry registry = Registry.open("{}").withLimits(Limits.STANDARD);
         String format = "{\"TUPLEARRAY\":{\"CONTENT\":\"UNIT\",\"SIZE\":4000000}}";
         for (int time = 0; time < 3; time++) {
-            thrown(OutOfMemoryError.class, () -> registry.decode(format, NOTHING));
-            equal(registry.decode("\"U8\"", new byte[] {7}), "7");
+            thrown(OutOfMemoryError.class, () -> registry.decodeJson(format, NOTHING));
+            equal(registry.decodeJson("\"U8\"", new byte[] {7}), "7");
         }
     }
 
     public static void main(String[] words) throws Exception {
         examples = Path.of(words[0]);
         List<Test> tests = words.length > 1 ? List.of(Tests::memory)
-                : List.of(Tests::values, Tests::documents, Tests::refusals, Tests::arguments, Tests::explanations, Tests::limits, Tests::sharing,
-                        Tests::closing, Tests::collecting, Tests::stacks);
+                : List.of(Tests::values, Tests::documents, Tests::refusals, Tests::arguments, Tests::explanations, Tests::limits,
+                        Tests::sharing, Tests::closing, Tests::collecting, Tests::stacks);
         for (Test test : tests) {
             test.run();
         }

@@ -40,6 +40,8 @@ final class Native {
     private static final MethodHandle OPEN = spreading("bcs_open", List.of(ADDRESS, ADDRESS, JAVA_LONG));
     private static final MethodHandle CLOSE =
             LINKER.downcallHandle(LIBRARY.find("bcs_close").orElseThrow(), FunctionDescriptor.ofVoid(ADDRESS));
+    private static final MethodHandle NODES_FOR = LINKER.downcallHandle(LIBRARY.find("bcs_handle_nodes_for").orElseThrow(),
+            FunctionDescriptor.of(JAVA_INT, ADDRESS, JAVA_LONG));
     private static final List<MethodHandle> CALLS = Arrays.stream(Call.values()).map(Native::handleOf).toList();
 
     private Native() {}
@@ -129,6 +131,17 @@ final class Native {
     static void close(long handle) {
         try {
             CLOSE.invokeExact(MemorySegment.ofAddress(handle));
+        } catch (RuntimeException | Error e) {
+            throw e;
+        } catch (Throwable e) {
+            throw new AssertionError(e);
+        }
+    }
+
+    /** The default limit on nodes for bytes of this length: an unsigned number. */
+    static int nodesFor(long handle, long length) {
+        try {
+            return (int) NODES_FOR.invokeExact(MemorySegment.ofAddress(handle), length);
         } catch (RuntimeException | Error e) {
             throw e;
         } catch (Throwable e) {

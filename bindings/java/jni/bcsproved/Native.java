@@ -51,6 +51,9 @@ final class Native {
     /** Frees a handle, or does nothing if it is 0. */
     static native void close(long handle);
 
+    /** The default limit on nodes for bytes of this length: an unsigned number. */
+    static native int nodesFor(long handle, long length);
+
     /**
      * Makes a call, and returns its output, or null if there is none. The call is the ordinal of a {@link Call}. It is made with
      * this room for its output, and again if that is too short; with a room below 0 it has no output.

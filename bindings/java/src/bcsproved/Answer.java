@@ -4,6 +4,7 @@ package bcsproved;
 record Answer(int status, int fault, long place, long length, byte[] output) {
     /** enum bcs_status. */
     static final int DONE = 0, REGISTRY = 2, FORMAT = 3, LIMITS = 4, REFUSED = 5, MEMORY = 6, NO = 7, PATH = 8, NEWER = 9;
+    static final int STACK = 11;
 
     /** enum bcs_notation. */
     static final int NAME = 1, POINTER = 2;
@@ -21,7 +22,8 @@ record Answer(int status, int fault, long place, long length, byte[] output) {
         return Math.min((long) times * input.length + 256, MOST_GUESSED);
     }
 
-    static Answer of(Call call, long handle, Question question, byte[] first, byte[] second, int number, long room) {
+    static Answer of(Call call, long handle, Question question, byte[] first, byte[] second, int number, long room)
+            throws BcsException {
         long[] fields = new long[4];
         byte[] output = Native.call(call.ordinal(), handle, question.format(), (int) question.limits().depth(),
                 (int) question.limits().nodes(), number, first, second, room, fields);
@@ -29,15 +31,24 @@ record Answer(int status, int fault, long place, long length, byte[] output) {
     }
 
     /** A call without a registry. */
-    static Answer of(Call call, byte[] first, byte[] second, int number, long room) {
+    static Answer of(Call call, byte[] first, byte[] second, int number, long room) throws BcsException {
         return of(call, 0, Question.NONE, first, second, number, room);
     }
 
-    static Answer of(long[] fields, byte[] output) {
+    static Answer of(long[] fields, byte[] output) throws BcsException {
         Answer answer = new Answer((int) fields[0], (int) fields[1], fields[2], fields[3], output);
         if (answer.status == MEMORY) {
-            throw new OutOfMemoryError("bcs: out of memory, or the thread has too little stack");
+            throw new OutOfMemoryError("bcs: out of memory");
+        }
+        if (answer.status == STACK) {
+            throw BcsException.tooLittleStack();
         }
         return answer;
+    }
+
+    /** The name of the fault, as the program {@code bcs} prints it. */
+    String reason() throws BcsException {
+        Answer name = of(Call.FAULT_NAME, null, null, fault, 64);
+        return name.status == DONE ? Question.text(name.output) : "fault " + fault;
     }
 }

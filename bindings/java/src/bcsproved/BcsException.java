@@ -1,6 +1,6 @@
 package bcsproved;
 
-/** A refusal. */
+/** A refusal. Its message is a line that begins like that of the program {@code bcs}: {@code refused: BadNumber at /amount: ..} */
 public final class BcsException extends Exception {
     private static final long serialVersionUID = 1;
 
@@ -16,43 +16,55 @@ public final class BcsException extends Exception {
         /** The depth is above 500. */
         LIMITS,
         /** The JSON of a value. */
-        JSON,
+        TEXT,
         BYTES,
         PATH,
         /** The format has no such example. */
-        EXAMPLE
+        EXAMPLE,
+        /** A Java value isn't one of the format. */
+        VALUE,
+        /** Values of the format don't fit a Java type. */
+        TYPE,
+        /** The thread has too little stack left: use one with more, or a lower depth. */
+        STACK
     }
 
     private final Kind kind;
     private final String reason;
     private final long place;
-    private final String pointer;
-    private final String expected;
+    private final String at;
+    private final String message;
 
-    BcsException(Kind kind, String reason, long place, String pointer, String expected) {
-        super(message(kind, reason, place, pointer, expected));
+    BcsException(Kind kind, String reason, long place, String at, String message) {
+        super(line(reason, place, at, message));
         this.kind = kind;
         this.reason = reason;
         this.place = place;
-        this.pointer = pointer;
-        this.expected = expected;
+        this.at = at;
+        this.message = message;
     }
 
-    private static String message(Kind kind, String reason, long place, String pointer, String expected) {
-        String where = place < 0 ? "" : Long.toString(place);
-        if (pointer != null && !pointer.isEmpty()) {
-            where += (where.isEmpty() ? "" : ", ") + pointer;
+    static BcsException tooLittleStack() {
+        return new BcsException(Kind.STACK, null, -1, null, "the thread has too little stack");
+    }
+
+    private static String line(String reason, long place, String at, String message) {
+        StringBuilder line = new StringBuilder("refused");
+        line.append(reason == null ? "" : ": " + reason);
+        boolean isAt = at != null && !at.isEmpty();
+        if (place >= 0) {
+            line.append(" at byte ").append(place).append(isAt ? ", " + at : "");
+        } else if (isAt) {
+            line.append(" at ").append(at);
         }
-        String name = kind == Kind.JSON ? "JSON" : kind.name().toLowerCase(java.util.Locale.ROOT);
-        return name + " refused: " + (reason == null ? "the depth is above 500" : reason) + (where.isEmpty() ? "" : " at " + where)
-                + (expected == null ? "" : ": " + expected);
+        return line.append(message == null ? "" : ": " + message).toString();
     }
 
     public Kind kind() {
         return kind;
     }
 
-    /** The name of the fault, as the program {@code bcs} prints it: "BadBool". Null for {@link Kind#LIMITS}. */
+    /** The name of the fault, as the program {@code bcs} prints it: "BadBool". Null for LIMITS and STACK. */
     public String reason() {
         return reason;
     }
@@ -63,16 +75,17 @@ public final class BcsException extends Exception {
     }
 
     /**
-     * Where the fault is. Of JSON it is a JSON Pointer (RFC 6901) such as /payload/args/1, which is empty if the document is
-     * refused as a whole; of bytes the names that lead there, such as .payload.args[1]; of a format a JSON Pointer; of a
-     * registry, a path or growth the place as the program {@code bcs} prints it. Null if that isn't known.
+     * Where the fault is; null if that isn't known. Of JSON and of values it is a JSON Pointer (RFC 6901) such as /payload/args/1,
+     * which is empty if the whole is refused; of a type the same, with "-" for each element of a list; of bytes the names that lead
+     * there, such as .payload.args[1]; of a format a JSON Pointer; of a registry, a path or growth the place as the program
+     * {@code bcs} prints it.
      */
-    public String pointer() {
-        return pointer;
+    public String at() {
+        return at;
     }
 
     /** What was expected there, or what is wrong. The text is for people, and may change. Null if that isn't known. */
-    public String expected() {
-        return expected;
+    public String message() {
+        return message;
     }
 }

@@ -5,10 +5,10 @@ import bcsproved.BcsException.Kind;
 /** The calls of bcs.h, in the order of enum call of bcs_jni.c, with what each refuses. */
 enum Call {
     CHECK(Kind.FORMAT),
-    TO_BCS(Kind.JSON),
+    TO_BCS(Kind.TEXT),
     FROM_BCS(Kind.BYTES),
-    NORMALISE(Kind.JSON),
-    COMPARE(Kind.JSON),
+    NORMALISE(Kind.TEXT),
+    COMPARE(Kind.TEXT),
     SCAN(Kind.BYTES),
     PART(Kind.BYTES),
     PART_NAMED(Kind.BYTES),

@@ -20,9 +20,4 @@ public record Limits(long depth, long nodes) {
             throw new IllegalArgumentException("a limit isn't a number from 0 to 4294967295: " + depth + ", " + nodes);
         }
     }
-
-    /** The default where a call reads this many bytes. */
-    static Limits forBytes(int length) {
-        return new Limits(STANDARD.depth, Math.min(16L * length + 1_000_000, MOST));
-    }
 }

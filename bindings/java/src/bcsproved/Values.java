@@ -1,0 +1,56 @@
+package bcsproved;
+
+import bcsproved.BcsException.Kind;
+import java.lang.reflect.Type;
+
+/** Converts Java values to bytes and back, by the JSON that the proved calls read and print. */
+final class Values {
+    /** Something that rejects values or types. */
+    private interface Step<T> {
+        T run() throws BcsException;
+    }
+
+    private Values() {}
+
+    static byte[] encode(Session session, String format, Object value) throws BcsException {
+        Question question = session.question(format);
+        Codec.Root root = session.codec().root(session, format);
+        byte[] json = refusing(Kind.VALUE, () -> {
+            JsonWriter w = new JsonWriter(root.codec(), question.limits().nodes());
+            root.codec().encoder(root.node(), Object.class).write(w, value);
+            return w.written();
+        });
+        return session.output(Call.TO_BCS, question, json, 1);
+    }
+
+    /** The value of all the data. A type that can't hold every value of the format's numbers is rejected before they are read. */
+    static Object decode(Session session, Question question, String format, byte[] data, Type type) throws BcsException {
+        Codec.Root root = session.codec().root(session, format);
+        Decoder decoder = refusing(Kind.TYPE, () -> root.codec().decoder(root.node(), type));
+        byte[] json = session.output(Call.FROM_BCS, question, data, 4);
+        return refusing(Kind.TYPE, () -> {
+            JsonReader r = new JsonReader(json);
+            Object value = decoder.read(r);
+            r.end();
+            return value;
+        });
+    }
+
+    static void check(Session session, String format, Type type) throws BcsException {
+        Codec.Root root = session.codec().root(session, format);
+        refusing(Kind.TYPE, () -> {
+            root.codec().encoder(root.node(), type);
+            return root.codec().decoder(root.node(), type);
+        });
+    }
+
+    private static <T> T refusing(Kind kind, Step<T> step) throws BcsException {
+        try {
+            return step.run();
+        } catch (Mismatch e) {
+            throw e.refusal(kind);
+        } catch (StackOverflowError e) {
+            throw BcsException.tooLittleStack();
+        }
+    }
+}
