@@ -6,6 +6,7 @@ import (
 	"reflect"
 	"strings"
 	"sync"
+	"unicode/utf8"
 )
 
 // Hex is a byte string as hexadecimal digits of either case, without 0x.
@@ -90,7 +91,7 @@ func (r *Registry) Unmarshal(format string, data []byte, pointer any) error {
 		return err
 	}
 	room := reflect.New(variable.Type().Elem()).Elem()
-	if err := decode.whole(&reader{text: text}, room); err != nil {
+	if err := (&reader{text: text}).whole(decode, room); err != nil {
 		return err
 	}
 	variable.Elem().Set(room)
@@ -149,27 +150,12 @@ type codec struct {
 	containers containers
 	lock       sync.Mutex
 	roots      map[string]*node
-	encoders   map[pair]encoderOrError
-	decoders   map[pair]decoderOrError
-}
-
-type pair struct {
-	n *node
-	t reflect.Type
-}
-
-type encoderOrError struct {
-	encoder *encoder
-	err     error
-}
-
-type decoderOrError struct {
-	decoder *decoder
-	err     error
+	encoders   converters[encode]
+	decoders   converters[decode]
 }
 
 func (c *codec) forget() {
-	c.roots, c.encoders, c.decoders = map[string]*node{}, map[pair]encoderOrError{}, map[pair]decoderOrError{}
+	c.roots, c.encoders, c.decoders = map[string]*node{}, newConverters[encode](), newConverters[decode]()
 }
 
 // codecOf reads the registry's formats when the first value is encoded or decoded.
@@ -228,9 +214,32 @@ func (r *Registry) root(format string) (*codec, *node, error) {
 	return c, n, nil
 }
 
-// reject returns the error for a type or a value that can't stand for the format.
+// reject returns the error for a type or a value that can't stand for the format. Names in it may be long and strange.
 func (n *node) reject(problem string, arguments ...any) *Error {
-	return &Error{Kind: KindType, Reason: wrongType, Place: -1, Message: n.text + " " + fmt.Sprintf(problem, arguments...)}
+	for i, argument := range arguments {
+		switch argument := argument.(type) {
+		case string:
+			arguments[i] = shortened(argument)
+		case reflect.Type:
+			arguments[i] = shortened(argument.String())
+		}
+	}
+	return &Error{Kind: KindType, Reason: wrongType, Place: -1, Message: n.String() + " " + fmt.Sprintf(problem, arguments...)}
+}
+
+// mostQuoted is how many bytes of a name an error quotes.
+const mostQuoted = 200
+
+// shortened returns the whole characters that fit, as the program bcs does.
+func shortened(s string) string {
+	if len(s) <= mostQuoted {
+		return s
+	}
+	end := mostQuoted
+	for end > 0 && !utf8.RuneStart(s[end]) {
+		end--
+	}
+	return s[:end] + "...(cut)"
 }
 
 // mismatch returns the error for another type than those that the format takes.
@@ -247,15 +256,3 @@ func (n *node) mismatch(t reflect.Type) *Error {
 
 // wrongType is the reason of errors of KindValue and KindType.
 const wrongType = "WrongType"
-
-var escapeStep = strings.NewReplacer("~", "~0", "/", "~1")
-
-// under puts a step before the JSON Pointer of an error. "-" is each element of a list.
-func under(err error, step any) error {
-	if rejected, is := err.(*Error); is && rejected != nil {
-		moved := *rejected
-		moved.At = "/" + escapeStep.Replace(fmt.Sprint(step)) + rejected.At
-		return &moved
-	}
-	return err
-}

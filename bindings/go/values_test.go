@@ -217,6 +217,8 @@ func TestErrors(t *testing.T) {
 	}
 	cycle := &list{}
 	cycle.Next = cycle
+	var endless any
+	endless = &endless
 	type self *self
 	var me self
 	me = &me
@@ -235,7 +237,10 @@ func TestErrors(t *testing.T) {
 		{"E", Variant{"Pair", []any{1, 256}}, "refused: WrongType at /Pair/1: U8 doesn't hold 256"},
 		{"L", cycle, "is there a cycle of pointers"},
 		{"L", me, "takes a struct or a map[string]T, not bcsproved.self"},
-		{"C", 7, "is there a cycle"},
+		{"C", 7, "refused: WrongType: C has no values"},
+		{"C", nil, "refused: WrongType: C has no values"},
+		{"C", Some{1}, "refused: WrongType: C has no values"},
+		{`"BYTES"`, []any{1, endless}, "refused: WrongType at /1: U8 takes an integer, not interface {}"},
 		{`"F32"`, 7, "F32 has no values, not int"},
 		{`{"SEQ":"U8"}`, []fmt.Stringer{}, "at /-: U8 takes an integer, not fmt.Stringer"},
 		{"P", map[string]any{"to": "b", "amount": (*uint64)(nil)}, "refused: WrongType at /amount: U64 takes no nil of type *uint64 inside an interface"},
@@ -286,7 +291,7 @@ func TestUnmarshal(t *testing.T) {
 		{`{"SEQ":"U16"}`, "0201000200", new([2]uint16), "[1 2]"}, {`{"SEQ":"U16"}`, "0201000200", new([3]uint16), "fewer"},
 		{`{"SEQ":"U16"}`, "0201000200", new([1]uint16), "/1: "}, {`{"OPTION":"U8"}`, "00", new(uint8), "takes a pointer"},
 		{`{"MAP":{"KEY":"U8","VALUE":"U8"}}`, "0101020304", new(map[uint8]uint8), "refused: TrailingBytes at 3, .: wanted the end"},
-		{`{"MAP":{"KEY":"U8","VALUE":"U8"}}`, "010102", new(map[uint8]uint8), "map[1:2]"}, {`{"MAP":{"KEY":"U8","VALUE":"U8"}}`, "010102", new(map[any]uint8), "as keys"},
+		{`{"MAP":{"KEY":"U8","VALUE":"U8"}}`, "010102", new(map[uint8]uint8), "map[1:2]"}, {`{"MAP":{"KEY":"U8","VALUE":"U8"}}`, "010102", new(map[any]uint8), "in the keys of a map"},
 		{"O", "0103010203", new(o), "{1 [1 2 3]}"}, {"O", "01020102", bad, "/k: BYTES has 2 bytes"}, {"O", "0103010203", new(map[string]any), "map[\b:1 k:[1 2 3]]"},
 	} {
 		data, _ := hex.DecodeString(row.data)
@@ -305,6 +310,80 @@ func TestUnmarshal(t *testing.T) {
 	}
 	if *bad != (o{9, [3]byte{9}}) {
 		t.Error(bad)
+	}
+}
+
+// Keys of Go maps are compared by what they contain, so there are no pointers in them; and what is decoded may be no key.
+func TestKeysOfMaps(t *testing.T) {
+	c := open(t, valueShapes)
+	type of[T any] struct {
+		A T `bcs:"0"`
+	}
+	pairs, tuples := `{"MAP":{"KEY":{"TUPLEARRAY":{"CONTENT":"U16","SIZE":2}},"VALUE":"U8"}}`, `{"MAP":{"KEY":{"TUPLE":["U8"]},"VALUE":"U8"}}`
+	pointers, interfaces := "takes no pointers in the keys of a map", "takes no interfaces in the keys of a map when decoded"
+	for _, row := range []struct {
+		format           string
+		value            any
+		encoded, decoded string // the bytes, or the error
+	}{
+		{pairs, map[[2]uint16]uint8{{1, 2}: 3}, "010100020003", "010100020003"},
+		{pairs, map[[2]any]uint8{{1, 2}: 3}, "010100020003", interfaces},
+		{pairs, map[any]uint8{[2]int{1, 2}: 3}, "010100020003", interfaces},
+		{pairs, map[[2]*uint16]uint8{}, pointers, pointers},
+		{pairs, map[*[2]uint16]uint8{}, pointers, pointers},
+		{pairs, map[any]uint8{&[2]int{1, 2}: 3}, "at /0/0: " + `{"TUPLEARRAY":{"CONTENT":"U16","SIZE":2}} ` + pointers, interfaces},
+		{pairs, map[[2]any]uint8{{1, ptr(2)}: 3}, "at /0/0/1: U16 " + pointers, interfaces},
+		{pairs, []Entry{{&[2]int{1, 2}, 3}}, "010100020003", "010100020003"},
+		{tuples, map[of[uint8]]uint8{{1}: 2}, "010102", "010102"},
+		{tuples, map[[1]of[int]]uint8{}, "at /-/0/0: U8 takes an integer, not bcsproved.of[int]", "at /-/0/0: U8 takes an integer"},
+		{tuples, map[of[any]]uint8{{1}: 2}, "010102", interfaces},
+		{tuples, map[[1]of[any]]uint8{}, "at /-/0/0: U8 takes an integer", interfaces},
+		{tuples, map[of[of[any]]]uint8{}, "at /-/0/0: U8 takes an integer", interfaces},
+		{tuples, map[of[*uint8]]uint8{}, pointers, pointers},
+		{tuples, map[of[[3]of[*uint8]]]uint8{}, pointers, pointers},
+		{`{"MAP":{"KEY":{"TYPENAME":"E"},"VALUE":"U8"}}`, map[Variant]uint8{{"Dot", nil}: 1}, "010001", interfaces},
+		{`{"MAP":{"KEY":{"OPTION":"U8"},"VALUE":"U8"}}`, map[Some]uint8{{1}: 2}, "01010102", interfaces},
+		{`{"MAP":{"KEY":{"OPTION":"U8"},"VALUE":"U8"}}`, map[Some]uint8{{ptr(1)}: 2}, "at /0/0/some: U8 " + pointers, interfaces},
+	} {
+		data, err := c.Encode(row.format, row.value)
+		if got := fmt.Sprintf("%x %v", data, err); !strings.Contains(got, row.encoded) || (err == nil) != (row.encoded == hex.EncodeToString(data)) {
+			t.Errorf("%T at %s: %s, not %s", row.value, row.format, got, row.encoded)
+		}
+		variable := reflect.New(reflect.TypeOf(row.value))
+		err = c.Unmarshal(row.format, data, variable.Interface())
+		got := fmt.Sprint(err)
+		if err == nil {
+			again, _ := c.Encode(row.format, variable.Elem().Interface())
+			got = hex.EncodeToString(again)
+		}
+		if !strings.Contains(got, row.decoded) {
+			t.Errorf("%s into %T: %s, not %s", row.format, row.value, got, row.decoded)
+		}
+	}
+}
+
+// Names in errors are cut, as the program cuts them.
+func TestLongNames(t *testing.T) {
+	long := strings.Repeat("é", 1<<20)
+	cut := strings.Repeat("é", 100) + "...(cut)"
+	registry := open(t, `{"S":{"STRUCT":[{"a":"U8"}]},"E":{"ENUM":{"0":{"A":"UNIT"}}},"`+long+`":{"STRUCT":[{"`+long+`":"U8"}]}}`)
+	for _, row := range []struct {
+		format string
+		value  any
+		want   string
+	}{
+		{"S", map[string]any{"a": 1, long: 1}, fmt.Sprintf("S has no field %q", cut)},
+		{"E", Variant{long, nil}, fmt.Sprintf("E has no variant %q", cut)},
+		{long, map[string]any{}, fmt.Sprintf("%s needs the field %q", cut, cut)},
+		{long, struct{}{}, fmt.Sprintf("%s needs a field for %q in struct {}", cut, cut)},
+		{long, 1, cut + " takes a struct or a map[string]T, not int"},
+		{"a" + long, 1, ""},
+		{`{"TUPLE":["U8"` + strings.Repeat(`,"U8"`, 1000) + `]}`, 1, `{"TUPLE":["U8"` + strings.Repeat(`,"U8"`, 37) + `,...(cut) takes a slice`},
+	} {
+		_, err := registry.Encode(row.format, row.value)
+		if message := fmt.Sprint(err); !strings.Contains(message, row.want) || len(message) > 1500 {
+			t.Errorf("%.300v, not %s", message, row.want)
+		}
 	}
 }
 
