@@ -36,7 +36,7 @@ int main(void) {
     }
 
     /* Bytes from strangers get a limit on nodes. */
-    const uint32_t nodes = bcs_nodes_for(coded.length);
+    const uint32_t nodes = bcs_handle_nodes_for(handle, coded.length);
     const bcs_answer shown = bcs_handle_from_bcs(handle, format, format_length, BCS_DEPTH, nodes, bytes, coded.length, text,
                                                  sizeof text);
     if (shown.status != BCS_DONE) {

@@ -173,9 +173,10 @@ static size_t need_of_value(size_t depth, size_t levels, size_t format_levels) {
     return FIXED + greatest(bytes, text);
 }
 
-/* How deep JSON nests, and how many levels its formats have. Both are upper bounds up to the point where it stops being JSON. */
+/* How deep JSON nests, how many levels its formats have, and how many bytes its longest string has. All are upper bounds up to the
+   point where it stops being JSON. */
 struct shape {
-    size_t nesting, levels;
+    size_t nesting, levels, longest;
 };
 
 /* Whether an object with this member may be a level of a format. A name with an escape may be any. */
@@ -204,7 +205,7 @@ static size_t end_of_string(const uint8_t *json, size_t length, size_t at) {
 
 static struct shape shape_of(const uint8_t *json, size_t length) {
     bool is_marked[MOST_NESTING_READ + 1] = {false};
-    struct shape most = {0, 0};
+    struct shape most = {0, 0, 0};
     size_t open = 0, levels = 0;
     for (size_t at = 0; at < length && open < MOST_NESTING_READ; at++) {
         if (json[at] == '"') {
@@ -213,6 +214,7 @@ static struct shape shape_of(const uint8_t *json, size_t length) {
                 is_marked[open] = true;
                 most.levels = greatest(most.levels, ++levels);
             }
+            most.longest = greatest(most.longest, end - at - 1);
             at = end;
         } else if (json[at] == '{' || json[at] == '[') {
             is_marked[++open] = false;
@@ -256,7 +258,7 @@ struct bcs_handle {
 bcs_answer bcs_open(bcs_handle **handle, const uint8_t *registry, size_t registry_length) {
     *handle = NULL;
     if (!can_read(stack_left(), registry, registry_length)) {
-        return plain(BCS_MEMORY);
+        return plain(BCS_STACK);
     }
     bcs_c_handle proved = {NULL};
     const bcs_answer answer = bcs_c_open(&proved, registry, registry_length);
@@ -291,6 +293,18 @@ void bcs_close(bcs_handle *handle) {
         bcs_c_close(&handle->slots[number].proved);
     }
     rattle_dealloc(handle);
+}
+
+#define LONG_NAME 64
+
+uint32_t bcs_handle_nodes_for(const bcs_handle *handle, size_t bytes_length) {
+    const uint64_t ordinary = bcs_nodes_for(bytes_length);
+    const uint64_t longest = handle != NULL ? handle->shape.longest : 0;
+    if (longest <= LONG_NAME) {
+        return (uint32_t)ordinary;
+    }
+    const uint64_t fewer = ordinary * LONG_NAME / longest, fewest = 2 * (uint64_t)bytes_length;
+    return (uint32_t)(fewer > fewest ? fewer : fewest < ordinary ? fewest : ordinary);
 }
 
 /* ---- Calls. */
@@ -354,7 +368,7 @@ static bcs_answer begin(struct use *use, bcs_handle *handle, const uint8_t *regi
     if (left < need_of_value(least(ask->depth, BCS_DEPTH), MOST_LEVELS, MOST_LEVELS)) {
         const struct shape shape = handle != NULL ? handle->shape : shape_of(registry, registry_length);
         if (!fit_depth(&use->ask, left, shape)) {
-            return plain(BCS_MEMORY);
+            return plain(BCS_STACK);
         }
     }
     use->is_lowered = use->ask.depth < ask->depth;
@@ -380,7 +394,7 @@ static bool is_too_deep(bcs_answer answer) {
 /* Ends a call. If the depth was lowered, TooDeep means that the stack is too small. */
 static bcs_answer end(struct use *use, bcs_answer answer) {
     release(use);
-    return use->is_lowered && is_too_deep(answer) ? plain(BCS_MEMORY) : answer;
+    return use->is_lowered && is_too_deep(answer) ? plain(BCS_STACK) : answer;
 }
 
 static bcs_answer scan_if_lowered(struct use *use, const uint8_t *bytes, size_t bytes_length) {
@@ -440,7 +454,7 @@ static bcs_answer stop_refusal(struct use *use, const uint8_t *bytes, size_t byt
 static bcs_answer example(struct use *use, uint32_t form, const uint8_t *variant, size_t variant_length, uint8_t *out,
                           size_t out_length) {
     return use->is_lowered
-               ? plain(BCS_MEMORY)
+               ? plain(BCS_STACK)
                : bcs_c_handle_example(use->proved, &use->ask, form, variant, variant_length, out, out_length);
 }
 
@@ -464,7 +478,7 @@ static bcs_answer example(struct use *use, uint32_t form, const uint8_t *variant
         BODY(begin(&use, NULL, registry, registry_length, &ask), CALL)                                                 \
     bcs_answer bcs_handle_##name(bcs_handle *handle, FORMAT_AND_LIMITS PARAMETERS) BODY(ON_THE_HANDLE, CALL)
 
-#define IF_READ(input, call) (can_read(use.left, input, input##_length) ? (call) : plain(BCS_MEMORY))
+#define IF_READ(input, call) (can_read(use.left, input, input##_length) ? (call) : plain(BCS_STACK))
 
 BOTH(check, , bcs_c_handle_check(use.proved, &use.ask))
 BOTH(to_bcs, IN(text) OUT,
@@ -506,11 +520,11 @@ bcs_answer bcs_handle_format_place(bcs_handle *handle, const uint8_t *format, si
     }
     return fits_reading(left, handle->shape.nesting) && can_read(left, format, format_length)
                ? bcs_c_format_place(handle->registry, handle->length, format, format_length, out, out_length)
-               : plain(BCS_MEMORY);
+               : plain(BCS_STACK);
 }
 
 bcs_answer bcs_path_place(const uint8_t *path, size_t path_length, uint8_t *out, size_t out_length) {
-    return fits_reading(stack_left(), 0) ? bcs_c_path_place(path, path_length, out, out_length) : plain(BCS_MEMORY);
+    return fits_reading(stack_left(), 0) ? bcs_c_path_place(path, path_length, out, out_length) : plain(BCS_STACK);
 }
 
 static bool can_read_both(const uint8_t *older, size_t older_length, const uint8_t *newer, size_t newer_length) {
@@ -521,28 +535,28 @@ static bool can_read_both(const uint8_t *older, size_t older_length, const uint8
 bcs_answer bcs_grows(const uint8_t *older, size_t older_length, const uint8_t *newer, size_t newer_length) {
     return can_read_both(older, older_length, newer, newer_length)
                ? bcs_c_grows(older, older_length, newer, newer_length)
-               : plain(BCS_MEMORY);
+               : plain(BCS_STACK);
 }
 
 bcs_answer bcs_growth_list(const uint8_t *older, size_t older_length, const uint8_t *newer, size_t newer_length,
                            uint8_t *out, size_t out_length) {
     return can_read_both(older, older_length, newer, newer_length)
                ? bcs_c_growth_list(older, older_length, newer, newer_length, out, out_length)
-               : plain(BCS_MEMORY);
+               : plain(BCS_STACK);
 }
 
 bcs_answer bcs_growth_place(const uint8_t *older, size_t older_length, const uint8_t *newer, size_t newer_length,
                             uint8_t *out, size_t out_length) {
     return can_read_both(older, older_length, newer, newer_length)
                ? bcs_c_growth_place(older, older_length, newer, newer_length, out, out_length)
-               : plain(BCS_MEMORY);
+               : plain(BCS_STACK);
 }
 
 bcs_answer bcs_registry_place(uint32_t what, const uint8_t *registry, size_t registry_length, uint8_t *out,
                               size_t out_length) {
     return can_read(stack_left(), registry, registry_length)
                ? bcs_c_registry_place(what, registry, registry_length, out, out_length)
-               : plain(BCS_MEMORY);
+               : plain(BCS_STACK);
 }
 
 bcs_answer bcs_fault_name(uint32_t fault, uint8_t *out, size_t out_length) {

@@ -55,7 +55,7 @@ echo "c: build, repeated, and with invalid arguments"
 
 # A program that is linked with the library sees only the header's calls, in the libraries that are tested here and in those that
 # the machine's own compiler makes.
-sed -nE 's/^(bcs_answer |void |const char \*)(bcs_[a-z_]*)\(.*/\2/p' "$prefix/include/bcs.h" | sort >"$room/declared"
+sed -nE 's/^(bcs_answer |void |uint32_t |const char \*)(bcs_[a-z_]*)\(.*/\2/p' "$prefix/include/bcs.h" | sort >"$room/declared"
 [ -s "$room/declared" ] || fail "no calls were found in bcs.h"
 exports_the_header() {
     nm -D --defined-only "$1/lib/libbcs.so" >"$room/nm"
@@ -129,7 +129,7 @@ sed 's/^stack: /c: deep values on a stack of /' "$room/log"
 # shellcheck disable=SC3045 # every sh that we run on has this option of ulimit
 for limit in 256 8192 unlimited; do
     (ulimit -s "$limit" && "$room/stack" main) >"$room/log" || fail "stack of the main thread, $limit KiB: status $?"
-    [ "$limit" = 256 ] || grep -q ' 0 BCS_MEMORY$' "$room/log" || fail "the main thread has too little stack: $(cat "$room/log")"
+    [ "$limit" = 256 ] || grep -q ' 0 BCS_STACK$' "$room/log" || fail "the main thread has too little stack: $(cat "$room/log")"
 done
 echo "c: deep values on the main thread's stack, of 256 KiB, 8 MiB, and without a limit"
 

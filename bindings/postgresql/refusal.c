@@ -104,6 +104,10 @@ raise_refusal(const struct refused *refused, bool is_capped)
 
 	if (answer.status == BCS_MEMORY)
 		raise_memory();
+	if (answer.status == BCS_STACK)
+		ereport(ERROR,
+				(errcode(ERRCODE_STATEMENT_TOO_COMPLEX),
+				 errmsg("bcs: this thread has too little stack left for the value")));
 	if (has_place)
 		place = place_told(refused);
 	if (has_place && !is_stop(answer))

@@ -66,6 +66,10 @@ static char *message_of(const struct refused *refused, const char *front, const 
 
 static void tell_refusal(sqlite3_context *context, const struct refused *refused) {
     char *text = NULL;
+    if (refused->answer.status == BCS_STACK) {
+        sqlite3_result_error(context, "bcs: this thread has too little stack left for the value", -1);
+        return;
+    }
     if (refused->answer.status != BCS_MEMORY) {
         text = message_of(refused, what_is_refused(refused->answer), bcs_fault_text(refused->answer.fault));
     }

@@ -98,7 +98,7 @@ done
 link "$folder/bcs.exe" /subsystem:console /entry:start /stack:16777216 "$room/program_code.o" "$room/host.o"
 {
     printf 'LIBRARY bcs.dll\nEXPORTS\n'
-    sed -nE 's/^(bcs_answer |void |const char \*)(bcs_[a-z_]*)\(.*/\2/p' "$root/bindings/c/include/bcs.h"
+    sed -nE 's/^(bcs_answer |void |uint32_t |const char \*)(bcs_[a-z_]*)\(.*/\2/p' "$root/bindings/c/include/bcs.h"
 } >"$room/bcs.def"
 link "$folder/bcs.dll" /dll /noentry "/def:$room/bcs.def" "/implib:$folder/bcs.lib" "$room/library_code.o" "$room/library.o"
 for name in bcs.exe bcs.dll bcs.lib; do

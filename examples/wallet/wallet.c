@@ -48,7 +48,7 @@ int main(int count, char **arguments) {
     for (size_t i = 0; i < coded.length; i++) {
         printf("%02x", data[i]);
     }
-    const uint32_t nodes = bcs_nodes_for(coded.length);
+    const uint32_t nodes = bcs_handle_nodes_for(handle, coded.length);
     const bcs_answer shown = bcs_handle_from_bcs(handle, format, named, BCS_DEPTH, nodes, data, coded.length, out, sizeof out);
     if (shown.status != BCS_DONE) {
         return 1;

@@ -34,7 +34,7 @@ def test_stack(bench: Bench) -> None:
 
 def libraries_export_the_header(bench: Bench) -> None:
     header = (C / "include/bcs.h").read_text(encoding="utf-8")
-    declared = sorted(re.findall(r"^(?:bcs_answer |void |const char \*)(bcs_[a-z_]*)\(", header, re.MULTILINE))
+    declared = sorted(re.findall(r"^(?:bcs_answer |void |uint32_t |const char \*)(bcs_[a-z_]*)\(", header, re.MULTILINE))
     static = run("nm", [NM, "-g", "--defined-only", f"{bench.built}/libbcs.a"])
     dynamic = run("nm", [NM, "-D", "--defined-only", f"{bench.built}/libbcs.so"])
     if not declared or sorted(re.findall(r".* [A-Z] (.*)", static)) != declared:

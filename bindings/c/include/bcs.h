@@ -8,7 +8,7 @@
    else that is passed.
 
    A call finds out how much stack its thread has left, and lowers the depth to what fits. If the value needs more than that,
-   the answer is BCS_MEMORY. bindings/c/README.md says how much stack a call needs, and where the system doesn't know it. */
+   the answer is BCS_STACK. bindings/c/README.md says how much stack a call needs, and where the system doesn't know it. */
 #ifndef BCS_H
 #define BCS_H
 
@@ -23,7 +23,7 @@ extern "C" {
 #endif
 
 /* The limits that most calls take. `depth`: how many containers may be open at once, at most BCS_DEPTH. `nodes`: how many
-   nodes a value may have. BCS_NODES doesn't restrict it; bcs_nodes_for is the better limit for bytes from strangers. */
+   nodes a value may have. BCS_NODES doesn't restrict it; bcs_handle_nodes_for returns a better limit for bytes from strangers. */
 #define BCS_DEPTH 500
 #define BCS_NODES UINT32_MAX
 
@@ -39,11 +39,12 @@ enum bcs_status {
     BCS_FORMAT = 3,   /* the format is refused */
     BCS_LIMITS = 4,   /* the depth is above 500 */
     BCS_REFUSED = 5,  /* the input is refused */
-    BCS_MEMORY = 6,   /* out of memory, or the thread has too little stack */
+    BCS_MEMORY = 6,   /* out of memory */
     BCS_NO = 7,       /* the answer is no: the values differ, or the path leads nowhere */
     BCS_PATH = 8,     /* the path is invalid */
     BCS_NEWER = 9,    /* the newer of two registries is refused */
-    BCS_CLOSED = 10   /* the handle is null */
+    BCS_CLOSED = 10,  /* the handle is null */
+    BCS_STACK = 11    /* the thread has too little stack left for the value's depth, or for any call */
 };
 
 /* Why something is refused. bcs_fault_text and bcs_fault_name return its name. */
@@ -207,6 +208,10 @@ bcs_answer bcs_open(bcs_handle **handle, const uint8_t *registry, size_t registr
 
 /* Frees a handle. No call may be using it, and none may use it afterwards. NULL is allowed. */
 void bcs_close(bcs_handle *handle);
+
+/* bcs_nodes_for(bytes_length), or fewer nodes if the registry has a name of more than 64 bytes, since a decoded value may repeat
+   it in each node: as many as have that number of bytes in names of 64, but at least 2 a byte. NULL is allowed. */
+uint32_t bcs_handle_nodes_for(const bcs_handle *handle, size_t bytes_length);
 
 /* Each answers what the call above with the registry's text answers; BCS_CLOSED if the handle is NULL. */
 bcs_answer bcs_handle_check(bcs_handle *handle, const uint8_t *format, size_t format_length, uint32_t depth,
@@ -375,10 +380,10 @@ static inline size_t bcs_format(const char *word, size_t word_length, uint8_t *o
     return length;
 }
 
-/* A limit on nodes for bytes of this length, which no ordinary value reaches: 16 nodes a byte, and a million. Values whose
+/* A limit on nodes for bytes of this length, which no ordinary value reaches: 16 nodes a byte, and 65,536. Values whose
    elements need no bytes can have 4294967295 nodes in five bytes, so set a limit for bytes from strangers. */
 static inline uint32_t bcs_nodes_for(size_t bytes_length) {
-    const size_t spare = 1000000;
+    const size_t spare = 65536;
     return bytes_length > (UINT32_MAX - spare) / 16 ? UINT32_MAX : (uint32_t)(16 * bytes_length + spare);
 }
 

@@ -19,7 +19,7 @@ int main() {
     if (coded.status != BCS_DONE || coded.length != 2 || std::memcmp(out, "\1\2", 2) != 0) {
         return 1;
     }
-    std::size_t wrong = bcs_format("U", 1, out, sizeof out) != 16 || bcs_nodes_for(1) != 1000016;
+    std::size_t wrong = bcs_format("U", 1, out, sizeof out) != 16 || bcs_nodes_for(1) != 65552;
     wrong += bcs_check(ASKED).status;
     wrong += bcs_grows(BYTES(registry), BYTES(registry)).status;
     wrong += bcs_from_bcs(ASKED, BYTES(bytes), out, sizeof out).status;

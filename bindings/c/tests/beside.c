@@ -51,14 +51,14 @@ static void formats_are_as_the_program_has_them(void) {
     CHECK(make(&job, NULL, 0).status == BCS_DONE);
 }
 
-/* 16 nodes a byte and a million, as long as that is a number of 32 bits: 4294967295 = 16 * 268372955 + 1000000 + 15. */
+/* 16 nodes a byte and 65,536, as long as that is a number of 32 bits: 4294967295 = 16 * 268431359 + 65536 + 15. */
 static void nodes_are_bounded(void) {
     static const struct {
         size_t length;
         uint32_t nodes;
     } rows[] = {
-        {0, 1000000},           {1, 1000016},           {5, 1000080},           {1000000, 17000000},
-        {268372955, 4294967280}, {268372956, 4294967295}, {268435456, 4294967295}, {SIZE_MAX, 4294967295},
+        {0, 65536},              {1, 65552},              {5, 65616},              {1000000, 16065536},
+        {268431359, 4294967280}, {268431360, 4294967295}, {268435456, 4294967295}, {SIZE_MAX, 4294967295},
     };
     for (size_t row = 0; row < sizeof rows / sizeof *rows; row++) {
         CHECK(bcs_nodes_for(rows[row].length) == rows[row].nodes);

@@ -80,8 +80,30 @@ static void refused_registries_open_nothing(void) {
     bcs_close(before);
 }
 
+/* The name of a container counts like that of a field, which decoded values repeat. */
+static void long_names_lower_the_nodes(void) {
+    static const struct {
+        size_t name, bytes;
+        uint32_t nodes;
+    } rows[] = {
+        {1, 0, 65536},     {1, 5, 65616},        {64, 5, 65616},  /* up to 64 bytes: 16 * bytes + 65536 */
+        {128, 0, 32768},   {128, 5, 32808},      {100, 5, 41994}, /* above: * 64 / name, rounded down */
+        {4096, 0, 1024},   {4096, 1000000, 2000000},              /* but at least 2 a byte */
+        {128, SIZE_MAX, 4294967295},
+    };
+    for (size_t row = 0; row < sizeof rows / sizeof *rows; row++) {
+        char registry[4200];
+        const int length = snprintf(registry, sizeof registry, "{\"%0*d\":\"UNITSTRUCT\"}", (int)rows[row].name, 0);
+        bcs_handle *const handle = open_one((struct slice){(uint8_t *)registry, (size_t)length});
+        CHECK(bcs_handle_nodes_for(handle, rows[row].bytes) == rows[row].nodes);
+        bcs_close(handle);
+    }
+    CHECK(bcs_handle_nodes_for(NULL, 5) == bcs_nodes_for(5));
+}
+
 int main(void) {
     null_is_closed();
+    long_names_lower_the_nodes();
     refused_registries_open_nothing();
     bcs_handle *one = open_one(number), *other = open_one(truth), *third = open_one(number);
     has_number(one);

@@ -1,5 +1,5 @@
-/* Deep values on small stacks. Each call answers what it answers on a thread of 8 MiB, or BCS_MEMORY, and doesn't touch the end of
-   the stack. With 8 MiB it never answers BCS_MEMORY.
+/* Deep values on small stacks. Each call answers what it answers on a thread of 8 MiB, or BCS_STACK, and doesn't touch the end of
+   the stack. With 8 MiB it never answers BCS_STACK.
 
        stack threads EXAMPLES    on threads of all sizes; a transfer of Aptos has to work on all but the smallest
        stack main                on the main thread */
@@ -188,7 +188,7 @@ static unsigned long sum_of(const uint8_t *out, size_t length) {
 
 static uint8_t *output;
 
-/* Makes a call. What BCS_MEMORY leaves of the output is what was there. */
+/* Makes a call. What BCS_STACK leaves of the output is what was there. */
 static void try_call(struct trial *trial, enum way way, size_t depth, size_t call) {
     const struct chain *chain = trial->chain;
     const struct job job = job_of(chain, call, (uint32_t)(chain->containers - depth));
@@ -200,8 +200,8 @@ static void try_call(struct trial *trial, enum way way, size_t depth, size_t cal
     CHECK(trial->stack == NULL || are_untouched(trial->stack, RESERVE));
     trial->answers[way][depth][call] = answer;
     trial->sums[way][depth][call] = sum_of(output, answer.status == BCS_DONE && has_output(&job) ? answer.length : 0);
-    if (answer.status == BCS_MEMORY) {
-        CHECK(are_same(answer, (bcs_answer){.status = BCS_MEMORY}) && are_untouched(output, 100));
+    if (answer.status == BCS_STACK) {
+        CHECK(are_same(answer, (bcs_answer){.status = BCS_STACK}) && are_untouched(output, 100));
     } else {
         is_right(chain, &job, answer, output);
     }
@@ -262,7 +262,7 @@ static void *on_coroutine(void *trial) {
     return NULL;
 }
 
-/* Counts what a trial has in common with one of 8 MiB. The rest has to be BCS_MEMORY. */
+/* Counts what a trial has in common with one of 8 MiB. The rest has to be BCS_STACK. */
 static void compare(struct trial *trial, const struct trial *wanted, bool has_enough) {
     for (size_t number = 0; number < 4 * COUNT(calls); number++) {
         const size_t way = number % 2, depth = number / 2 % 2, call = number / 4;
@@ -272,13 +272,13 @@ static void compare(struct trial *trial, const struct trial *wanted, bool has_en
             continue;
         }
         const bool is_as_wanted = are_same(answer, other) && trial->sums[way][depth][call] == wanted->sums[way][depth][call];
-        if (!is_as_wanted && (answer.status != BCS_MEMORY || has_enough)) {
+        if (!is_as_wanted && (answer.status != BCS_STACK || has_enough)) {
             fprintf(stderr, "stack: %zu KiB, %zu containers, %zu levels, call %zu: status %u, fault %u, and not %u, %u: %.200s\n",
                     trial->size / KIB, trial->chain->containers, trial->chain->levels, call, answer.status, answer.fault,
                     other.status, other.fault, trial->chain->registry.at);
             exit(1);
         }
-        CHECK(other.status != BCS_MEMORY);
+        CHECK(other.status != BCS_STACK);
         trial->as_wanted += is_as_wanted;
         trial->memory += !is_as_wanted;
     }
@@ -418,7 +418,7 @@ static void on_threads(void) {
         on_thread(&trials[number], transfer);
     }
     for (size_t number = 0; number < COUNT(sizes); number++) {
-        printf("stack: %zu KiB: %lu calls as with 8 MiB, %lu BCS_MEMORY\n", sizes[number] / KIB, trials[number].as_wanted,
+        printf("stack: %zu KiB: %lu calls as with 8 MiB, %lu BCS_STACK\n", sizes[number] / KIB, trials[number].as_wanted,
                trials[number].memory);
     }
 }
@@ -441,7 +441,7 @@ int main(int count, char **arguments) {
     if (strcmp(arguments[1], "main") == 0) {
         struct trial all = {.size = 0};
         with_chains(&all, try_main);
-        printf("stack: main thread: %lu calls as with 8 MiB, %lu BCS_MEMORY\n", all.as_wanted, all.memory);
+        printf("stack: main thread: %lu calls as with 8 MiB, %lu BCS_STACK\n", all.as_wanted, all.memory);
     } else {
         CHECK(count == 3);
         examples = arguments[2];

@@ -34,7 +34,7 @@ def expect_same(what: str, found: list[str], wanted: list[str]) -> None:
 
 def declared_calls() -> list[str]:
     header = HEADER.read_text(encoding="utf-8")
-    return re.findall(r"^(?:bcs_answer |void |const char \*)(bcs_[a-z_]*)\(", header, flags=re.M)
+    return re.findall(r"^(?:bcs_answer |void |uint32_t |const char \*)(bcs_[a-z_]*)\(", header, flags=re.M)
 
 
 def exports(file: pathlib.Path) -> list[str]:

@@ -9,7 +9,7 @@ import java.util.List;
  * tries values with 500 open containers, which one such stack may be too small for, and an ordinary one.
  */
 public final class Deep {
-    private static final int DONE = 0, MEMORY = 6, TO_BCS = 0, FROM_BCS = 1, SCAN = 2;
+    private static final int DONE = 0, STACK = 11, TO_BCS = 0, FROM_BCS = 1, SCAN = 2;
     private static final int CONTAINERS = 500, LEVELS = 31;
 
     /** Makes a call, by a handle that is shared, and returns its status. Output that doesn't fit isn't an error here. */
@@ -58,7 +58,7 @@ public final class Deep {
     private static void run(List<Job> jobs, boolean hasEnough, List<String> wrong) {
         for (Job job : jobs) {
             int status = ask(job.handle, job.call, job.format, job.input);
-            if (status != DONE && (status != MEMORY || hasEnough || !job.isDeep)) {
+            if (status != DONE && (status != STACK || hasEnough || !job.isDeep)) {
                 wrong.add(job.name + ": status " + status);
             }
         }
