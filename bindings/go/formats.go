@@ -106,7 +106,8 @@ func readContainers(registry string, names Names) (containers, error) {
 			if n := all[name]; n.isOf32Bytes() {
 				n.kind, n.signed, n.bits, n.length = named.kind, named.signed, 8*addressLength, addressLength
 			} else if !isDefaultName(name) {
-				return nil, fmt.Errorf("bcs: Names: the registry has no newtype of 32 bytes called %q", name)
+				message := fmt.Sprintf("Names: no newtype of 32 bytes is called %q", shortened(name))
+				return nil, &Error{Kind: KindRegistry, Reason: "UnknownName", Place: -1, Message: message}
 			}
 		}
 	}

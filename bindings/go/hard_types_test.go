@@ -111,7 +111,7 @@ func tried(t *testing.T, what string, call func() error) (err error) {
 	start := time.Now()
 	err = call()
 	var refused *Error
-	if err != nil && (!errors.As(err, &refused) || refused.Kind == KindType && refused.At != "" && refused.At[0] != '/') {
+	if err != nil && (!errors.As(err, &refused) || refused.Kind == KindValue && refused.At != "" && refused.At[0] != '/') {
 		t.Fatalf("%s: %v", what, err)
 	}
 	if took := time.Since(start); took > 20*time.Second || len(fmt.Sprint(err)) > 20_000 {

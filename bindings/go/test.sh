@@ -46,6 +46,10 @@ run "go test -race" go test -race -v .
 ran=$(grep -c '^--- PASS' "$room/log") || fail "go test -race ran no test"
 echo "go: $ran tests, under the race detector"
 
+# Memory that C has freed is overwritten.
+run "go test, closing registries" env MALLOC_PERTURB_=165 go test -count 3 -run Closing .
+echo "go: registries are closed while calls run, and freed memory is overwritten"
+
 # Any pointer that Go passes to C is checked, not just those of arguments.
 run "go test, with all pointers checked" env GODEBUG=cgocheck=2 go test .
 echo "go: the tests, with all pointers checked"

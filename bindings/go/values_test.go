@@ -1,6 +1,7 @@
 package bcsproved
 
 import (
+	"bytes"
 	"encoding/hex"
 	"encoding/json"
 	"errors"
@@ -161,7 +162,7 @@ func TestTableOfValues(t *testing.T) {
 			switch {
 			case ok && (err != nil || hex.EncodeToString(data) != bytes):
 				t.Errorf("%T %v at %s: %x, %v, not %s", row.value, row.value, name, data, err, bytes)
-			case proved && (refused == nil || refused.Kind != KindJSON || refused.Reason != "RepeatedKey"):
+			case proved && (refused == nil || refused.Kind != KindText || refused.Reason != "RepeatedKey"):
 				t.Errorf("%T %v at %s: %x, %v", row.value, row.value, name, data, err)
 			case !ok && !proved && (refused == nil || refused.Kind != KindValue || refused.Reason != "WrongType"):
 				t.Errorf("%T %v at %s: %x, %v, not refused", row.value, row.value, name, data, err)
@@ -290,7 +291,7 @@ func TestUnmarshal(t *testing.T) {
 		{`"BYTES"`, "020102", new([]myByte), "[1 2]"}, {`"BYTES"`, "020102", new(Hex), "0102"}, {`{"SEQ":"U8"}`, "020102", new([]any), "takes bytes, or Hex(…) for digits, not []interface {}"},
 		{`{"SEQ":"U16"}`, "0201000200", new([2]uint16), "[1 2]"}, {`{"SEQ":"U16"}`, "0201000200", new([3]uint16), "fewer"},
 		{`{"SEQ":"U16"}`, "0201000200", new([1]uint16), "/1: "}, {`{"OPTION":"U8"}`, "00", new(uint8), "takes a pointer"},
-		{`{"MAP":{"KEY":"U8","VALUE":"U8"}}`, "0101020304", new(map[uint8]uint8), "refused: TrailingBytes at 3, .: wanted the end"},
+		{`{"MAP":{"KEY":"U8","VALUE":"U8"}}`, "0101020304", new(map[uint8]uint8), "refused: TrailingBytes at byte 3, .: wanted the end"},
 		{`{"MAP":{"KEY":"U8","VALUE":"U8"}}`, "010102", new(map[uint8]uint8), "map[1:2]"}, {`{"MAP":{"KEY":"U8","VALUE":"U8"}}`, "010102", new(map[any]uint8), "in the keys of a map"},
 		{"O", "0103010203", new(o), "{1 [1 2 3]}"}, {"O", "01020102", bad, "/k: BYTES has 2 bytes"}, {"O", "0103010203", new(map[string]any), "map[\b:1 k:[1 2 3]]"},
 	} {
@@ -406,14 +407,41 @@ func TestTransactionAsValues(t *testing.T) {
 
 // Names that the registry doesn't have are rejected, except the default ones.
 func TestNamesOfContainers(t *testing.T) {
-	registry, err := Open([]byte(`{"A":{"NEWTYPESTRUCT":"BYTES"}}`), Names{Addresses: []string{"A"}})
+	bytes32 := `{"NEWTYPESTRUCT":{"TUPLEARRAY":{"CONTENT":"U8","SIZE":32}}}`
+	text := []byte(`{"A":{"NEWTYPESTRUCT":"BYTES"},"AccountAddress":` + bytes32 + `,"U256":` + bytes32 + `,"Int":` + bytes32 + `,"address":` + bytes32 + `}`)
+	for _, name := range []string{"A", "B", "u256", "i256", "\n" + strings.Repeat("B", 1000)} {
+		for _, names := range []Names{{Addresses: []string{name}}, {U256: []string{"U256", name}}, {I256: []string{name}}} {
+			registry, err := Open(text, names)
+			want := fmt.Sprintf("refused: UnknownName: Names: no newtype of 32 bytes is called %.200q", name)
+			if isStandard := name == "u256" || name == "i256"; isStandard != (err == nil) || err != nil && !strings.HasPrefix(err.Error(), want[:len(want)-1]) {
+				t.Errorf("%v %v", registry, err)
+			}
+		}
+	}
+	registry, err := Open(text, Names{[]string{"AccountAddress"}, []string{"U256"}, []string{"Int"}})
 	if err != nil {
 		t.Fatal(err)
 	}
-	if _, err := registry.Encode("A", []byte{1}); err == nil || !strings.Contains(err.Error(), `no newtype of 32 bytes called "A"`) {
-		t.Error(err)
+	for _, row := range []struct {
+		format, data string
+		value        any
+	}{
+		{"AccountAddress", strings.Repeat("00", 31) + "0a", "0x" + strings.Repeat("0", 63) + "a"},
+		{"U256", "ff" + strings.Repeat("00", 31), big.NewInt(255)},
+		{"Int", "fe" + strings.Repeat("ff", 31), big.NewInt(-2)},
+		{"address", "fe" + strings.Repeat("ff", 31), append([]byte{254}, bytes.Repeat([]byte{255}, 31)...)}, // since Names has others
+	} {
+		data, err := registry.Encode(row.format, row.value)
+		back, err2 := registry.Decode(row.format, unhex(t, row.data))
+		if hex.EncodeToString(data) != row.data || !reflect.DeepEqual(back, row.value) || err != nil || err2 != nil {
+			t.Errorf("%s: %x %v %v %v", row.format, data, back, err, err2)
+		}
 	}
-	registry = open(t, valueShapes)
+}
+
+// Integers of 256 bits are little-endian, in two's complement.
+func TestWideIntegers(t *testing.T) {
+	registry := open(t, valueShapes)
 	for text, want := range map[string]string{"-1": strings.Repeat("ff", 32), "-57896044618658097711785492504343953926634992332820282019728792003956564819968": strings.Repeat("00", 31) + "80"} {
 		x, _ := new(big.Int).SetString(text, 10)
 		data, err := registry.Encode("i256", x)
