@@ -81,12 +81,12 @@ func TestClosingDuringCalls(t *testing.T) {
 
 // slowCalls take long enough to be running when Close is called, and call C several times.
 func slowCalls(t *testing.T) map[string]func(r *Registry) error {
-	const count = 500_000
+	const count = 200_000
 	list, table, numbers, entries := `{"SEQ":"U16"}`, `{"MAP":{"KEY":"U32","VALUE":"U8"}}`, make([]uint16, count), make([]pairOf[uint32, uint8], count)
 	for i := range entries[1:] {
 		entries[i].Key = uint32(i)
 	}
-	text, data := []byte("["+strings.Repeat("7,", count)+"x]"), append([]byte{0xa0, 0xc2, 0x1e}, make([]byte, 2*count)...)
+	text, data := []byte("["+strings.Repeat("7,", count)+"x]"), append(uleb(count), make([]byte, 2*count)...)
 	damaged := data[:len(data)-1]
 	return map[string]func(r *Registry) error{
 		"Encode": func(r *Registry) error { _, err := r.Encode(list, numbers); return err },
@@ -128,25 +128,38 @@ func expect(err error, kind Kind, reason string) error {
 	return nil
 }
 
+// closedDuring closes a registry while a call runs, and returns the call's error; isSeen is whether the call was running then.
+func closedDuring(registry *Registry, call func(r *Registry) error) (isSeen bool, err error) {
+	ended := make(chan error, 1)
+	go func() { ended <- call(registry) }()
+	for registry.shared.lock.TryLock() { // it hasn't begun, or has ended
+		registry.shared.lock.Unlock()
+		runtime.Gosched()
+		if len(ended) > 0 {
+			return false, <-ended
+		}
+	}
+	registry.Close()
+	return true, <-ended
+}
+
 // A call that is running when Close is called ends with its own answer.
 func TestClosingDuringSlowCalls(t *testing.T) {
 	for name, call := range slowCalls(t) {
-		registry := open(t, "{}")
-		ended := make(chan error, 1)
-		go func() { ended <- call(registry) }()
-		for registry.shared.lock.TryLock() { // it hasn't begun
-			registry.shared.lock.Unlock()
-			runtime.Gosched()
-			if len(ended) > 0 {
-				t.Fatalf("%s ended before it was seen", name)
+		isSeen := false
+		for try := 0; try < 100 && !isSeen; try++ {
+			registry := open(t, "{}")
+			var err error
+			if isSeen, err = closedDuring(registry, call); err != nil {
+				t.Errorf("%s: %v", name, err)
+			}
+			registry.Close()
+			if err := call(registry); err != ErrClosed {
+				t.Errorf("%s of a closed registry: %v", name, err)
 			}
 		}
-		registry.Close()
-		if err := <-ended; err != nil {
-			t.Errorf("%s: %v", name, err)
-		}
-		if err := call(registry); err != ErrClosed {
-			t.Errorf("%s of a closed registry: %v", name, err)
+		if !isSeen {
+			t.Errorf("%s always ended before it was seen", name)
 		}
 	}
 }

@@ -454,6 +454,65 @@ func TestWideIntegers(t *testing.T) {
 	}
 }
 
+// A string is never bytes, whatever it looks like.
+func TestStringsAreNoBytes(t *testing.T) {
+	registry := open(t, `{"M":{"STRUCT":[{"memo":{"SEQ":"U8"}}]},"B":{"STRUCT":[{"memo":"BYTES"}]},"A":{"STRUCT":[{"memo":{"TUPLEARRAY":{"CONTENT":"U8","SIZE":2}}}]}}`)
+	type memo struct{ Memo any }
+	for format, text := range map[string]string{"M": `{"SEQ":"U8"}`, "B": "BYTES", "A": `{"TUPLEARRAY":{"CONTENT":"U8","SIZE":2}}`} {
+		for _, digits := range []string{"cafe", "hello", "1234", "AbCd", "", "0x1"} {
+			want := Error{KindValue, "WrongType", -1, "/memo", text + " takes bytes, or Hex(…) for digits, not string"}
+			for _, value := range []any{map[string]any{"memo": digits}, map[string]string{"memo": digits}, memo{digits}, struct{ Memo string }{digits}} {
+				if data, err := registry.Encode(format, value); err == nil || *err.(*Error) != want {
+					t.Errorf("%#v: %x %v", value, data, err)
+				}
+			}
+			if err := registry.CheckType(format, struct{ Memo string }{}); err == nil || *err.(*Error) != want {
+				t.Error(err)
+			}
+		}
+		data, err := registry.Encode(format, memo{Hex("cafe")})
+		if err != nil || !bytes.HasSuffix(data, []byte{0xca, 0xfe}) {
+			t.Errorf("%x %v", data, err)
+		}
+	}
+}
+
+// What Decode returns has the same bytes again, at each format.
+func TestThereAndBack(t *testing.T) {
+	for name, formats := range map[string][]string{"every_format": nil, "aptos_registry": nil, "sui_registry": nil, "": nil} {
+		text, count := valueShapes, 0
+		if name != "" {
+			text = string(example(t, name+".json"))
+		}
+		var containers map[string]any
+		if err := json.Unmarshal([]byte(text), &containers); err != nil {
+			t.Fatal(err)
+		}
+		for container := range containers {
+			formats = append(formats, container)
+		}
+		for _, format := range formatsOfTable {
+			if name == "" {
+				formats = append(formats, format)
+			}
+		}
+		registry := open(t, text)
+		for _, format := range formats {
+			for _, data := range samples(registry, format) {
+				value, err := registry.Decode(format, data)
+				again, err2 := registry.Encode(format, value)
+				if err != nil || err2 != nil || !bytes.Equal(again, data) {
+					t.Errorf("%s: %x became %v, and that %x: %v, %v", format, data, value, again, err, err2)
+				}
+				count++
+			}
+		}
+		if count < len(containers) {
+			t.Errorf("%s: only %d values", name, count)
+		}
+	}
+}
+
 // What would cost much or never end is rejected.
 func TestValuesWithoutEnd(t *testing.T) {
 	registry := open(t, valueShapes)
