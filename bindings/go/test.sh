@@ -82,6 +82,9 @@ go build -o "$room/driver" ./driver || fail "the driver"
 run "the rows" python3 "$root/tests/rows" go "$room/driver"
 echo "go: $(tail -n 1 "$room/log")"
 
+run "the types of registries" env BCS_LIBRARY="$prefix/lib/libbcs.so" python3 "$here/tests/declared.py" "$room/module"
+echo "go: $(tail -n 1 "$room/log")"
+
 # What tools/packages.py makes, as its users have it: with `go get`, and with `go mod vendor`.
 python3 "$here/tests/package.py" "$prefix/lib/libbcs.a" "$room" || fail "the package"
 cd "$room"

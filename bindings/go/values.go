@@ -20,6 +20,12 @@ type Variant struct {
 // Entry is an entry of a map. Any struct with just the fields Key and Value, in this order, is one too.
 type Entry struct{ Key, Value any }
 
+// EntryOf is an entry of a map with types of its own. A slice of them holds any map, also one whose keys can't be those of Go's.
+type EntryOf[K, V any] struct {
+	Key   K
+	Value V
+}
+
 // Some is an option that holds a value, as Decode returns it; nil is one that doesn't. Encode also takes pointers.
 type Some struct{ Value any }
 
