@@ -8,16 +8,13 @@
 // ErrUnsupported.
 package bcsproved
 
-// #include <stdlib.h>
 // #include "bcs.h"
 import "C"
 
 import (
-	"math"
 	"runtime"
 	"strings"
 	"sync"
-	"unsafe"
 )
 
 // Limits restrict the values that a call accepts.
@@ -79,7 +76,7 @@ func (s *shared) close() {
 
 var isSupported = C.bcs_is_supported() != 0
 
-// Open reads the JSON of a registry. Names, of which at most one may be given, are containers with a Go form of their own.
+// Open reads the JSON of a registry. It takes at most one Names, which names the containers that have a Go form of their own.
 func Open(registry []byte, names ...Names) (*Registry, error) {
 	if !isSupported {
 		return nil, ErrUnsupported
@@ -91,7 +88,26 @@ func Open(registry []byte, names ...Names) (*Registry, error) {
 	}
 	s := &shared{handle: handle, names: append(names, Names{})[0].orDefault()}
 	runtime.SetFinalizer(s, (*shared).close)
-	return &Registry{shared: s}, nil
+	opened := &Registry{shared: s}
+	if len(names) == 0 {
+		return opened, nil
+	}
+	if err := opened.checkNames(); err != nil {
+		s.close()
+		return nil, err
+	}
+	return opened, nil
+}
+
+// checkNames returns an error if the registry lacks a container of Names.
+func (r *Registry) checkNames() error {
+	q, err := r.ask("")
+	if err != nil {
+		return err
+	}
+	defer q.end()
+	_, err = q.codec()
+	return err
 }
 
 // Close frees the memory of the registry, also of those that WithLimits made of it. It waits for the calls that are running;
@@ -102,41 +118,53 @@ func (r *Registry) Close() error {
 }
 
 // WithLimits returns the same registry with other limits. Without it, Depth is 500, and Nodes is 4294967295 where a call reads
-// JSON, and 16 for each byte plus 1,000,000 where it reads bytes.
+// JSON; where it reads bytes, 16 for each byte plus 65,536, or fewer if the registry has names of more than 64 bytes.
 func (r *Registry) WithLimits(limits Limits) *Registry {
 	return &Registry{shared: r.shared, limits: &limits}
 }
 
 // Check returns an error if the format isn't one of the registry.
 func (r *Registry) Check(format string) error {
-	q, err := r.ask(format, StandardLimits())
+	q, err := r.ask(format)
 	if err != nil {
 		return err
 	}
 	defer q.end()
+	return q.check()
+}
+
+func (q *question) check() error {
 	return q.refusal(C.bcs_handle_check(q.handle, at(q.format), size(q.format), q.depth, q.nodes), KindFormat, nil)
 }
 
 // EncodeJSON returns the bytes of the value that a JSON document represents.
 func (r *Registry) EncodeJSON(format string, json []byte) ([]byte, error) {
-	q, err := r.ask(format, StandardLimits())
+	q, err := r.ask(format)
 	if err != nil {
 		return nil, err
 	}
 	defer q.end()
+	return q.encodeJSON(json)
+}
+
+func (q *question) encodeJSON(json []byte) ([]byte, error) {
 	out, answer := output(guess(len(json), 1), func(out *C.uint8_t, length C.size_t) C.bcs_answer {
 		return C.bcs_handle_to_bcs(q.handle, at(q.format), size(q.format), q.depth, q.nodes, at(json), size(json), out, length)
 	})
-	return out, q.refusal(answer, KindJSON, json)
+	return out, q.refusal(answer, KindText, json)
 }
 
 // DecodeJSON returns the one normal JSON document of the value that the whole of data encodes.
 func (r *Registry) DecodeJSON(format string, data []byte) ([]byte, error) {
-	q, err := r.ask(format, limitsFor(data))
+	q, err := r.askAbout(format, data)
 	if err != nil {
 		return nil, err
 	}
 	defer q.end()
+	return q.decodeJSON(data)
+}
+
+func (q *question) decodeJSON(data []byte) ([]byte, error) {
 	out, answer := output(guess(len(data), 4), func(out *C.uint8_t, length C.size_t) C.bcs_answer {
 		return C.bcs_handle_from_bcs(q.handle, at(q.format), size(q.format), q.depth, q.nodes, at(data), size(data), out, length)
 	})
@@ -146,26 +174,22 @@ func (r *Registry) DecodeJSON(format string, data []byte) ([]byte, error) {
 // DecodePrefixJSON returns the normal JSON document of the value at the beginning of data, and how many bytes it has. What
 // follows isn't read.
 func (r *Registry) DecodePrefixJSON(format string, data []byte) ([]byte, int, error) {
-	length, limited, err := r.prefix(format, data)
+	q, err := r.askAbout(format, data)
 	if err != nil {
 		return nil, 0, err
 	}
-	json, err := limited.DecodeJSON(format, data[:length])
-	return json, length, err
-}
-
-// prefix returns the length of the value at the beginning of data, and the registry with the limits for data.
-func (r *Registry) prefix(format string, data []byte) (int, *Registry, error) {
-	length, err := r.Scan(format, data)
-	if err != nil || r.limits != nil {
-		return length, r, err
+	defer q.end()
+	length, err := q.scan(data)
+	if err != nil {
+		return nil, 0, err
 	}
-	return length, r.WithLimits(limitsFor(data)), nil // the default depends on all of data, so both steps get the same one
+	json, err := q.decodeJSON(data[:length])
+	return json, length, err
 }
 
 // NormaliseJSON returns the one normal JSON document of the value that a JSON document represents.
 func (r *Registry) NormaliseJSON(format string, json []byte) ([]byte, error) {
-	q, err := r.ask(format, StandardLimits())
+	q, err := r.ask(format)
 	if err != nil {
 		return nil, err
 	}
@@ -173,12 +197,12 @@ func (r *Registry) NormaliseJSON(format string, json []byte) ([]byte, error) {
 	out, answer := output(guess(len(json), 1), func(out *C.uint8_t, length C.size_t) C.bcs_answer {
 		return C.bcs_handle_normalise(q.handle, at(q.format), size(q.format), q.depth, q.nodes, at(json), size(json), out, length)
 	})
-	return out, q.refusal(answer, KindJSON, json)
+	return out, q.refusal(answer, KindText, json)
 }
 
 // EqualJSON reports whether two JSON documents represent equal values.
 func (r *Registry) EqualJSON(format string, first, second []byte) (bool, error) {
-	q, err := r.ask(format, StandardLimits())
+	q, err := r.ask(format)
 	if err != nil {
 		return false, err
 	}
@@ -189,20 +213,24 @@ func (r *Registry) EqualJSON(format string, first, second []byte) (bool, error) 
 		return false, nil
 	}
 	refused := first
-	if answer.status == C.BCS_REFUSED && q.place(KindJSON, first, nil, 0).status == C.BCS_NO {
+	if answer.status == C.BCS_REFUSED && q.place(KindText, first, nil, 0).status == C.BCS_NO {
 		refused = second
 	}
-	err = q.refusal(answer, KindJSON, refused)
+	err = q.refusal(answer, KindText, refused)
 	return err == nil, err
 }
 
 // Scan returns how many bytes the value at the beginning of data has.
 func (r *Registry) Scan(format string, data []byte) (int, error) {
-	q, err := r.ask(format, limitsFor(data))
+	q, err := r.askAbout(format, data)
 	if err != nil {
 		return 0, err
 	}
 	defer q.end()
+	return q.scan(data)
+}
+
+func (q *question) scan(data []byte) (int, error) {
 	answer := C.bcs_handle_scan(q.handle, at(q.format), size(q.format), q.depth, q.nodes, at(data), size(data))
 	return int(answer.length), q.refusal(answer, KindBytes, data)
 }
@@ -211,7 +239,7 @@ func (r *Registry) Scan(format string, data []byte) (int, error) {
 // nowhere. Paths are those of `bcs part`: "." for the whole value, or steps such as inner/2/inner or key:0161, where the key's
 // bytes are hexadecimal digits.
 func (r *Registry) Part(format string, data []byte, path string) (*Part, error) {
-	q, err := r.ask(format, limitsFor(data))
+	q, err := r.askAbout(format, data)
 	if err != nil {
 		return nil, err
 	}
@@ -223,7 +251,7 @@ func (r *Registry) Part(format string, data []byte, path string) (*Part, error) 
 		return nil, nil
 	}
 	if answer.status == C.BCS_PATH {
-		return nil, refusalInLine(KindPath, "PATH", answer, func(out *C.uint8_t, length C.size_t) C.bcs_answer {
+		return nil, refusalOf(KindPath, answer, "PATH", func(out *C.uint8_t, length C.size_t) C.bcs_answer {
 			return C.bcs_path_place(at(steps), size(steps), out, length)
 		})
 	}
@@ -244,7 +272,7 @@ func (r *Registry) PartByPointer(format string, data []byte, pointer string) (*P
 }
 
 func (r *Registry) partNamed(format string, data []byte, notation C.uint32_t, name string) (*Part, error) {
-	q, err := r.ask(format, limitsFor(data))
+	q, err := r.askAbout(format, data)
 	if err != nil {
 		return nil, err
 	}
@@ -256,7 +284,7 @@ func (r *Registry) partNamed(format string, data []byte, notation C.uint32_t, na
 		return nil, nil
 	}
 	if answer.status == C.BCS_PATH {
-		return nil, &Error{Kind: KindPath, Reason: reason(answer.fault), Place: -1}
+		return nil, newError(KindPath, answer)
 	}
 	if err := q.refusal(answer, KindBytes, data); err != nil {
 		return nil, err
@@ -271,7 +299,7 @@ func partOf(answer C.bcs_answer, data []byte) *Part {
 
 // Explain shows data piece by piece, as `bcs explain` prints it. Damaged bytes aren't an error of the call.
 func (r *Registry) Explain(format string, data []byte, form Form) (*Explanation, error) {
-	q, err := r.ask(format, limitsFor(data))
+	q, err := r.askAbout(format, data)
 	if err != nil {
 		return nil, err
 	}
@@ -283,11 +311,16 @@ func (r *Registry) Explain(format string, data []byte, form Form) (*Explanation,
 	if err := q.refusal(answer, KindBytes, data); err != nil {
 		return nil, err
 	}
-	damage, err := q.damage(answer, data)
-	if err != nil {
-		return nil, err
+	explanation := &Explanation{Text: string(out)}
+	if answer.fault == C.BCS_FAULT_NONE {
+		return explanation, nil
 	}
-	return &Explanation{Text: string(out), Damage: damage}, nil
+	err = q.refused(answer, KindBytes, data)
+	if damage, is := err.(*Error); is && damage.Kind == KindBytes {
+		explanation.Damage = damage
+		return explanation, nil
+	}
+	return nil, err
 }
 
 // Grows returns an error unless the newer registry keeps everything that the older one has, so that every old value stays
@@ -301,7 +334,7 @@ func Grows(older, newer []byte) error {
 	case C.BCS_DONE:
 		return nil
 	case C.BCS_REFUSED:
-		return refusalInLine(KindGrowth, "", answer, func(out *C.uint8_t, length C.size_t) C.bcs_answer {
+		return refusalOf(KindGrowth, answer, "", func(out *C.uint8_t, length C.size_t) C.bcs_answer {
 			return C.bcs_growth_place(at(older), size(older), at(newer), size(newer), out, length)
 		})
 	case C.BCS_NEWER:
@@ -331,7 +364,7 @@ func Differences(older, newer []byte) ([]string, error) {
 
 // Schema returns a JSON Schema of the JSON documents of the format's values.
 func (r *Registry) Schema(format string) ([]byte, error) {
-	q, err := r.ask(format, StandardLimits())
+	q, err := r.ask(format)
 	if err != nil {
 		return nil, err
 	}
@@ -350,7 +383,7 @@ type ExampleOptions struct {
 
 // Example returns the JSON document of a value of the format, as `bcs example` prints it.
 func (r *Registry) Example(format string, options ExampleOptions) ([]byte, error) {
-	q, err := r.ask(format, StandardLimits())
+	q, err := r.ask(format)
 	if err != nil {
 		return nil, err
 	}
@@ -364,7 +397,7 @@ func (r *Registry) Example(format string, options ExampleOptions) ([]byte, error
 			out, length)
 	})
 	if answer.status == C.BCS_REFUSED {
-		return nil, &Error{Kind: KindExample, Reason: reason(answer.fault), Place: -1}
+		return nil, newError(KindExample, answer)
 	}
 	return out, q.refusal(answer, KindExample, nil)
 }
@@ -372,113 +405,23 @@ func (r *Registry) Example(format string, options ExampleOptions) ([]byte, error
 // Show returns the registry in readable form, as `bcs show` prints it; or, if name isn't empty, only that container with what
 // it depends on. With FormJSON it is compact JSON.
 func (r *Registry) Show(name string, form Form) (string, error) {
-	q, err := r.ask("", StandardLimits())
+	q, err := r.ask("")
 	if err != nil {
 		return "", err
 	}
 	defer q.end()
+	return q.show(name, form)
+}
+
+func (q *question) show(name string, form Form) (string, error) {
 	word := []byte(name)
 	out, answer := output(4096, func(out *C.uint8_t, length C.size_t) C.bcs_answer {
 		return C.bcs_handle_show(q.handle, C.uint32_t(form), at(word), size(word), out, length)
 	})
 	if answer.status == C.BCS_FORMAT {
-		return "", &Error{Kind: KindFormat, Reason: reason(answer.fault), Place: -1, Message: "no container is called " + name}
+		refused := newError(KindFormat, answer)
+		refused.Message = "no container is called " + shortened(name)
+		return "", refused
 	}
 	return string(out), q.refusal(answer, KindFormat, nil)
-}
-
-// question is a call in progress. It holds the registry's lock until end.
-type question struct {
-	shared       *shared
-	handle       *C.bcs_handle
-	format       []byte
-	depth, nodes C.uint32_t
-}
-
-// ask begins a call. These limits apply if the registry has none of its own.
-func (r *Registry) ask(format string, limits Limits) (*question, error) {
-	if r.limits != nil {
-		limits = *r.limits
-	}
-	r.shared.lock.RLock()
-	if r.shared.handle == nil {
-		r.shared.lock.RUnlock()
-		return nil, ErrClosed
-	}
-	return &question{r.shared, r.shared.handle, formatJSON(format), C.uint32_t(limits.Depth), C.uint32_t(limits.Nodes)}, nil
-}
-
-// end ends a call. Up to here the registry is reachable, so its finalizer doesn't run.
-func (q *question) end() {
-	q.shared.lock.RUnlock()
-	runtime.KeepAlive(q.shared)
-}
-
-// limitsFor returns the default where bytes are read.
-func limitsFor(data []byte) Limits {
-	return Limits{Depth: C.BCS_DEPTH, Nodes: uint32(C.bcs_nodes_for(size(data)))}
-}
-
-// formatJSON returns the JSON of a format. A character of a name needs at most six bytes there.
-func formatJSON(format string) []byte {
-	word := []byte(format)
-	out := make([]byte, 6*len(word)+len(`{"TYPENAME":""}`))
-	return out[:C.bcs_format((*C.char)(unsafe.Pointer(at(word))), size(word), at(out), size(out))]
-}
-
-// at returns the address of a slice's bytes. C doesn't keep it after the call.
-func at(bytes []byte) *C.uint8_t {
-	if len(bytes) == 0 {
-		return nil
-	}
-	return (*C.uint8_t)(unsafe.Pointer(&bytes[0]))
-}
-
-func size(bytes []byte) C.size_t {
-	return C.size_t(len(bytes))
-}
-
-// mostGuessed bounds the room that is made before a call has said how much it needs.
-const mostGuessed = 1 << 24
-
-// guess returns room for an output that has about `times` the length of the input.
-func guess(length, times int) C.size_t {
-	if length > mostGuessed/times {
-		return mostGuessed
-	}
-	return C.size_t(times*length + 256)
-}
-
-// output makes a call that writes output: once with room for this length, and again if that is too short.
-func output(room C.size_t, call func(out *C.uint8_t, length C.size_t) C.bcs_answer) ([]byte, C.bcs_answer) {
-	for {
-		if !hasMemory(room) {
-			return nil, C.bcs_answer{status: C.BCS_MEMORY}
-		}
-		out := make([]byte, room)
-		answer := call(at(out), room)
-		switch {
-		case answer.status == C.BCS_SHORT:
-			room = answer.length
-		case answer.status != C.BCS_DONE:
-			return nil, answer
-		case answer.length < room/2: // don't keep what isn't used
-			return append([]byte{}, out[:answer.length]...), answer
-		default:
-			return out[:answer.length:answer.length], answer
-		}
-	}
-}
-
-// hasMemory reports whether C can get that much. Go would end the program where it can't.
-func hasMemory(length C.size_t) bool {
-	if length <= mostGuessed {
-		return true
-	}
-	if length > math.MaxInt {
-		return false
-	}
-	block := C.calloc(1, length)
-	C.free(block)
-	return block != nil
 }

@@ -8,6 +8,8 @@ import (
 	"math"
 	"os"
 	"path/filepath"
+	"runtime"
+	"sort"
 	"strings"
 	"testing"
 )
@@ -177,12 +179,12 @@ func TestRefusals(t *testing.T) {
 		err    error
 		wanted Error
 	}{
-		{encode("Point", `{"x":1,"~/":["","0"]}`), Error{KindJSON, "BadHex", -1, "/~0~1/1", "an odd number of digits"}},
-		{encode("Point", `{"x":256,"~/":[]}`), Error{KindJSON, "BadNumber", -1, "/x", number}},
-		{encode("Point", `{"x":1}`), Error{KindJSON, "MissingField", -1, "", "no member is called ~/"}},
-		{encode(`"U8"`, ""), Error{KindJSON, "NotJson", -1, "", "line 1, column 0: the text stops being JSON there"}},
-		{equal(`{"x":1,"~/":[]}`, `{"x":"","~/":[]}`), Error{KindJSON, "BadNumber", -1, "/x", text}},
-		{equal(`{"x":"","~/":[]}`, `{}`), Error{KindJSON, "BadNumber", -1, "/x", text}},
+		{encode("Point", `{"x":1,"~/":["","0"]}`), Error{KindText, "BadHex", -1, "/~0~1/1", "an odd number of digits"}},
+		{encode("Point", `{"x":256,"~/":[]}`), Error{KindText, "BadNumber", -1, "/x", number}},
+		{encode("Point", `{"x":1}`), Error{KindText, "MissingField", -1, "", "no member is called ~/"}},
+		{encode(`"U8"`, ""), Error{KindText, "NotJson", -1, "", "line 1, column 0: the text stops being JSON there"}},
+		{equal(`{"x":1,"~/":[]}`, `{"x":"","~/":[]}`), Error{KindText, "BadNumber", -1, "/x", text}},
+		{equal(`{"x":"","~/":[]}`, `{}`), Error{KindText, "BadNumber", -1, "/x", text}},
 		{decode("Point", "07010205"), Error{KindBytes, "EndOfInput", 4, ".~/[0]", "wanted 2 bytes of BYTES"}},
 		{decode("Point", "070000"), Error{KindBytes, "TrailingBytes", 2, "", ""}},
 		{decode(`"BOOL"`, "02"), Error{KindBytes, "BadBool", 0, ".", "wanted BOOL"}},
@@ -214,7 +216,7 @@ func TestRefusals(t *testing.T) {
 			t.Errorf("%#v instead of %#v", *refused, row.wanted)
 		}
 	}
-	if err := decode("Point", "07010205"); err.Error() != "refused: EndOfInput at 4, .~/[0]: wanted 2 bytes of BYTES" {
+	if err := decode("Point", "07010205"); err.Error() != "refused: EndOfInput at byte 4, .~/[0]: wanted 2 bytes of BYTES" {
 		t.Error(err)
 	}
 	if err := closed.Check("Point"); err != ErrClosed {
@@ -282,5 +284,50 @@ func TestDefaultLimits(t *testing.T) {
 	_, err = registry.WithLimits(Limits{0, 3}).EncodeJSON(format, []byte("[null,null,null]"))
 	if !strings.HasPrefix(fmt.Sprint(err), "refused: TooManyNodes") {
 		t.Error(err)
+	}
+}
+
+// Three bytes announce 40,000 structs of 20 units each. What the default limits let through costs some tens of megabytes, however
+// long the names are.
+func TestCostOfFewBytes(t *testing.T) {
+	format := `{"SEQ":{"TYPENAME":"S"}}`
+	for _, length := range []int{1, 62, 63, 1000, 20_000} {
+		var fields []string
+		for i := 0; i < 20; i++ {
+			fields = append(fields, fmt.Sprintf(`{"%s%02d":"UNIT"}`, strings.Repeat("n", length), i))
+		}
+		registry := open(t, `{"S":{"STRUCT":[`+strings.Join(fields, ",")+`]}}`)
+		if _, err := registry.Decode(format, []byte{0xc0, 0xb8, 0x02}); expect(err, KindBytes, "TooManyNodes") != nil {
+			t.Errorf("names of %d bytes: %v", length, err)
+		}
+		count := sort.Search(40_000, func(n int) bool { _, err := registry.Scan(format, uleb(n)); return err != nil }) - 1
+		var before, after runtime.MemStats
+		runtime.ReadMemStats(&before)
+		value, err := registry.Decode(format, uleb(count))
+		runtime.ReadMemStats(&after)
+		if allocated := after.TotalAlloc - before.TotalAlloc; err != nil || len(value.([]any)) != count || allocated > 48<<20 {
+			t.Errorf("names of %d bytes, %d structs: %d bytes, %v", length, count, allocated, err)
+		}
+		t.Logf("names of %d bytes, %d structs: %d bytes", length, count, after.TotalAlloc-before.TotalAlloc)
+	}
+}
+
+// Lines begin with the same words in all languages, and names don't change how they look.
+func TestLines(t *testing.T) {
+	for _, row := range []struct {
+		refused Error
+		line    string
+	}{
+		{Error{KindBytes, "BadBool", 0, ".", "wanted BOOL"}, "refused: BadBool at byte 0, .: wanted BOOL"},
+		{Error{KindBytes, "TooNested", -1, "", "100 levels"}, "refused: TooNested: 100 levels"},
+		{Error{KindText, "BadNumber", -1, "/a", "wanted U8"}, "refused: BadNumber at /a: wanted U8"},
+		{Error{KindPath, "BadPath", -1, "", ""}, "refused: BadPath"},
+		{Error{KindLimits, "", -1, "", "the depth is above 500"}, "refused: the depth is above 500"},
+		{Error{KindText, "BadShape", -1, "/\n\x1b[2J\u202e'\"é\xff", "wanted\n"}, `refused: BadShape at /\n\x1b[2J\u202e'"é` + "\ufffd" + `: wanted\n`},
+		{Error{KindText, "BadShape", -1, "/" + strings.Repeat("a", 1000), ""}, "refused: BadShape at /" + strings.Repeat("a", 199) + "...(cut)"},
+	} {
+		if line := row.refused.Error(); line != row.line {
+			t.Errorf("%q, not %q", line, row.line)
+		}
 	}
 }

@@ -122,13 +122,13 @@ func fromLittleEndian(data []byte, isSigned bool) *big.Int {
 	return x
 }
 
+// decoder stores values of a format in variables of one Go type.
+type decoder = converter[decode]
+
 type decode = func(r *reader, v reflect.Value) error
 
-// decoder stores values of a format in variables of one Go type.
-type decoder struct{ run decode }
-
 // whole stores the value of a whole document.
-func (d *decoder) whole(r *reader, v reflect.Value) (err error) {
+func (r *reader) whole(d *decoder, v reflect.Value) (err error) {
 	defer func() {
 		switch fault := recover().(type) {
 		case nil:
@@ -151,93 +151,78 @@ func (d *decoder) whole(r *reader, v reflect.Value) (err error) {
 func (c *codec) decoder(n *node, t reflect.Type) (*decoder, error) {
 	c.lock.Lock()
 	defer c.lock.Unlock()
-	if found, isKnown := c.decoders[pair{n, t}]; isKnown {
-		return found.decoder, found.err
-	}
-	made := decoders{}
-	d, err := made.decoder(n, t)
-	if err != nil {
-		c.decoders[pair{n, t}] = decoderOrError{nil, err}
-		return nil, err
-	}
-	for key, d := range made {
-		c.decoders[key] = decoderOrError{d, nil}
-	}
-	return d, nil
+	return c.decoders.of(pair{n, t}, func(m *maker[decode], key pair, at *steps) (decode, error) {
+		return decoders{m, at}.runOf(key.n, key.t)
+	})
 }
 
-// decoders are those that are being made together.
-type decoders map[pair]*decoder
+// decoders makes the decoder of a pair, at this place in a format.
+type decoders struct {
+	*maker[decode]
+	at *steps
+}
 
-func (made decoders) decoder(n *node, t reflect.Type) (*decoder, error) {
-	if d, isMade := made[pair{n, t}]; isMade {
-		return d, nil
-	}
-	d := &decoder{}
-	made[pair{n, t}] = d
-	var err error
-	d.run, err = made.runOf(n, t)
-	return d, err
+// part returns the decoder for a part of the format.
+func (m decoders) part(n *node, t reflect.Type, step ...any) *decoder {
+	return m.of(n, t, m.at.then(step...))
 }
 
 // runOf returns how values of a format are stored in a Go type.
-func (made decoders) runOf(n *node, t reflect.Type) (decode, error) {
+func (m decoders) runOf(n *node, t reflect.Type) (decode, error) {
 	if err := n.rejectNoValue(t); err != nil {
 		return nil, err
 	}
 	switch {
-	case n.kind == kindNone && t == typeAny: // of a variant, maybe, that no value has
+	case n.content().kind == kindNone && t == typeAny: // of a variant, maybe, that no value has
 		return func(*reader, reflect.Value) error { return n.mismatch(t) }, nil
+	case n.content().kind == kindNone:
+		return nil, n.mismatch(t)
 	case n.kind == kindNewtype:
-		d, err := made.decoder(n.parts[0], t)
-		if err != nil {
-			return nil, err
-		}
+		d := m.part(n.parts[0], t)
 		return func(r *reader, v reflect.Value) error { return d.run(r, v) }, nil
 	case n.kind == kindOption:
-		return made.option(n, t)
-	case t == typeAny && n.kind != kindNone:
-		return made.dynamic(n)
+		return m.option(n, t)
+	case t == typeAny:
+		return m.dynamic(n), nil
 	case t.Kind() == reflect.Pointer && t.Elem().Kind() != reflect.Pointer:
-		d, err := made.decoder(n, t.Elem())
-		if err != nil {
-			return nil, err
-		}
-		return func(r *reader, v reflect.Value) error {
-			v.Set(reflect.New(t.Elem()))
-			return d.run(r, v.Elem())
-		}, nil
+		return m.pointer(n, t), nil
 	}
 	switch n.kind {
 	case kindByteString, kindAddress:
 		return intoBytes(n, t)
 	case kindList:
-		return made.list(n, t)
+		return m.list(n, t)
 	case kindTuple:
-		return made.tuple(n, t)
+		return m.tuple(n, t)
 	case kindMap:
-		return made.dictionary(n, t)
+		return m.dictionary(n, t)
 	case kindStruct:
-		return made.structure(n, t)
+		return m.structure(n, t)
 	case kindEnum:
-		return made.enum(n, t)
+		return m.enum(n, t)
 	}
 	return intoScalar(n, t)
 }
 
-// dynamic stores a value in an `any`, with the type that Decode returns.
-func (made decoders) dynamic(n *node) (decode, error) {
-	t := n.decodedType()
-	d, err := made.decoder(n, t)
-	if err != nil {
-		return nil, err
+// pointer stores a value in a new variable, where no option is.
+func (m decoders) pointer(n *node, t reflect.Type) decode {
+	d := m.part(n, t.Elem())
+	return func(r *reader, v reflect.Value) error {
+		v.Set(reflect.New(t.Elem()))
+		return d.run(r, v.Elem())
 	}
+}
+
+// dynamic stores a value in an `any`, with the type that Decode returns.
+func (m decoders) dynamic(n *node) decode {
+	t := n.decodedType()
+	d := m.part(n, t)
 	return func(r *reader, v reflect.Value) error {
 		room := reflect.New(t).Elem()
 		err := d.run(r, room)
 		v.Set(room)
 		return err
-	}, nil
+	}
 }
 
 var integerTypes = map[string]reflect.Type{

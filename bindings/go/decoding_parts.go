@@ -5,7 +5,7 @@ import (
 	"strings"
 )
 
-func (made decoders) option(n *node, t reflect.Type) (decode, error) {
+func (m decoders) option(n *node, t reflect.Type) (decode, error) {
 	content := typeAny
 	switch {
 	case t.Kind() == reflect.Pointer:
@@ -13,10 +13,7 @@ func (made decoders) option(n *node, t reflect.Type) (decode, error) {
 	case t != typeSome && t != typeAny:
 		return nil, n.mismatch(t)
 	}
-	d, err := made.decoder(n.parts[0], content)
-	if err != nil {
-		return nil, under(err, "some")
-	}
+	d := m.part(n.parts[0], content, "some")
 	return func(r *reader, v reflect.Value) error {
 		if r.take("null") {
 			if t == typeSome {
@@ -56,19 +53,16 @@ func (r *reader) each(element func(i int) error) (int, error) {
 	}
 }
 
-func (made decoders) list(n *node, t reflect.Type) (decode, error) {
+func (m decoders) list(n *node, t reflect.Type) (decode, error) {
 	if !isSequence(t) {
 		return nil, n.mismatch(t)
 	}
 	if t.Kind() == reflect.Array && n.length >= 0 && int64(t.Len()) != n.length {
 		return nil, n.reject("has %d elements, not those of %s", n.length, t)
 	}
-	d, err := made.decoder(n.parts[0], t.Elem())
-	if err != nil {
-		return nil, under(err, "-")
-	}
+	d := m.part(n.parts[0], t.Elem(), "-")
 	if t.Kind() == reflect.Slice {
-		return intoSlice(t, d.runLate), nil
+		return intoSlice(t, func(r *reader, v reflect.Value) error { return d.run(r, v) }), nil
 	}
 	return func(r *reader, v reflect.Value) error {
 		length, err := r.each(func(i int) error {
@@ -84,9 +78,6 @@ func (made decoders) list(n *node, t reflect.Type) (decode, error) {
 	}, nil
 }
 
-// runLate calls the decoder, which may not be finished yet when its address is taken.
-func (d *decoder) runLate(r *reader, v reflect.Value) error { return d.run(r, v) }
-
 // intoSlice stores an array in a slice.
 func intoSlice(t reflect.Type, element decode) decode {
 	zero := reflect.Zero(t.Elem())
@@ -101,16 +92,14 @@ func intoSlice(t reflect.Type, element decode) decode {
 	}
 }
 
-func (made decoders) tuple(n *node, t reflect.Type) (decode, error) {
+func (m decoders) tuple(n *node, t reflect.Type) (decode, error) {
 	indices, err := n.elements(t)
 	if err != nil {
 		return nil, err
 	}
 	each := make([]*decoder, len(n.parts))
 	for i, part := range n.parts {
-		if each[i], err = made.decoder(part, partType(t, indices, i)); err != nil {
-			return nil, under(err, i)
-		}
+		each[i] = m.part(part, partType(t, indices, i), i)
 	}
 	return func(r *reader, v reflect.Value) error {
 		if t.Kind() == reflect.Slice {
@@ -130,22 +119,15 @@ func (made decoders) tuple(n *node, t reflect.Type) (decode, error) {
 	}, nil
 }
 
-func (made decoders) dictionary(n *node, t reflect.Type) (decode, error) {
+func (m decoders) dictionary(n *node, t reflect.Type) (decode, error) {
 	keyType, valueType, err := n.entryTypes(t)
 	if err != nil {
 		return nil, err
 	}
-	if t.Kind() == reflect.Map && keyType.Kind() == reflect.Interface {
-		return nil, n.reject("takes no interfaces as keys: %s", t)
+	if t.Kind() == reflect.Map && contains(keyType, reflect.Interface) { // which may hold what no key can be
+		return nil, n.reject("takes no interfaces in the keys of a map when decoded: %s", t)
 	}
-	keys, err := made.decoder(n.parts[0], keyType)
-	if err != nil {
-		return nil, under(under(err, 0), "-")
-	}
-	values, err := made.decoder(n.parts[1], valueType)
-	if err != nil {
-		return nil, under(under(err, 1), "-")
-	}
+	keys, values := m.part(n.parts[0], keyType, "-", 0), m.part(n.parts[1], valueType, "-", 1)
 	entry := func(r *reader, key, value reflect.Value) error {
 		r.must("[")
 		if err := keys.run(r, key); err != nil {
@@ -184,7 +166,7 @@ func intoMap(n *node, t reflect.Type, entry func(r *reader, key, value reflect.V
 	}
 }
 
-func (made decoders) structure(n *node, t reflect.Type) (decode, error) {
+func (m decoders) structure(n *node, t reflect.Type) (decode, error) {
 	var indices []int
 	var err error
 	switch {
@@ -197,9 +179,7 @@ func (made decoders) structure(n *node, t reflect.Type) (decode, error) {
 	}
 	each, starts := make([]*decoder, len(n.parts)), make([]string, len(n.parts))
 	for i, part := range n.parts {
-		if each[i], err = made.decoder(part, partType(t, indices, i)); err != nil {
-			return nil, under(err, n.names[i])
-		}
+		each[i] = m.part(part, partType(t, indices, i), n.names[i])
 		starts[i] = normalString(n.names[i]) + ":"
 	}
 	return func(r *reader, v reflect.Value) error {
@@ -251,9 +231,9 @@ func normalString(s string) string {
 	return `"` + string(w.out) + `"`
 }
 
-func (made decoders) enum(n *node, t reflect.Type) (decode, error) {
+func (m decoders) enum(n *node, t reflect.Type) (decode, error) {
 	if t == typeVariant {
-		return made.variant(n)
+		return m.variant(n), nil
 	}
 	if !isPointers(t) {
 		return nil, n.mismatch(t)
@@ -264,11 +244,8 @@ func (made decoders) enum(n *node, t reflect.Type) (decode, error) {
 	}
 	each := make([]*decoder, len(indices))
 	for k, i := range indices {
-		if i == missing {
-			continue
-		}
-		if each[k], err = made.decoder(n.parts[k], t.Field(i).Type.Elem()); err != nil {
-			return nil, under(err, n.names[k])
+		if i != missing {
+			each[k] = m.part(n.parts[k], t.Field(i).Type.Elem(), n.names[k])
 		}
 	}
 	return func(r *reader, v reflect.Value) error {
@@ -278,7 +255,7 @@ func (made decoders) enum(n *node, t reflect.Type) (decode, error) {
 		}
 		field := v.Field(indices[k])
 		room := reflect.New(field.Type().Elem())
-		if err := payload(func() error { return each[k].run(r, room.Elem()) }); err != nil {
+		if err := payload(func(r *reader) error { return each[k].run(r, room.Elem()) }); err != nil {
 			return err
 		}
 		field.Set(room.Convert(field.Type()))
@@ -287,38 +264,41 @@ func (made decoders) enum(n *node, t reflect.Type) (decode, error) {
 }
 
 // variant stores an enum's value in a Variant.
-func (made decoders) variant(n *node) (decode, error) {
+func (m decoders) variant(n *node) decode {
 	each := make([]*decoder, len(n.parts))
 	for k, part := range n.parts {
-		var err error
-		if each[k], err = made.decoder(part, typeAny); err != nil {
-			return nil, under(err, n.names[k])
-		}
+		each[k] = m.part(part, typeAny, n.names[k])
 	}
 	return func(r *reader, v reflect.Value) error {
 		k, payload := r.chosen(n)
-		room := reflect.New(typeAny).Elem()
-		if err := payload(func() error { return each[k].run(r, room) }); err != nil {
+		value := reflect.New(typeAny).Elem()
+		err := payload(func(r *reader) error {
+			if n.parts[k].kind == kindUnit {
+				return nil // not struct{}{}: so a unit variant is its name alone
+			}
+			return each[k].run(r, value)
+		})
+		if err != nil {
 			return err
 		}
-		v.Set(reflect.ValueOf(Variant{n.names[k], room.Interface()}))
+		v.Set(reflect.ValueOf(Variant{n.names[k], value.Interface()}))
 		return nil
-	}, nil
+	}
 }
 
-// chosen reads the name of a variant. It returns its index, and what reads its payload, which of a unit variant isn't there.
-func (r *reader) chosen(n *node) (int, func(read func() error) error) {
+// chosen reads the name of a variant. It returns its index, and what reads its payload, which a unit variant doesn't print.
+func (r *reader) chosen(n *node) (int, func(read func(r *reader) error) error) {
 	isObject, start := r.take("{"), r.at
-	k := indexOf(n.names, r.string())
+	k := n.indexOf(r.string())
 	if k == missing {
 		panic(notNormal{start})
 	}
-	return k, func(read func() error) error {
+	return k, func(read func(r *reader) error) error {
 		if !isObject {
-			return nil
+			return under(read(&reader{text: []byte("null")}), n.names[k])
 		}
 		r.must(":")
-		if err := read(); err != nil {
+		if err := read(r); err != nil {
 			return under(err, n.names[k])
 		}
 		r.must("}")

@@ -15,12 +15,13 @@ type writer struct {
 	out   []byte
 	depth int
 	nodes uint32 // that are left
+	isKey bool   // of a Go map
 }
 
-// encoder writes values of one Go type as a format. Encoders of types that contain themselves form cycles.
-type encoder struct {
-	run func(w *writer, v reflect.Value) error
-}
+// encoder writes values of one Go type as a format.
+type encoder = converter[encode]
+
+type encode = func(w *writer, v reflect.Value) error
 
 const (
 	// mostDepth ends cycles of pointers. No value has more levels: 100 of JSON, and 500 of newtypes.
@@ -29,16 +30,16 @@ const (
 	mostJSON = 1 << 30
 )
 
-// encode writes a value as a format, within the limits.
-func (e *encoder) encode(n *node, w *writer, v reflect.Value) error {
+// value writes a value, within the limits.
+func (w *writer) value(e *encoder, v reflect.Value) error {
 	if w.depth++; w.depth > mostDepth {
-		return n.reject("nests too deep: is there a cycle of pointers in %s?", v.Type())
+		return e.n.reject("nests too deep: is there a cycle of pointers in %s?", v.Type())
 	}
 	if w.nodes == 0 {
-		return n.reject("has more nodes than the limits allow")
+		return e.n.reject("has more nodes than the limits allow")
 	}
 	if len(w.out) > mostJSON {
-		return n.reject("would be more than 1 GiB of JSON")
+		return e.n.reject("would be more than 1 GiB of JSON")
 	}
 	w.nodes--
 	err := e.run(w, v)
@@ -55,6 +56,9 @@ func (w *writer) dynamic(n *node, v reflect.Value, isWhole bool) error {
 		}
 		return n.mismatch(nil)
 	}
+	if v.Kind() == reflect.Pointer && w.isKey {
+		return n.rejectPointers(v.Type())
+	}
 	if v.Kind() == reflect.Pointer && v.IsNil() && !isWhole {
 		return n.reject("takes no nil of type %s inside an interface", v.Type())
 	}
@@ -62,72 +66,60 @@ func (w *writer) dynamic(n *node, v reflect.Value, isWhole bool) error {
 	if err != nil {
 		return err
 	}
-	return e.encode(n, w, v)
+	return w.value(e, v)
 }
 
 // encoder returns the encoder for a format and a Go type. They are made once.
 func (c *codec) encoder(n *node, t reflect.Type) (*encoder, error) {
 	c.lock.Lock()
 	defer c.lock.Unlock()
-	if found, isKnown := c.encoders[pair{n, t}]; isKnown {
-		return found.encoder, found.err
-	}
-	made := encoders{}
-	e, err := made.encoder(n, t)
-	if err != nil {
-		c.encoders[pair{n, t}] = encoderOrError{nil, err}
-		return nil, err
-	}
-	for key, e := range made {
-		c.encoders[key] = encoderOrError{e, nil}
-	}
-	return e, nil
+	return c.encoders.of(pair{n, t}, func(m *maker[encode], key pair, at *steps) (encode, error) {
+		return encoders{m, at}.runOf(key.n, key.t)
+	})
 }
 
-// encoders are those that are being made together.
-type encoders map[pair]*encoder
-
-func (made encoders) encoder(n *node, t reflect.Type) (*encoder, error) {
-	if e, isMade := made[pair{n, t}]; isMade {
-		return e, nil
-	}
-	e := &encoder{}
-	made[pair{n, t}] = e
-	var err error
-	e.run, err = made.runOf(n, t)
-	return e, err
+// encoders makes the encoder of a pair, at this place in a format.
+type encoders struct {
+	*maker[encode]
+	at *steps
 }
 
-type encode = func(w *writer, v reflect.Value) error
+// part returns the encoder for a part of the format.
+func (m encoders) part(n *node, t reflect.Type, step ...any) *encoder {
+	return m.of(n, t, m.at.then(step...))
+}
 
 // runOf returns how values of a Go type are written as a format.
-func (made encoders) runOf(n *node, t reflect.Type) (encode, error) {
+func (m encoders) runOf(n *node, t reflect.Type) (encode, error) {
 	if err := n.rejectNoValue(t); err != nil {
 		return nil, err
 	}
 	switch {
 	case t == typeAny:
 		return func(w *writer, v reflect.Value) error { return w.dynamic(n, v.Elem(), false) }, nil
+	case n.content().kind == kindNone:
+		return nil, n.mismatch(t)
 	case n.kind == kindNewtype:
-		return made.follow(n.parts[0], t)
+		e := m.part(n.parts[0], t)
+		return func(w *writer, v reflect.Value) error { return w.value(e, v) }, nil
 	case n.kind == kindOption:
-		return made.option(n, t)
+		return m.option(n, t)
 	case t.Kind() == reflect.Pointer:
-		return made.pointer(n, t)
+		return m.pointer(n, t)
 	}
 	switch n.kind {
 	case kindByteString, kindAddress:
-		return made.bytes(n, t)
+		return bytesOut(n, t)
 	case kindList:
-		return made.list(n, t)
+		return m.list(n, t)
 	case kindTuple:
-		return made.tuple(n, t)
+		return m.tuple(n, t)
 	case kindMap:
-		return made.dictionary(n, t)
+		return m.dictionary(n, t)
 	case kindStruct:
-		return made.structure(n, t)
+		return m.structure(n, t)
 	case kindEnum:
-		return made.enum(n, t)
+		return m.enum(n, t)
 	}
 	return scalar(n, t)
 }
@@ -153,16 +145,7 @@ func scalar(n *node, t reflect.Type) (encode, error) {
 	return nil, n.mismatch(t)
 }
 
-// follow writes the content of a newtype.
-func (made encoders) follow(content *node, t reflect.Type) (encode, error) {
-	e, err := made.encoder(content, t)
-	if err != nil {
-		return nil, err
-	}
-	return func(w *writer, v reflect.Value) error { return e.encode(content, w, v) }, nil
-}
-
-func (made encoders) option(n *node, t reflect.Type) (encode, error) {
+func (m encoders) option(n *node, t reflect.Type) (encode, error) {
 	var content reflect.Type
 	switch {
 	case t == typeSome:
@@ -172,10 +155,7 @@ func (made encoders) option(n *node, t reflect.Type) (encode, error) {
 	default:
 		return nil, n.mismatch(t)
 	}
-	e, err := made.encoder(n.parts[0], content)
-	if err != nil {
-		return nil, under(err, "some")
-	}
+	e := m.part(n.parts[0], content, "some")
 	return func(w *writer, v reflect.Value) error {
 		switch {
 		case t == typeSome:
@@ -187,21 +167,18 @@ func (made encoders) option(n *node, t reflect.Type) (encode, error) {
 			v = v.Elem()
 		}
 		w.out = append(w.out, `{"some":`...)
-		err := e.encode(n.parts[0], w, v)
+		err := w.value(e, v)
 		w.out = append(w.out, '}')
 		return under(err, "some")
 	}, nil
 }
 
 // pointer writes what a pointer leads to, where no option is.
-func (made encoders) pointer(n *node, t reflect.Type) (encode, error) {
+func (m encoders) pointer(n *node, t reflect.Type) (encode, error) {
 	if t.Elem().Kind() == reflect.Pointer {
 		return nil, n.mismatch(t)
 	}
-	e, err := made.encoder(n, t.Elem())
-	if err != nil {
-		return nil, err
-	}
+	e := m.part(n, t.Elem())
 	return func(w *writer, v reflect.Value) error {
 		if v.IsNil() {
 			return n.reject("takes no nil of type %s", t)
@@ -225,7 +202,7 @@ func (w *writer) integer(n *node, v reflect.Value) error {
 		}
 	}
 	if x.Sign() < 0 && !n.signed || magnitude.BitLen() > bits {
-		return n.reject("doesn't hold %s", shortened(x))
+		return n.reject("doesn't hold %s", digitsOf(x))
 	}
 	if n.kind == kindBigInteger {
 		w.hex(littleEndian(x))
@@ -253,8 +230,8 @@ func bigOf(v reflect.Value) *big.Int {
 	return &x
 }
 
-// shortened returns a number's digits, or how many bits it has: an error may not cost more than the value.
-func shortened(x *big.Int) string {
+// digitsOf returns a number's digits, or how many bits it has: an error may not cost more than the value.
+func digitsOf(x *big.Int) string {
 	if x.BitLen() > 512 {
 		return "a number of " + strconv.Itoa(x.BitLen()) + " bits"
 	}
@@ -306,8 +283,8 @@ func (w *writer) text(s string) {
 // byteNode is the format of a byte that is given as an integer.
 var byteNode = &node{kind: kindInteger, text: "U8", bits: 8}
 
-// bytes is runOf for byte strings and addresses. A string is never bytes.
-func (made encoders) bytes(n *node, t reflect.Type) (encode, error) {
+// bytesOut is runOf for byte strings and addresses. A string is never bytes.
+func bytesOut(n *node, t reflect.Type) (encode, error) {
 	switch {
 	case t == typeHex:
 		return func(w *writer, v reflect.Value) error {
@@ -319,22 +296,22 @@ func (made encoders) bytes(n *node, t reflect.Type) (encode, error) {
 		}, nil
 	case n.kind == kindAddress && t.Kind() == reflect.String:
 		return func(w *writer, v reflect.Value) error {
-			data, err := addressOf(v.String())
-			if err != nil {
-				return n.reject("%s", err)
+			data, isAddress := addressOf(v.String())
+			if !isAddress {
+				return n.reject("takes 0x and 1 to 64 hexadecimal digits, not %q", v.String())
 			}
 			return w.byteString(n, data)
 		}, nil
 	case isBytes(t):
 		return func(w *writer, v reflect.Value) error { return w.byteString(n, bytesOf(v)) }, nil
 	case n.kind == kindByteString && isSequence(t):
-		return made.integers(n, t)
+		return integersOut(n, t)
 	}
 	return nil, n.mismatch(t)
 }
 
-// integers writes a list of integers as a byte string.
-func (made encoders) integers(n *node, t reflect.Type) (encode, error) {
+// integersOut writes a list of integers as a byte string.
+func integersOut(n *node, t reflect.Type) (encode, error) {
 	if t.Elem() != typeAny && !isInteger(t.Elem()) && t.Elem() != typeBig && t.Elem() != reflect.PointerTo(typeBig) {
 		return nil, under(byteNode.mismatch(t.Elem()), "-")
 	}
@@ -350,8 +327,12 @@ func (made encoders) integers(n *node, t reflect.Type) (encode, error) {
 	}, nil
 }
 
+// byteOf returns the byte that an integer is, or what an interface or a pointer leads to.
 func byteOf(v reflect.Value) (byte, error) {
-	for v.Kind() == reflect.Interface || v.Kind() == reflect.Pointer {
+	if v.Kind() == reflect.Interface {
+		v = v.Elem()
+	}
+	if v.Kind() == reflect.Pointer {
 		v = v.Elem()
 	}
 	if !v.IsValid() {
@@ -362,7 +343,7 @@ func byteOf(v reflect.Value) (byte, error) {
 	}
 	x := bigOf(v)
 	if x.Sign() < 0 || x.BitLen() > 8 {
-		return 0, byteNode.reject("doesn't hold %s", shortened(x))
+		return 0, byteNode.reject("doesn't hold %s", digitsOf(x))
 	}
 	return byte(x.Uint64()), nil
 }
@@ -384,21 +365,12 @@ func (w *writer) byteString(n *node, data []byte) error {
 	return nil
 }
 
-type addressError string
-
-func (e addressError) Error() string { return string(e) }
-
 // addressOf reads an address: 0x and 1 to 64 hexadecimal digits.
-func addressOf(s string) ([]byte, error) {
+func addressOf(s string) (data []byte, isAddress bool) {
 	digits := strings.TrimPrefix(s, "0x")
-	if digits != s && len(digits) > 0 && len(digits) <= 2*addressLength {
-		padded := strings.Repeat("0", 2*addressLength-len(digits)) + digits
-		if data, err := hex.DecodeString(padded); err == nil {
-			return data, nil
-		}
+	if digits == s || len(digits) == 0 || len(digits) > 2*addressLength {
+		return nil, false
 	}
-	if len(s) > 80 {
-		return nil, addressError("takes 0x and 1 to 64 hexadecimal digits")
-	}
-	return nil, addressError("takes 0x and 1 to 64 hexadecimal digits, not " + strconv.Quote(s))
+	data, err := hex.DecodeString(strings.Repeat("0", 2*addressLength-len(digits)) + digits)
+	return data, err == nil
 }

@@ -5,17 +5,14 @@ import (
 )
 
 // list is runOf for lists and arrays.
-func (made encoders) list(n *node, t reflect.Type) (encode, error) {
+func (m encoders) list(n *node, t reflect.Type) (encode, error) {
 	if !isSequence(t) {
 		return nil, n.mismatch(t)
 	}
 	if t.Kind() == reflect.Array && n.length >= 0 && int64(t.Len()) != n.length {
 		return nil, n.reject("has %d elements, not those of %s", n.length, t)
 	}
-	e, err := made.encoder(n.parts[0], t.Elem())
-	if err != nil {
-		return nil, under(err, "-")
-	}
+	e := m.part(n.parts[0], t.Elem(), "-")
 	return func(w *writer, v reflect.Value) error {
 		if n.length >= 0 && int64(v.Len()) != n.length {
 			return n.reject("has %d elements, not %d", n.length, v.Len())
@@ -23,7 +20,7 @@ func (made encoders) list(n *node, t reflect.Type) (encode, error) {
 		w.out = append(w.out, '[')
 		for i, length := 0, v.Len(); i < length; i++ {
 			w.comma(i)
-			if err := e.encode(n.parts[0], w, v.Index(i)); err != nil {
+			if err := w.value(e, v.Index(i)); err != nil {
 				return under(err, i)
 			}
 		}
@@ -40,16 +37,14 @@ func (w *writer) comma(i int) {
 }
 
 // tuple is runOf for tuples: slices, arrays, and structs whose tags are positions.
-func (made encoders) tuple(n *node, t reflect.Type) (encode, error) {
+func (m encoders) tuple(n *node, t reflect.Type) (encode, error) {
 	indices, err := n.elements(t)
 	if err != nil {
 		return nil, err
 	}
 	each := make([]*encoder, len(n.parts))
 	for i, part := range n.parts {
-		if each[i], err = made.encoder(part, partType(t, indices, i)); err != nil {
-			return nil, under(err, i)
-		}
+		each[i] = m.part(part, partType(t, indices, i), i)
 	}
 	return func(w *writer, v reflect.Value) error {
 		if indices == nil && v.Len() != len(each) {
@@ -58,7 +53,7 @@ func (made encoders) tuple(n *node, t reflect.Type) (encode, error) {
 		w.out = append(w.out, '[')
 		for i, e := range each {
 			w.comma(i)
-			if err := e.encode(n.parts[i], w, partValue(v, indices, i)); err != nil {
+			if err := w.value(e, partValue(v, indices, i)); err != nil {
 				return under(err, i)
 			}
 		}
@@ -98,8 +93,8 @@ func partValue(v reflect.Value, indices []int, i int) reflect.Value {
 // entryTypes returns the types of the keys and values of a Go map, or of a slice of entries.
 func (n *node) entryTypes(t reflect.Type) (key, value reflect.Type, err error) {
 	switch {
-	case t.Kind() == reflect.Map && t.Key().Kind() == reflect.Pointer:
-		return nil, nil, n.reject("takes no pointers as keys: %s", t)
+	case t.Kind() == reflect.Map && contains(t.Key(), reflect.Pointer):
+		return nil, nil, n.rejectPointers(t)
 	case t.Kind() == reflect.Map:
 		return t.Key(), t.Elem(), nil
 	case t.Kind() == reflect.Slice && isEntry(t.Elem()):
@@ -108,29 +103,29 @@ func (n *node) entryTypes(t reflect.Type) (key, value reflect.Type, err error) {
 	return nil, nil, n.mismatch(t)
 }
 
+// rejectPointers rejects keys of Go maps that are equal only if they are the same variable.
+func (n *node) rejectPointers(t reflect.Type) error {
+	return n.reject("takes no pointers in the keys of a map: %s", t)
+}
+
 // dictionary is runOf for maps.
-func (made encoders) dictionary(n *node, t reflect.Type) (encode, error) {
+func (m encoders) dictionary(n *node, t reflect.Type) (encode, error) {
 	keyType, valueType, err := n.entryTypes(t)
 	if err != nil {
 		return nil, err
 	}
-	keys, err := made.encoder(n.parts[0], keyType)
-	if err != nil {
-		return nil, under(under(err, 0), "-")
-	}
-	values, err := made.encoder(n.parts[1], valueType)
-	if err != nil {
-		return nil, under(under(err, 1), "-")
-	}
+	keys, values := m.part(n.parts[0], keyType, "-", 0), m.part(n.parts[1], valueType, "-", 1)
 	entry := func(w *writer, i int, key, value reflect.Value) error {
 		w.comma(i)
 		w.out = append(w.out, '[')
-		if err := keys.encode(n.parts[0], w, key); err != nil {
-			return under(under(err, 0), i)
+		w.isKey = t.Kind() == reflect.Map
+		if err := w.value(keys, key); err != nil {
+			return under(err, i, 0)
 		}
+		w.isKey = false
 		w.out = append(w.out, ',')
-		if err := values.encode(n.parts[1], w, value); err != nil {
-			return under(under(err, 1), i)
+		if err := w.value(values, value); err != nil {
+			return under(err, i, 1)
 		}
 		w.out = append(w.out, ']')
 		return nil
@@ -165,7 +160,7 @@ func eachEntry(w *writer, v reflect.Value, entry func(w *writer, i int, key, val
 }
 
 // structure is runOf for structs: Go structs, and maps with a value for each field.
-func (made encoders) structure(n *node, t reflect.Type) (encode, error) {
+func (m encoders) structure(n *node, t reflect.Type) (encode, error) {
 	var indices []int
 	var err error
 	switch {
@@ -178,9 +173,7 @@ func (made encoders) structure(n *node, t reflect.Type) (encode, error) {
 	}
 	each, starts := make([]*encoder, len(n.parts)), make([]string, len(n.parts))
 	for i, part := range n.parts {
-		if each[i], err = made.encoder(part, partType(t, indices, i)); err != nil {
-			return nil, under(err, n.names[i])
-		}
+		each[i] = m.part(part, partType(t, indices, i), n.names[i])
 		w := &writer{}
 		w.text(n.names[i])
 		starts[i] = string(w.out) + ":"
@@ -194,7 +187,7 @@ func (made encoders) structure(n *node, t reflect.Type) (encode, error) {
 			}
 			w.comma(i)
 			w.out = append(w.out, starts[i]...)
-			if err := e.encode(n.parts[i], w, field); err != nil {
+			if err := w.value(e, field); err != nil {
 				return under(err, n.names[i])
 			}
 		}
@@ -221,27 +214,18 @@ func (n *node) rejectMore(v reflect.Value) error {
 		return nil
 	}
 	for _, key := range v.MapKeys() {
-		if indexOf(n.names, key.String()) == missing {
+		if n.indexOf(key.String()) == missing {
 			return n.reject("has no field %q", key.String())
 		}
 	}
 	return nil
 }
 
-func indexOf(names []string, name string) int {
-	for i, known := range names {
-		if known == name {
-			return i
-		}
-	}
-	return missing
-}
-
 // enum is runOf for enums: a Variant, or a struct in which one pointer isn't nil.
-func (made encoders) enum(n *node, t reflect.Type) (encode, error) {
+func (m encoders) enum(n *node, t reflect.Type) (encode, error) {
 	if t == typeVariant {
 		return func(w *writer, v reflect.Value) error {
-			i := indexOf(n.names, v.Field(0).String())
+			i := n.indexOf(v.Field(0).String())
 			if i == missing {
 				return n.reject("has no variant %q", v.Field(0).String())
 			}
@@ -257,11 +241,8 @@ func (made encoders) enum(n *node, t reflect.Type) (encode, error) {
 	}
 	each := make([]*encoder, len(indices))
 	for k, i := range indices {
-		if i == missing {
-			continue
-		}
-		if each[k], err = made.encoder(n.parts[k], t.Field(i).Type.Elem()); err != nil {
-			return nil, under(err, n.names[k])
+		if i != missing {
+			each[k] = m.part(n.parts[k], t.Field(i).Type.Elem(), n.names[k])
 		}
 	}
 	return func(w *writer, v reflect.Value) error {
@@ -269,7 +250,7 @@ func (made encoders) enum(n *node, t reflect.Type) (encode, error) {
 		if err != nil {
 			return err
 		}
-		return w.variant(n, k, func() error { return each[k].encode(n.parts[k], w, v.Field(indices[k]).Elem()) })
+		return w.variant(n, k, func() error { return w.value(each[k], v.Field(indices[k]).Elem()) })
 	}, nil
 }
 

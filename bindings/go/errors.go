@@ -4,14 +4,14 @@ package bcsproved
 import "C"
 
 import (
-	"bytes"
 	"errors"
 	"fmt"
+	"strconv"
 	"strings"
 )
 
 var (
-	// ErrMemory: out of memory, or the thread has too little stack for the value.
+	// ErrMemory: out of memory.
 	ErrMemory = errors.New("bcs: out of memory")
 	// ErrClosed: the registry is closed.
 	ErrClosed = errors.New("bcs: the registry is closed")
@@ -28,54 +28,74 @@ const (
 	KindGrowth   Kind = "growth"   // the newer registry, since it doesn't keep what the older one has
 	KindFormat   Kind = "format"
 	KindLimits   Kind = "limits" // the depth is above 500
-	KindJSON     Kind = "JSON"   // the JSON of a value
+	KindText     Kind = "text"   // the JSON of a value
 	KindBytes    Kind = "bytes"
 	KindPath     Kind = "path"
 	KindExample  Kind = "example" // the format has no such example
-	KindValue    Kind = "value"   // a Go value isn't one of the format
-	KindType     Kind = "type"    // values of the format don't fit a Go type
+	KindValue    Kind = "value"   // a Go value or a Go type, since it isn't one of the format
+	KindStack    Kind = "stack"   // the thread has too little stack left for the call
 )
 
 // Error is a refusal.
 type Error struct {
 	Kind Kind
 
-	// Reason is the name of the fault, as the program bcs prints it: "BadBool". It is empty for KindLimits.
+	// Reason is the name of the fault, as the program bcs prints it: "BadBool". For KindValue it is "WrongType". It is empty for
+	// KindLimits and KindStack.
 	Reason string
 
 	// Place is the offset where bytes stop being a value. It is -1 for other kinds, and if the bytes encode a value whose JSON
 	// would nest too deep.
 	Place int
 
-	// At says where the fault is. Of JSON it is a JSON Pointer (RFC 6901) such as /payload/args/1, which is empty if the
-	// document is refused as a whole; of bytes the names that lead there, such as .payload.args[1]; of a format a JSON Pointer; of
-	// a registry, a path or growth the place as the program bcs prints it.
+	// At says where the fault is. Of JSON, a Go value or a format it is a JSON Pointer (RFC 6901) such as /payload/args/1, which is
+	// empty for the whole; of bytes the field path, such as .payload.args[1]; of a registry, a path or growth the place as the
+	// program bcs prints it.
 	At string
 
 	// Message says what was expected there, or what is wrong. The text is for people, and may change.
 	Message string
 }
 
-// Error returns the line of the refusal, which begins like that of the program bcs: refused: BadNumber at /amount: ...
+// Error returns the line of the refusal: refused: BadNumber at /amount: ..., or refused: BadBool at byte 3, .flags[0]: ...
+// It has no control characters, and cuts long pointers.
 func (e *Error) Error() string {
-	line := "refused"
-	if e.Reason != "" {
-		line += ": " + e.Reason
-	}
 	var where []string
 	if e.Place >= 0 {
-		where = append(where, fmt.Sprint(e.Place))
+		where = append(where, "byte "+strconv.Itoa(e.Place))
 	}
 	if e.At != "" {
-		where = append(where, e.At)
+		where = append(where, printable(shortened(e.At)))
+	}
+	pieces := []string{"refused"}
+	if e.Reason != "" {
+		pieces = append(pieces, e.Reason)
 	}
 	if len(where) > 0 {
-		line += " at " + strings.Join(where, ", ")
+		pieces[len(pieces)-1] += " at " + strings.Join(where, ", ")
 	}
 	if e.Message != "" {
-		line += ": " + e.Message
+		pieces = append(pieces, printable(e.Message))
 	}
-	return line
+	return strings.Join(pieces, ": ")
+}
+
+// printable escapes the characters of a name that would change how a line looks.
+func printable(s string) string {
+	var out strings.Builder
+	for _, character := range s {
+		if strconv.IsPrint(character) {
+			out.WriteRune(character)
+		} else {
+			out.WriteString(strings.Trim(strconv.QuoteRune(character), "'"))
+		}
+	}
+	return out.String()
+}
+
+// newError returns an error with the name of the answer's fault.
+func newError(kind Kind, answer C.bcs_answer) *Error {
+	return &Error{Kind: kind, Reason: reason(answer.fault), Place: -1}
 }
 
 func reason(fault C.uint32_t) string {
@@ -90,68 +110,40 @@ func (q *question) refusal(answer C.bcs_answer, kind Kind, input []byte) error {
 	switch answer.status {
 	case C.BCS_DONE:
 		return nil
-	case C.BCS_MEMORY:
-		return ErrMemory
 	case C.BCS_FORMAT:
-		return refusalInLine(KindFormat, "FORMAT", answer, func(out *C.uint8_t, length C.size_t) C.bcs_answer {
+		return refusalOf(KindFormat, answer, "FORMAT", func(out *C.uint8_t, length C.size_t) C.bcs_answer {
 			return C.bcs_handle_format_place(q.handle, at(q.format), size(q.format), out, length)
 		})
 	case C.BCS_LIMITS:
 		return &Error{Kind: KindLimits, Place: -1, Message: "the depth is above 500"}
 	case C.BCS_REFUSED:
-		refused, err := q.refused(answer, kind, input)
-		if err != nil {
-			return err
-		}
-		return refused
+		return q.refused(answer, kind, input)
+	default:
+		return failure(answer)
+	}
+}
+
+// failure returns the error of a call that didn't finish, or nil.
+func failure(answer C.bcs_answer) error {
+	switch answer.status {
+	case C.BCS_DONE, C.BCS_NO:
+		return nil
+	case C.BCS_MEMORY:
+		return ErrMemory
+	case C.BCS_STACK:
+		return &Error{Kind: KindStack, Place: -1, Message: "the thread has too little stack left"}
 	default:
 		return fmt.Errorf("bcs: unknown status %d", uint32(answer.status))
 	}
 }
 
-// refused returns what is known of an input that is refused.
-func (q *question) refused(answer C.bcs_answer, kind Kind, input []byte) (*Error, error) {
-	refused := &Error{Kind: kind, Reason: reason(answer.fault), Place: -1}
-	if kind == KindBytes && answer.fault != C.BCS_SHOWN_TOO_NESTED {
+// refused returns the error for JSON or bytes that are refused.
+func (q *question) refused(answer C.bcs_answer, kind Kind, input []byte) error {
+	err := refusalOf(kind, answer, "", func(out *C.uint8_t, length C.size_t) C.bcs_answer { return q.place(kind, input, out, length) })
+	if refused, is := err.(*Error); is && refused.Kind == KindBytes && answer.fault != C.BCS_SHOWN_TOO_NESTED {
 		refused.Place = int(answer.place)
 	}
-	told, place := output(256, func(out *C.uint8_t, length C.size_t) C.bcs_answer { return q.place(kind, input, out, length) })
-	if place.status == C.BCS_MEMORY {
-		return nil, ErrMemory
-	}
-	// A pointer may contain a NUL. The one before the words is the last.
-	if end := bytes.LastIndexByte(told, 0); end >= 0 {
-		refused.At, refused.Message = string(told[:end]), string(told[end+1:])
-	}
-	return refused, nil
-}
-
-// refusalInLine returns an error with what a call reports in a line of the program, such as
-// at FORMAT, /SEQ: BadShape: wanted a format. Names in it may contain anything.
-func refusalInLine(kind Kind, prefix string, answer C.bcs_answer, ask func(out *C.uint8_t, length C.size_t) C.bcs_answer) error {
-	refused := &Error{Kind: kind, Reason: reason(answer.fault), Place: -1}
-	told, place := output(256, ask)
-	if place.status == C.BCS_MEMORY {
-		return ErrMemory
-	}
-	line, middle := strings.TrimPrefix(string(told), "at "), ": "+refused.Reason
-	end := strings.LastIndex(line, middle)
-	if refused.Reason == "UnknownName" { // only these words have a name in them, and only the place of the others
-		end = strings.Index(line, middle)
-	}
-	if end >= 0 {
-		refused.At = strings.TrimPrefix(strings.TrimPrefix(line[:end], prefix), ", ")
-		refused.Message = strings.TrimPrefix(line[end+len(middle):], ": ")
-	}
-	return refused
-}
-
-// damage returns what an explanation reports beside its text, or nil.
-func (q *question) damage(answer C.bcs_answer, data []byte) (*Error, error) {
-	if answer.fault == C.BCS_FAULT_NONE {
-		return nil, nil
-	}
-	return q.refused(answer, KindBytes, data)
+	return err
 }
 
 func (q *question) place(kind Kind, input []byte, out *C.uint8_t, length C.size_t) C.bcs_answer {
@@ -164,29 +156,52 @@ func (q *question) place(kind Kind, input []byte, out *C.uint8_t, length C.size_
 }
 
 func refusalOfRegistry(answer C.bcs_answer, kind Kind, registry []byte) error {
-	if answer.status == C.BCS_MEMORY {
-		return ErrMemory
+	if answer.status != C.BCS_REGISTRY && answer.status != C.BCS_NEWER {
+		return failure(answer)
 	}
-	refused := &Error{Kind: kind, Reason: reason(answer.fault), Place: -1}
-	err := addPlace(refused, func(what C.uint32_t, out *C.uint8_t, length C.size_t) C.bcs_answer {
-		return C.bcs_registry_place(what, at(registry), size(registry), out, length)
-	})
-	if err != nil {
+	half := func(what C.uint32_t) func(out *C.uint8_t, length C.size_t) C.bcs_answer {
+		return func(out *C.uint8_t, length C.size_t) C.bcs_answer {
+			return C.bcs_registry_place(what, at(registry), size(registry), out, length)
+		}
+	}
+	refused := newError(kind, answer)
+	where, place := output(256, half(C.BCS_WHERE))
+	if err := failure(place); err != nil {
 		return err
 	}
+	wanted, place := output(256, half(C.BCS_WANTED))
+	if err := failure(place); err != nil {
+		return err
+	}
+	refused.locate(string(where)+"\x00"+string(wanted), "")
 	return refused
 }
 
-// addPlace asks where something is refused, and what was expected there.
-func addPlace(refused *Error, ask func(what C.uint32_t, out *C.uint8_t, length C.size_t) C.bcs_answer) error {
-	where, answer := output(256, func(out *C.uint8_t, length C.size_t) C.bcs_answer { return ask(C.BCS_WHERE, out, length) })
-	if answer.status == C.BCS_MEMORY {
-		return ErrMemory
+// refusalOf returns an error with what a call says about it. The argument is what the call's line names before the place.
+func refusalOf(kind Kind, answer C.bcs_answer, argument string, ask func(out *C.uint8_t, length C.size_t) C.bcs_answer) error {
+	refused := newError(kind, answer)
+	said, place := output(256, ask)
+	if err := failure(place); err != nil {
+		return err
 	}
-	expected, answer := output(256, func(out *C.uint8_t, length C.size_t) C.bcs_answer { return ask(C.BCS_WANTED, out, length) })
-	if answer.status == C.BCS_MEMORY {
-		return ErrMemory
+	refused.locate(string(said), argument)
+	return refused
+}
+
+// locate takes apart what C says about a refusal: PLACE NUL MESSAGE, or a line of the program such as
+// at FORMAT, /SEQ: BadShape: wanted a format. Names in it may contain anything.
+func (e *Error) locate(said, argument string) {
+	if end := strings.LastIndexByte(said, 0); end >= 0 { // a pointer may contain a NUL; a message doesn't
+		e.At, e.Message = said[:end], said[end+1:]
+		return
 	}
-	refused.At, refused.Message = string(where), string(expected)
-	return nil
+	line, middle := strings.TrimPrefix(said, "at "), ": "+e.Reason
+	end := strings.LastIndex(line, middle)
+	if e.Reason == "UnknownName" { // only this message has a name in it; of the others, only the place has
+		end = strings.Index(line, middle)
+	}
+	if end >= 0 {
+		e.At = strings.TrimPrefix(strings.TrimPrefix(line[:end], argument), ", ")
+		e.Message = strings.TrimPrefix(line[end+len(middle):], ": ")
+	}
 }

@@ -62,7 +62,28 @@ func isStringMap(t reflect.Type) bool {
 }
 
 func isEntry(t reflect.Type) bool {
-	return t.Kind() == reflect.Struct && t.NumField() == 2 && t.Field(0).Name == "Key" && t.Field(1).Name == "Value"
+	return t.Kind() == reflect.Struct && t.NumField() == 2 && isField(t.Field(0), "Key") && isField(t.Field(1), "Value")
+}
+
+func isField(field reflect.StructField, name string) bool {
+	return field.Name == name && !field.Anonymous
+}
+
+// contains is whether a value of this type has a part of that kind in itself, and not behind a pointer.
+func contains(t reflect.Type, kind reflect.Kind) bool {
+	switch t.Kind() {
+	case kind:
+		return true
+	case reflect.Array:
+		return contains(t.Elem(), kind)
+	case reflect.Struct:
+		for i := 0; i < t.NumField(); i++ {
+			if contains(t.Field(i).Type, kind) {
+				return true
+			}
+		}
+	}
+	return false
 }
 
 // isPointers is whether each field of the struct is a pointer, as of a struct that stands for an enum.

@@ -39,20 +39,43 @@ const addressLength = 32
 // node is a format or a container. A TYPENAME is the node of its container, so nodes form cycles if containers do.
 type node struct {
 	kind   kind
-	text   string // the format or container, in errors
+	text   string // a word such as U8, or the name of a container
+	json   any    // another format, as parsed JSON
 	bits   int    // of an integer
 	signed bool
 	length int64 // of an array
 	parts  []*node
 	names  []string // of fields or variants, one for each part
-	sorted []int    // the fields in the order of normal JSON
+	index  map[string]int
+	sorted []int // the fields in the order of normal JSON
+}
+
+// String returns the format or container, as errors quote it.
+func (n *node) String() string {
+	if n.json == nil {
+		return shortened(n.text)
+	}
+	text, _ := json.Marshal(n.json)
+	return shortened(string(text))
+}
+
+// indexOf returns the index of a field or variant, or missing.
+func (n *node) indexOf(name string) int {
+	if i, isKnown := n.index[name]; isKnown {
+		return i
+	}
+	return missing
 }
 
 func (n *node) is(kind kind) bool { return n != nil && n.kind == kind }
 
-// content is the format behind newtypes. A newtype of itself has no values, and no end.
+// content is the format behind newtypes. There are no values behind more of them than the greatest limits allow, such as those
+// of a newtype of itself.
 func (n *node) content() *node {
-	for steps := 0; n.kind == kindNewtype && steps < mostDepth; steps++ {
+	for steps := 0; n.kind == kindNewtype; steps++ {
+		if steps == mostDepth {
+			return &node{kind: kindNone}
+		}
 		n = n.parts[0]
 	}
 	return n
@@ -83,7 +106,8 @@ func readContainers(registry string, names Names) (containers, error) {
 			if n := all[name]; n.isOf32Bytes() {
 				n.kind, n.signed, n.bits, n.length = named.kind, named.signed, 8*addressLength, addressLength
 			} else if !isDefaultName(name) {
-				return nil, fmt.Errorf("bcs: Names: the registry has no newtype of 32 bytes called %q", name)
+				message := fmt.Sprintf("Names: no newtype of 32 bytes is called %q", shortened(name))
+				return nil, &Error{Kind: KindRegistry, Reason: "UnknownName", Place: -1, Message: message}
 			}
 		}
 	}
@@ -131,13 +155,27 @@ func (all containers) readContainer(n *node, container any) {
 		n.sorted = sortedIndices(n.names)
 	case "ENUM":
 		n.kind = kindEnum
-		for _, variant := range content.(map[string]any) {
-			name, payload := onlyMember(variant)
+		for _, number := range sortedKeys(content.(map[string]any)) {
+			name, payload := onlyMember(content.(map[string]any)[number])
 			part := &node{text: n.text + "::" + name}
 			all.readContainer(part, payload)
 			n.names, n.parts = append(n.names, name), append(n.parts, part)
 		}
 	}
+	n.index = map[string]int{}
+	for i, name := range n.names {
+		n.index[name] = i
+	}
+}
+
+// sortedKeys returns the keys in an order that is always the same.
+func sortedKeys(object map[string]any) []string {
+	var keys []string
+	for key := range object {
+		keys = append(keys, key)
+	}
+	sort.Strings(keys)
+	return keys
 }
 
 // sortedIndices returns the indices of names in the order of the names' bytes.
@@ -177,8 +215,7 @@ func (all containers) format(format any) *node {
 	if what == "TYPENAME" {
 		return all[content.(string)]
 	}
-	text, _ := json.Marshal(format)
-	n := &node{text: string(text), length: anyLength}
+	n := &node{json: format, length: anyLength}
 	switch what {
 	case "OPTION":
 		n.kind, n.parts = kindOption, []*node{all.format(content)}

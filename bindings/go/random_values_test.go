@@ -369,13 +369,22 @@ func randomRegistry(r *rand.Rand) (string, []*format) {
 	return text + "}", all
 }
 
+// roundsOfTest returns the variable ROUNDS, or 30.
+func roundsOfTest(t *testing.T) int {
+	text := os.Getenv("ROUNDS")
+	if text == "" {
+		return 30
+	}
+	rounds, err := strconv.Atoi(text)
+	if err != nil || rounds < 1 {
+		t.Fatalf("ROUNDS=%s", text)
+	}
+	return rounds
+}
+
 // ROUNDS=200 tries 50,000 values.
 func TestRandomValues(t *testing.T) {
-	rounds := 30
-	if n, err := strconv.Atoi(os.Getenv("ROUNDS")); err == nil {
-		rounds = n
-	}
-	values := 0
+	rounds, values := roundsOfTest(t), 0
 	for seed := 0; seed < rounds; seed++ {
 		r := rand.New(rand.NewSource(int64(seed)))
 		text, all := randomRegistry(r)
@@ -396,7 +405,7 @@ func TestRandomValues(t *testing.T) {
 			}
 		}
 	}
-	if values < 250*rounds || rounds == 0 {
+	if values < 250*rounds {
 		t.Errorf("only %d values", values)
 	}
 }

@@ -79,6 +79,91 @@ func TestClosingDuringCalls(t *testing.T) {
 	}
 }
 
+// slowCalls take long enough to be running when Close is called, and call C several times.
+func slowCalls(t *testing.T) map[string]func(r *Registry) error {
+	const count = 200_000
+	list, table, numbers, entries := `{"SEQ":"U16"}`, `{"MAP":{"KEY":"U32","VALUE":"U8"}}`, make([]uint16, count), make([]pairOf[uint32, uint8], count)
+	for i := range entries[1:] {
+		entries[i].Key = uint32(i)
+	}
+	text, data := []byte("["+strings.Repeat("7,", count)+"x]"), append(uleb(count), make([]byte, 2*count)...)
+	damaged := data[:len(data)-1]
+	return map[string]func(r *Registry) error{
+		"Encode": func(r *Registry) error { _, err := r.Encode(list, numbers); return err },
+		"Encode, refused": func(r *Registry) error {
+			_, err := r.Encode(table, entries)
+			return expect(err, KindText, "RepeatedKey")
+		},
+		"Decode":       func(r *Registry) error { _, err := r.Decode(list, data); return err },
+		"Unmarshal":    func(r *Registry) error { return r.Unmarshal(list, data, new([]uint16)) },
+		"DecodePrefix": func(r *Registry) error { _, _, err := r.DecodePrefix(list, data); return err },
+		"DecodePrefixJSON": func(r *Registry) error {
+			_, _, err := r.DecodePrefixJSON(list, data)
+			return err
+		},
+		"DecodeJSON, refused": func(r *Registry) error {
+			_, err := r.DecodeJSON(list, damaged)
+			return expect(err, KindBytes, "EndOfInput")
+		},
+		"EncodeJSON, refused": func(r *Registry) error {
+			_, err := r.EncodeJSON(list, text)
+			return expect(err, KindText, "NotJson")
+		},
+		"Explain": func(r *Registry) error {
+			explained, err := r.Explain(list, damaged, FormWays)
+			if err != nil {
+				return err
+			}
+			return expect(explained.Damage, KindBytes, "EndOfInput")
+		},
+	}
+}
+
+// expect returns the error unless it is this refusal, with a place.
+func expect(err error, kind Kind, reason string) error {
+	refused, is := err.(*Error)
+	if !is || refused == nil || refused.Kind != kind || refused.Reason != reason || refused.Message == "" {
+		return err
+	}
+	return nil
+}
+
+// closedDuring closes a registry while a call runs, and returns the call's error; isSeen is whether the call was running then.
+func closedDuring(registry *Registry, call func(r *Registry) error) (isSeen bool, err error) {
+	ended := make(chan error, 1)
+	go func() { ended <- call(registry) }()
+	for registry.shared.lock.TryLock() { // it hasn't begun, or has ended
+		registry.shared.lock.Unlock()
+		runtime.Gosched()
+		if len(ended) > 0 {
+			return false, <-ended
+		}
+	}
+	registry.Close()
+	return true, <-ended
+}
+
+// A call that is running when Close is called ends with its own answer.
+func TestClosingDuringSlowCalls(t *testing.T) {
+	for name, call := range slowCalls(t) {
+		isSeen := false
+		for try := 0; try < 100 && !isSeen; try++ {
+			registry := open(t, "{}")
+			var err error
+			if isSeen, err = closedDuring(registry, call); err != nil {
+				t.Errorf("%s: %v", name, err)
+			}
+			registry.Close()
+			if err := call(registry); err != ErrClosed {
+				t.Errorf("%s of a closed registry: %v", name, err)
+			}
+		}
+		if !isSeen {
+			t.Errorf("%s always ended before it was seen", name)
+		}
+	}
+}
+
 // Registries that aren't closed are freed by the garbage collector. One needs almost a megabyte.
 func TestCollecting(t *testing.T) {
 	text := string(example(t, "many_containers.json"))
@@ -172,9 +257,23 @@ func TestStack(t *testing.T) {
 		return
 	}
 	registry := open(t, deep)
-	length, err := registry.Scan("C", deepData)
-	if isDone := length == len(deepData) && err == nil; isDone != (kibibytes == "8192") || !isDone && err != ErrMemory {
-		t.Error(kibibytes, length, err)
+	_, encoded := registry.EncodeJSON("C", bytes.Repeat([]byte{'['}, 50_000))
+	_, opened := Open(bytes.Repeat([]byte{'['}, 50_000))
+	_, scanned := registry.Scan("C", deepData)
+	_, decoded := registry.Decode("C", deepData)
+	for call, err := range map[string]error{"scan": scanned, "decode": decoded} {
+		var refused *Error
+		if isStack := errors.As(err, &refused) && refused.Kind == KindStack; isStack != (kibibytes == "512") {
+			t.Errorf("%s with %s KiB: %v", call, kibibytes, err)
+		}
+	}
+	for call, err := range map[string]error{"encode": encoded, "open": opened} {
+		if err == nil || err.(*Error).Reason != "NotJson" {
+			t.Errorf("%s with %s KiB: %v", call, kibibytes, err)
+		}
+	}
+	if kibibytes == "512" && scanned.Error() != "refused: the thread has too little stack left" {
+		t.Error(scanned)
 	}
 	if length, err := registry.Scan("C", []byte{1, 0, 0}); length != 2 || err != nil {
 		t.Error(length, err)

@@ -43,6 +43,10 @@ run "go test -race" go test -race -v .
 ran=$(grep -c '^--- PASS' "$room/log") || fail "go test -race ran no test"
 echo "go: $ran tests, under the race detector"
 
+# Memory that C has freed is overwritten.
+run "go test, closing registries" env MALLOC_PERTURB_=165 go test -count 3 -run Closing .
+echo "go: registries are closed while calls run, and freed memory is overwritten"
+
 # Any pointer that Go passes to C is checked, not just those of arguments.
 run "go test, with all pointers checked" env GODEBUG=cgocheck=2 go test .
 echo "go: the tests, with all pointers checked"
@@ -75,31 +79,43 @@ go build -o "$room/driver" ./driver || fail "the driver"
 run "the rows" python3 "$root/tests/rows" go "$room/driver"
 echo "go: $(tail -n 1 "$room/log")"
 
+run "the types of registries" env BCS_LIBRARY="$prefix/lib/libbcs.so" python3 "$here/tests/declared.py" "$room/module"
+echo "go: $(tail -n 1 "$room/log")"
+
 # What tools/packages.py makes, as its users have it: with `go get`, and with `go mod vendor`.
 python3 "$here/tests/package.py" "$prefix/lib/libbcs.a" "$room" || fail "the package"
 cd "$room"
 tar -xzf bcs-go-*.tar.gz
-mkdir wallet
-sed -e 's/^package .*/package main/; s/^func Example_wallet/func main/; /\/\/ Output:/,/\/\/ [A-Z]/{/^}/!d}' \
-    module/example_test.go >wallet/main.go
-sed -n '/\/\/ Output:/,$s/^\t\/\/ \(.*\)/\1/p' module/example_test.go | sed 1d >expected
-[ "$(wc -l <expected)" = 3 ] || fail "the example doesn't say what it prints"
-cd wallet
+mkdir wallet readme
+cp "$root/examples/wallet/wallet.go" wallet/main.go
+{
+    # The SHA3-256 of "APTOS::RawTransaction" comes first in what Aptos signs.
+    printf 'b5e97db07fa0bd0e5598aa3643a9bc6f6693bddc1a9fec9e674a461eaa00b193'
+    cat "$root/examples/aptos_transfer.hex" "$root/examples/aptos_transfer_normal.json"
+    echo "BadHex /sender"
+    echo "EndOfInput 100 .payload::EntryFunction.ty_args[0]::Struct.address"
+} >wallet/expected
+# shellcheck disable=SC2016 # these quotes are in the README
+sed -n '/^```go$/,/^```$/p' "$here/README.md" | sed '1d; /^```$/,$d' >readme/main.go
+sed -n 's,^.*Print.* // ,,p' readme/main.go >readme/expected
+[ "$(wc -l <readme/expected)" = 2 ] || fail "the program of the README doesn't say what it prints"
 
-# wallet NAME GO_RUN..: the wallet prints what its example says.
-wallet() {
+# prints NAME GO_RUN..: the program in this folder prints what it should.
+prints() {
     local name="$1"
     shift
-    "$@" >"$room/printed" || fail "$name"
-    diff "$room/expected" "$room/printed" || fail "$name prints something else"
+    "$@" >printed || fail "$name"
+    diff expected printed || fail "$name prints something else"
 }
 version=$(sed -n 's/.*BCS_VERSION "\(.*\)"/\1/p' "$prefix/include/bcs.h")
-run "go mod init" go mod init wallet.example/wallet
-GOPROXY=file://$(echo "$room"/bcs-go-*/)
-export GOPROXY GONOSUMDB=fodrascu.example
-run "go get" go get "fodrascu.example/bcsproved@v$version"
-wallet "the wallet" go run .
-export GOPROXY=off
-run "go mod vendor" go mod vendor
-wallet "the wallet, with its modules vendored" go run -mod=vendor .
-echo "go: a wallet with the package, by go get and with its modules vendored"
+package=file://$(echo "$room"/bcs-go-*/)
+export GONOSUMDB=fodrascu.example
+for program in wallet readme; do
+    cd "$room/$program"
+    run "go mod init" go mod init "$program.example/$program"
+    run "go get" env GOPROXY="$package" go get "fodrascu.example/bcsproved@v$version"
+    prints "the $program" go run . "$root/examples"
+    run "go mod vendor" go mod vendor
+    prints "the $program, with its modules vendored" go run -mod=vendor . "$root/examples"
+done
+echo "go: a wallet and the program of the README with the package, by go get and with its modules vendored"

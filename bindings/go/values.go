@@ -1,11 +1,11 @@
 package bcsproved
 
 import (
-	"errors"
 	"fmt"
 	"reflect"
 	"strings"
 	"sync"
+	"unicode/utf8"
 )
 
 // Hex is a byte string as hexadecimal digits of either case, without 0x.
@@ -19,6 +19,12 @@ type Variant struct {
 
 // Entry is an entry of a map. Any struct with just the fields Key and Value, in this order, is one too.
 type Entry struct{ Key, Value any }
+
+// EntryOf is an entry of a map with types of its own. A slice of them holds any map, also one whose keys can't be those of Go's.
+type EntryOf[K, V any] struct {
+	Key   K
+	Value V
+}
 
 // Some is an option that holds a value, as Decode returns it; nil is one that doesn't. Encode also takes pointers.
 type Some struct{ Value any }
@@ -44,13 +50,18 @@ func (names Names) orDefault() Names {
 }
 
 // Encode returns the bytes of a Go value. The README has a table of the types that each format takes. A value of another type
-// is an *Error of KindValue, or KindType if no value of that type can be one of the format.
+// is an *Error of KindValue.
 func (r *Registry) Encode(format string, value any) ([]byte, error) {
-	text, err := r.toJSON(format, value)
+	q, err := r.ask(format)
 	if err != nil {
 		return nil, err
 	}
-	return r.EncodeJSON(format, text)
+	defer q.end()
+	text, err := q.textOf(value)
+	if err != nil {
+		return nil, err
+	}
+	return q.encodeJSON(text)
 }
 
 // Decode returns the Go value that the whole of data encodes. The README has the type for each format.
@@ -62,35 +73,50 @@ func (r *Registry) Decode(format string, data []byte) (any, error) {
 
 // DecodePrefix returns the Go value at the beginning of data, and how many bytes it has. What follows isn't read.
 func (r *Registry) DecodePrefix(format string, data []byte) (any, int, error) {
-	length, limited, err := r.prefix(format, data)
+	q, err := r.askAbout(format, data)
 	if err != nil {
 		return nil, 0, err
 	}
-	value, err := limited.Decode(format, data[:length])
+	defer q.end()
+	length, err := q.scan(data)
+	if err != nil {
+		return nil, 0, err
+	}
+	var value any
+	err = q.unmarshal(data[:length], &value)
 	return value, length, err
 }
 
 // Unmarshal stores the value that the whole of data encodes in the variable that the pointer leads to. A type that can't hold
 // every value of the format's numbers is rejected before the bytes are read. On an error the variable stays as it was.
 func (r *Registry) Unmarshal(format string, data []byte, pointer any) error {
+	q, err := r.askAbout(format, data)
+	if err != nil {
+		return err
+	}
+	defer q.end()
+	return q.unmarshal(data, pointer)
+}
+
+func (q *question) unmarshal(data []byte, pointer any) error {
+	codec, n, err := q.root()
+	if err != nil {
+		return err
+	}
 	variable := reflect.ValueOf(pointer)
 	if variable.Kind() != reflect.Pointer || variable.IsNil() {
-		return errors.New("bcs: Unmarshal takes a pointer that isn't nil")
+		return n.reject("needs a pointer that isn't nil for its value, not %s", fmt.Sprintf("%T", pointer))
 	}
-	codec, n, err := r.root(format)
+	decoder, err := codec.decoder(n, variable.Type().Elem())
 	if err != nil {
 		return err
 	}
-	decode, err := codec.decoder(n, variable.Type().Elem())
-	if err != nil {
-		return err
-	}
-	text, err := r.DecodeJSON(format, data)
+	text, err := q.decodeJSON(data)
 	if err != nil {
 		return err
 	}
 	room := reflect.New(variable.Type().Elem()).Elem()
-	if err := decode.whole(&reader{text: text}, room); err != nil {
+	if err := (&reader{text: text}).whole(decoder, room); err != nil {
 		return err
 	}
 	variable.Elem().Set(room)
@@ -100,7 +126,12 @@ func (r *Registry) Unmarshal(format string, data []byte, pointer any) error {
 // CheckType returns an error unless values of the type of `value` can be passed to Encode, and to Unmarshal by a pointer. Call
 // it when your program starts.
 func (r *Registry) CheckType(format string, value any) error {
-	codec, n, err := r.root(format)
+	q, err := r.ask(format)
+	if err != nil {
+		return err
+	}
+	defer q.end()
+	codec, n, err := q.root()
 	if err != nil {
 		return err
 	}
@@ -115,30 +146,17 @@ func (r *Registry) CheckType(format string, value any) error {
 	return err
 }
 
-// toJSON returns the JSON document of a value, which the proved call reads.
-func (r *Registry) toJSON(format string, value any) ([]byte, error) {
-	codec, n, err := r.root(format)
+// textOf returns the JSON document of a value, which the proved call reads.
+func (q *question) textOf(value any) ([]byte, error) {
+	codec, n, err := q.root()
 	if err != nil {
 		return nil, err
 	}
-	w := &writer{codec: codec, out: make([]byte, 0, 512), nodes: StandardLimits().Nodes}
-	if r.limits != nil {
-		w.nodes = r.limits.Nodes
-	}
+	w := &writer{codec: codec, out: make([]byte, 0, 512), nodes: uint32(q.nodes)}
 	if err := w.dynamic(n, reflect.ValueOf(value), true); err != nil {
-		return nil, asValue(err)
+		return nil, err
 	}
 	return w.out, nil
-}
-
-// asValue returns the error of Encode, which rejects a value even where its type is to blame.
-func asValue(err error) error {
-	if rejected, is := err.(*Error); is && rejected.Kind == KindType {
-		moved := *rejected
-		moved.Kind = KindValue
-		return &moved
-	}
-	return err
 }
 
 // mostFormats bounds how many formats a registry remembers, since they may come from strangers.
@@ -149,38 +167,23 @@ type codec struct {
 	containers containers
 	lock       sync.Mutex
 	roots      map[string]*node
-	encoders   map[pair]encoderOrError
-	decoders   map[pair]decoderOrError
-}
-
-type pair struct {
-	n *node
-	t reflect.Type
-}
-
-type encoderOrError struct {
-	encoder *encoder
-	err     error
-}
-
-type decoderOrError struct {
-	decoder *decoder
-	err     error
+	encoders   converters[encode]
+	decoders   converters[decode]
 }
 
 func (c *codec) forget() {
-	c.roots, c.encoders, c.decoders = map[string]*node{}, map[pair]encoderOrError{}, map[pair]decoderOrError{}
+	c.roots, c.encoders, c.decoders = map[string]*node{}, newConverters[encode](), newConverters[decode]()
 }
 
-// codecOf reads the registry's formats when the first value is encoded or decoded.
-func (r *Registry) codecOf() (*codec, error) {
-	shared := r.shared
+// codec reads the registry's formats when the first value is encoded or decoded.
+func (q *question) codec() (*codec, error) {
+	shared := q.shared
 	shared.valuesLock.Lock()
 	defer shared.valuesLock.Unlock()
 	if shared.codec != nil {
 		return shared.codec, nil
 	}
-	shown, err := r.Show("", FormJSON)
+	shown, err := q.show("", FormJSON)
 	if err != nil {
 		return nil, err
 	}
@@ -193,44 +196,76 @@ func (r *Registry) codecOf() (*codec, error) {
 	return shared.codec, nil
 }
 
-// root returns the node of a format.
-func (r *Registry) root(format string) (*codec, *node, error) {
-	c, err := r.codecOf()
+// root returns the node of the format.
+func (q *question) root() (*codec, *node, error) {
+	c, err := q.codec()
 	if err != nil {
 		return nil, nil, err
 	}
-	c.lock.Lock()
-	n := c.roots[format]
-	c.lock.Unlock()
-	if n != nil {
+	if n := c.root(q.word); n != nil {
 		return c, n, nil
 	}
-	if err := r.Check(format); err != nil {
+	if err := q.check(); err != nil {
 		return nil, nil, err
 	}
-	n = c.containers[format]
-	if strings.HasPrefix(format, "{") || strings.HasPrefix(format, `"`) {
-		parsed, err := parse(format)
+	n := c.containers[q.word]
+	if strings.HasPrefix(q.word, "{") || strings.HasPrefix(q.word, `"`) {
+		parsed, err := parse(q.word)
 		if err != nil {
 			return nil, nil, err
 		}
 		n = c.containers.format(parsed)
 	}
+	return c, c.remember(q.word, n), nil
+}
+
+// root returns the node of a format that was used before, or nil.
+func (c *codec) root(format string) *node {
 	c.lock.Lock()
 	defer c.lock.Unlock()
+	return c.roots[format]
+}
+
+// remember returns the node of a format: this one, unless another goroutine was faster.
+func (c *codec) remember(format string, n *node) *node {
+	c.lock.Lock()
+	defer c.lock.Unlock()
+	if known := c.roots[format]; known != nil {
+		return known
+	}
 	if len(c.roots) >= mostFormats {
 		c.forget()
 	}
-	if known := c.roots[format]; known != nil {
-		return c, known, nil
-	}
 	c.roots[format] = n
-	return c, n, nil
+	return n
 }
 
-// reject returns the error for a type or a value that can't stand for the format.
+// reject returns the error for a type or a value that can't stand for the format. Names in it may be long and strange.
 func (n *node) reject(problem string, arguments ...any) *Error {
-	return &Error{Kind: KindType, Reason: wrongType, Place: -1, Message: n.text + " " + fmt.Sprintf(problem, arguments...)}
+	for i, argument := range arguments {
+		switch argument := argument.(type) {
+		case string:
+			arguments[i] = shortened(argument)
+		case reflect.Type:
+			arguments[i] = shortened(argument.String())
+		}
+	}
+	return &Error{Kind: KindValue, Reason: wrongType, Place: -1, Message: n.String() + " " + fmt.Sprintf(problem, arguments...)}
+}
+
+// mostQuoted is how many bytes of a name an error quotes.
+const mostQuoted = 200
+
+// shortened returns the whole characters that fit, as the program bcs does.
+func shortened(s string) string {
+	if len(s) <= mostQuoted {
+		return s
+	}
+	end := mostQuoted
+	for end > 0 && !utf8.RuneStart(s[end]) {
+		end--
+	}
+	return s[:end] + "...(cut)"
 }
 
 // mismatch returns the error for another type than those that the format takes.
@@ -245,17 +280,5 @@ func (n *node) mismatch(t reflect.Type) *Error {
 	return n.reject("takes %s, not %s", n.takes(), found)
 }
 
-// wrongType is the reason of errors of KindValue and KindType.
+// wrongType is the reason of errors of KindValue.
 const wrongType = "WrongType"
-
-var escapeStep = strings.NewReplacer("~", "~0", "/", "~1")
-
-// under puts a step before the JSON Pointer of an error. "-" is each element of a list.
-func under(err error, step any) error {
-	if rejected, is := err.(*Error); is && rejected != nil {
-		moved := *rejected
-		moved.At = "/" + escapeStep.Replace(fmt.Sprint(step)) + rejected.At
-		return &moved
-	}
-	return err
-}

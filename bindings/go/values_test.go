@@ -1,6 +1,7 @@
 package bcsproved
 
 import (
+	"bytes"
 	"encoding/hex"
 	"encoding/json"
 	"errors"
@@ -161,7 +162,7 @@ func TestTableOfValues(t *testing.T) {
 			switch {
 			case ok && (err != nil || hex.EncodeToString(data) != bytes):
 				t.Errorf("%T %v at %s: %x, %v, not %s", row.value, row.value, name, data, err, bytes)
-			case proved && (refused == nil || refused.Kind != KindJSON || refused.Reason != "RepeatedKey"):
+			case proved && (refused == nil || refused.Kind != KindText || refused.Reason != "RepeatedKey"):
 				t.Errorf("%T %v at %s: %x, %v", row.value, row.value, name, data, err)
 			case !ok && !proved && (refused == nil || refused.Kind != KindValue || refused.Reason != "WrongType"):
 				t.Errorf("%T %v at %s: %x, %v, not refused", row.value, row.value, name, data, err)
@@ -217,6 +218,8 @@ func TestErrors(t *testing.T) {
 	}
 	cycle := &list{}
 	cycle.Next = cycle
+	var endless any
+	endless = &endless
 	type self *self
 	var me self
 	me = &me
@@ -235,7 +238,10 @@ func TestErrors(t *testing.T) {
 		{"E", Variant{"Pair", []any{1, 256}}, "refused: WrongType at /Pair/1: U8 doesn't hold 256"},
 		{"L", cycle, "is there a cycle of pointers"},
 		{"L", me, "takes a struct or a map[string]T, not bcsproved.self"},
-		{"C", 7, "is there a cycle"},
+		{"C", 7, "refused: WrongType: C has no values"},
+		{"C", nil, "refused: WrongType: C has no values"},
+		{"C", Some{1}, "refused: WrongType: C has no values"},
+		{`"BYTES"`, []any{1, endless}, "refused: WrongType at /1: U8 takes an integer, not interface {}"},
 		{`"F32"`, 7, "F32 has no values, not int"},
 		{`{"SEQ":"U8"}`, []fmt.Stringer{}, "at /-: U8 takes an integer, not fmt.Stringer"},
 		{"P", map[string]any{"to": "b", "amount": (*uint64)(nil)}, "refused: WrongType at /amount: U64 takes no nil of type *uint64 inside an interface"},
@@ -285,8 +291,8 @@ func TestUnmarshal(t *testing.T) {
 		{`"BYTES"`, "020102", new([]myByte), "[1 2]"}, {`"BYTES"`, "020102", new(Hex), "0102"}, {`{"SEQ":"U8"}`, "020102", new([]any), "takes bytes, or Hex(…) for digits, not []interface {}"},
 		{`{"SEQ":"U16"}`, "0201000200", new([2]uint16), "[1 2]"}, {`{"SEQ":"U16"}`, "0201000200", new([3]uint16), "fewer"},
 		{`{"SEQ":"U16"}`, "0201000200", new([1]uint16), "/1: "}, {`{"OPTION":"U8"}`, "00", new(uint8), "takes a pointer"},
-		{`{"MAP":{"KEY":"U8","VALUE":"U8"}}`, "0101020304", new(map[uint8]uint8), "refused: TrailingBytes at 3, .: wanted the end"},
-		{`{"MAP":{"KEY":"U8","VALUE":"U8"}}`, "010102", new(map[uint8]uint8), "map[1:2]"}, {`{"MAP":{"KEY":"U8","VALUE":"U8"}}`, "010102", new(map[any]uint8), "as keys"},
+		{`{"MAP":{"KEY":"U8","VALUE":"U8"}}`, "0101020304", new(map[uint8]uint8), "refused: TrailingBytes at byte 3, .: wanted the end"},
+		{`{"MAP":{"KEY":"U8","VALUE":"U8"}}`, "010102", new(map[uint8]uint8), "map[1:2]"}, {`{"MAP":{"KEY":"U8","VALUE":"U8"}}`, "010102", new(map[any]uint8), "in the keys of a map"},
 		{"O", "0103010203", new(o), "{1 [1 2 3]}"}, {"O", "01020102", bad, "/k: BYTES has 2 bytes"}, {"O", "0103010203", new(map[string]any), "map[\b:1 k:[1 2 3]]"},
 	} {
 		data, _ := hex.DecodeString(row.data)
@@ -305,6 +311,80 @@ func TestUnmarshal(t *testing.T) {
 	}
 	if *bad != (o{9, [3]byte{9}}) {
 		t.Error(bad)
+	}
+}
+
+// Keys of Go maps are compared by what they contain, so there are no pointers in them; and what is decoded may be no key.
+func TestKeysOfMaps(t *testing.T) {
+	c := open(t, valueShapes)
+	type of[T any] struct {
+		A T `bcs:"0"`
+	}
+	pairs, tuples := `{"MAP":{"KEY":{"TUPLEARRAY":{"CONTENT":"U16","SIZE":2}},"VALUE":"U8"}}`, `{"MAP":{"KEY":{"TUPLE":["U8"]},"VALUE":"U8"}}`
+	pointers, interfaces := "takes no pointers in the keys of a map", "takes no interfaces in the keys of a map when decoded"
+	for _, row := range []struct {
+		format           string
+		value            any
+		encoded, decoded string // the bytes, or the error
+	}{
+		{pairs, map[[2]uint16]uint8{{1, 2}: 3}, "010100020003", "010100020003"},
+		{pairs, map[[2]any]uint8{{1, 2}: 3}, "010100020003", interfaces},
+		{pairs, map[any]uint8{[2]int{1, 2}: 3}, "010100020003", interfaces},
+		{pairs, map[[2]*uint16]uint8{}, pointers, pointers},
+		{pairs, map[*[2]uint16]uint8{}, pointers, pointers},
+		{pairs, map[any]uint8{&[2]int{1, 2}: 3}, "at /0/0: " + `{"TUPLEARRAY":{"CONTENT":"U16","SIZE":2}} ` + pointers, interfaces},
+		{pairs, map[[2]any]uint8{{1, ptr(2)}: 3}, "at /0/0/1: U16 " + pointers, interfaces},
+		{pairs, []Entry{{&[2]int{1, 2}, 3}}, "010100020003", "010100020003"},
+		{tuples, map[of[uint8]]uint8{{1}: 2}, "010102", "010102"},
+		{tuples, map[[1]of[int]]uint8{}, "at /-/0/0: U8 takes an integer, not bcsproved.of[int]", "at /-/0/0: U8 takes an integer"},
+		{tuples, map[of[any]]uint8{{1}: 2}, "010102", interfaces},
+		{tuples, map[[1]of[any]]uint8{}, "at /-/0/0: U8 takes an integer", interfaces},
+		{tuples, map[of[of[any]]]uint8{}, "at /-/0/0: U8 takes an integer", interfaces},
+		{tuples, map[of[*uint8]]uint8{}, pointers, pointers},
+		{tuples, map[of[[3]of[*uint8]]]uint8{}, pointers, pointers},
+		{`{"MAP":{"KEY":{"TYPENAME":"E"},"VALUE":"U8"}}`, map[Variant]uint8{{"Dot", nil}: 1}, "010001", interfaces},
+		{`{"MAP":{"KEY":{"OPTION":"U8"},"VALUE":"U8"}}`, map[Some]uint8{{1}: 2}, "01010102", interfaces},
+		{`{"MAP":{"KEY":{"OPTION":"U8"},"VALUE":"U8"}}`, map[Some]uint8{{ptr(1)}: 2}, "at /0/0/some: U8 " + pointers, interfaces},
+	} {
+		data, err := c.Encode(row.format, row.value)
+		if got := fmt.Sprintf("%x %v", data, err); !strings.Contains(got, row.encoded) || (err == nil) != (row.encoded == hex.EncodeToString(data)) {
+			t.Errorf("%T at %s: %s, not %s", row.value, row.format, got, row.encoded)
+		}
+		variable := reflect.New(reflect.TypeOf(row.value))
+		err = c.Unmarshal(row.format, data, variable.Interface())
+		got := fmt.Sprint(err)
+		if err == nil {
+			again, _ := c.Encode(row.format, variable.Elem().Interface())
+			got = hex.EncodeToString(again)
+		}
+		if !strings.Contains(got, row.decoded) {
+			t.Errorf("%s into %T: %s, not %s", row.format, row.value, got, row.decoded)
+		}
+	}
+}
+
+// Names in errors are cut, as the program cuts them.
+func TestLongNames(t *testing.T) {
+	long := strings.Repeat("é", 1<<20)
+	cut := strings.Repeat("é", 100) + "...(cut)"
+	registry := open(t, `{"S":{"STRUCT":[{"a":"U8"}]},"E":{"ENUM":{"0":{"A":"UNIT"}}},"`+long+`":{"STRUCT":[{"`+long+`":"U8"}]}}`)
+	for _, row := range []struct {
+		format string
+		value  any
+		want   string
+	}{
+		{"S", map[string]any{"a": 1, long: 1}, fmt.Sprintf("S has no field %q", cut)},
+		{"E", Variant{long, nil}, fmt.Sprintf("E has no variant %q", cut)},
+		{long, map[string]any{}, fmt.Sprintf("%s needs the field %q", cut, cut)},
+		{long, struct{}{}, fmt.Sprintf("%s needs a field for %q in struct {}", cut, cut)},
+		{long, 1, cut + " takes a struct or a map[string]T, not int"},
+		{"a" + long, 1, ""},
+		{`{"TUPLE":["U8"` + strings.Repeat(`,"U8"`, 1000) + `]}`, 1, `{"TUPLE":["U8"` + strings.Repeat(`,"U8"`, 37) + `,...(cut) takes a slice`},
+	} {
+		_, err := registry.Encode(row.format, row.value)
+		if message := fmt.Sprint(err); !strings.Contains(message, row.want) || len(message) > 1500 {
+			t.Errorf("%.300v, not %s", message, row.want)
+		}
 	}
 }
 
@@ -327,14 +407,41 @@ func TestTransactionAsValues(t *testing.T) {
 
 // Names that the registry doesn't have are rejected, except the default ones.
 func TestNamesOfContainers(t *testing.T) {
-	registry, err := Open([]byte(`{"A":{"NEWTYPESTRUCT":"BYTES"}}`), Names{Addresses: []string{"A"}})
+	bytes32 := `{"NEWTYPESTRUCT":{"TUPLEARRAY":{"CONTENT":"U8","SIZE":32}}}`
+	text := []byte(`{"A":{"NEWTYPESTRUCT":"BYTES"},"AccountAddress":` + bytes32 + `,"U256":` + bytes32 + `,"Int":` + bytes32 + `,"address":` + bytes32 + `}`)
+	for _, name := range []string{"A", "B", "u256", "i256", "\n" + strings.Repeat("B", 1000)} {
+		for _, names := range []Names{{Addresses: []string{name}}, {U256: []string{"U256", name}}, {I256: []string{name}}} {
+			registry, err := Open(text, names)
+			want := fmt.Sprintf("refused: UnknownName: Names: no newtype of 32 bytes is called %.200q", name)
+			if isStandard := name == "u256" || name == "i256"; isStandard != (err == nil) || err != nil && !strings.HasPrefix(err.Error(), want[:len(want)-1]) {
+				t.Errorf("%v %v", registry, err)
+			}
+		}
+	}
+	registry, err := Open(text, Names{[]string{"AccountAddress"}, []string{"U256"}, []string{"Int"}})
 	if err != nil {
 		t.Fatal(err)
 	}
-	if _, err := registry.Encode("A", []byte{1}); err == nil || !strings.Contains(err.Error(), `no newtype of 32 bytes called "A"`) {
-		t.Error(err)
+	for _, row := range []struct {
+		format, data string
+		value        any
+	}{
+		{"AccountAddress", strings.Repeat("00", 31) + "0a", "0x" + strings.Repeat("0", 63) + "a"},
+		{"U256", "ff" + strings.Repeat("00", 31), big.NewInt(255)},
+		{"Int", "fe" + strings.Repeat("ff", 31), big.NewInt(-2)},
+		{"address", "fe" + strings.Repeat("ff", 31), append([]byte{254}, bytes.Repeat([]byte{255}, 31)...)}, // since Names has others
+	} {
+		data, err := registry.Encode(row.format, row.value)
+		back, err2 := registry.Decode(row.format, unhex(t, row.data))
+		if hex.EncodeToString(data) != row.data || !reflect.DeepEqual(back, row.value) || err != nil || err2 != nil {
+			t.Errorf("%s: %x %v %v %v", row.format, data, back, err, err2)
+		}
 	}
-	registry = open(t, valueShapes)
+}
+
+// Integers of 256 bits are little-endian, in two's complement.
+func TestWideIntegers(t *testing.T) {
+	registry := open(t, valueShapes)
 	for text, want := range map[string]string{"-1": strings.Repeat("ff", 32), "-57896044618658097711785492504343953926634992332820282019728792003956564819968": strings.Repeat("00", 31) + "80"} {
 		x, _ := new(big.Int).SetString(text, 10)
 		data, err := registry.Encode("i256", x)
@@ -343,6 +450,65 @@ func TestNamesOfContainers(t *testing.T) {
 		}
 		if back, err := registry.Decode("i256", data); err != nil || back.(*big.Int).Cmp(x) != 0 {
 			t.Errorf("%s: %v %v", text, back, err)
+		}
+	}
+}
+
+// A string is never bytes, whatever it looks like.
+func TestStringsAreNoBytes(t *testing.T) {
+	registry := open(t, `{"M":{"STRUCT":[{"memo":{"SEQ":"U8"}}]},"B":{"STRUCT":[{"memo":"BYTES"}]},"A":{"STRUCT":[{"memo":{"TUPLEARRAY":{"CONTENT":"U8","SIZE":2}}}]}}`)
+	type memo struct{ Memo any }
+	for format, text := range map[string]string{"M": `{"SEQ":"U8"}`, "B": "BYTES", "A": `{"TUPLEARRAY":{"CONTENT":"U8","SIZE":2}}`} {
+		for _, digits := range []string{"cafe", "hello", "1234", "AbCd", "", "0x1"} {
+			want := Error{KindValue, "WrongType", -1, "/memo", text + " takes bytes, or Hex(…) for digits, not string"}
+			for _, value := range []any{map[string]any{"memo": digits}, map[string]string{"memo": digits}, memo{digits}, struct{ Memo string }{digits}} {
+				if data, err := registry.Encode(format, value); err == nil || *err.(*Error) != want {
+					t.Errorf("%#v: %x %v", value, data, err)
+				}
+			}
+			if err := registry.CheckType(format, struct{ Memo string }{}); err == nil || *err.(*Error) != want {
+				t.Error(err)
+			}
+		}
+		data, err := registry.Encode(format, memo{Hex("cafe")})
+		if err != nil || !bytes.HasSuffix(data, []byte{0xca, 0xfe}) {
+			t.Errorf("%x %v", data, err)
+		}
+	}
+}
+
+// What Decode returns has the same bytes again, at each format.
+func TestThereAndBack(t *testing.T) {
+	for name, formats := range map[string][]string{"every_format": nil, "aptos_registry": nil, "sui_registry": nil, "": nil} {
+		text, count := valueShapes, 0
+		if name != "" {
+			text = string(example(t, name+".json"))
+		}
+		var containers map[string]any
+		if err := json.Unmarshal([]byte(text), &containers); err != nil {
+			t.Fatal(err)
+		}
+		for container := range containers {
+			formats = append(formats, container)
+		}
+		for _, format := range formatsOfTable {
+			if name == "" {
+				formats = append(formats, format)
+			}
+		}
+		registry := open(t, text)
+		for _, format := range formats {
+			for _, data := range samples(registry, format) {
+				value, err := registry.Decode(format, data)
+				again, err2 := registry.Encode(format, value)
+				if err != nil || err2 != nil || !bytes.Equal(again, data) {
+					t.Errorf("%s: %x became %v, and that %x: %v, %v", format, data, value, again, err, err2)
+				}
+				count++
+			}
+		}
+		if count < len(containers) {
+			t.Errorf("%s: only %d values", name, count)
 		}
 	}
 }

@@ -45,8 +45,8 @@ func done(place, length int) string {
 const no = "no\t-\t0\t0\t"
 
 var statuses = map[bcs.Kind]string{bcs.KindRegistry: "registry", bcs.KindNewer: "newer", bcs.KindFormat: "format",
-	bcs.KindLimits: "limits", bcs.KindPath: "path", bcs.KindJSON: "refused", bcs.KindBytes: "refused",
-	bcs.KindGrowth: "refused"}
+	bcs.KindLimits: "limits", bcs.KindPath: "path", bcs.KindText: "refused", bcs.KindBytes: "refused",
+	bcs.KindGrowth: "refused", bcs.KindStack: "stack"}
 
 // failed answers an error; the answer of a call without one is `otherwise`.
 func failed(err error, otherwise string) string {
@@ -78,7 +78,7 @@ func told(err error, what string) string {
 	if !errors.As(err, &refused) {
 		return failed(err, no)
 	}
-	if refused.Kind != bcs.KindJSON && refused.Kind != bcs.KindBytes && refused.Kind != bcs.KindRegistry {
+	if refused.Kind != bcs.KindText && refused.Kind != bcs.KindBytes && refused.Kind != bcs.KindRegistry {
 		return failed(err, no)
 	}
 	if refused.Message == "" {
