@@ -265,7 +265,11 @@ def unsafe_table() -> list[str]:
 
 # What isn't Rattle and runs with the proved code, or makes it.
 GLUE = {
-    "start of the program, its test of the processor, and its heap": ["tools/link/*.c"],
+    "start of the program, its stack, its test of the processor, and its heap": [
+        "tools/link/*.c",
+        "tools/link/*.h",
+        "bindings/hosts/statx.h",
+    ],
     "start and host of the program on arm64, and of its library's calls": [
         "bindings/arm64/start.c",
         "bindings/arm64/shims.py",

@@ -207,6 +207,22 @@ static u32 Z_envZ_unlink(HOST, u64 path) {
     return (u32)told(unlink(text_at(path)));
 }
 
+/* The program is linked with these and doesn't call them. */
+static u32 Z_envZ_ftruncate(HOST, u32 file, u64 length) {
+    (void)host, (void)file, (void)length;
+    return (u32)refused(EINVAL);
+}
+
+static u32 Z_envZ_fdatasync(HOST, u32 file) {
+    (void)host, (void)file;
+    return (u32)refused(EINVAL);
+}
+
+static u32 Z_envZ_flock(HOST, u32 file, u32 how) {
+    (void)host, (void)file, (void)how;
+    return (u32)refused(EINVAL);
+}
+
 /* That SIGPIPE, 13 on Linux, is to be ignored. */
 static u64 Z_envZ___sysv_signal(HOST, u32 signal_of_linux, u64 handler) {
     (void)host;

@@ -68,6 +68,10 @@ class Host {
       fchown: (file, owner, group) => this.#tried(-1, () => fchownSync(file, owner >>> 0, group >>> 0) ?? 0),
       rename: (from, to) => this.#tried(-1, () => renameSync(this.#textAt(from), this.#textAt(to)) ?? 0),
       unlink: (path) => this.#tried(-1, () => unlinkSync(this.#textAt(path)) ?? 0),
+      // (the program is linked with these and doesn't call them)
+      ftruncate: () => this.#fails('EINVAL', -1),
+      fdatasync: () => this.#fails('EINVAL', -1),
+      flock: () => this.#fails('EINVAL', -1),
       // Node has no call for this.
       lseek: () => this.#fails('ESPIPE', -1n),
       // Node ignores SIGPIPE, which alone the program asks for.

@@ -449,6 +449,22 @@ int32_t unlink(const char *path) {
     return answer;
 }
 
+/* The program is linked with these and doesn't call them. */
+int32_t ftruncate(int32_t file, int64_t length) {
+    (void)file, (void)length;
+    return fails(EINVAL);
+}
+
+int32_t fdatasync(int32_t file) {
+    (void)file;
+    return fails(EINVAL);
+}
+
+int32_t flock(int32_t file, int32_t how) {
+    (void)file, (void)how;
+    return fails(EINVAL);
+}
+
 /* There is no such signal: to write to a closed pipe fails. */
 void *__sysv_signal(int32_t signal, void *handler) {
     (void)signal;

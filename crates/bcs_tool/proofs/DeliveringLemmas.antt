@@ -1,6 +1,6 @@
 -- The status of a job, whether its answer goes to standard output or to a file.
 use Rattle.bcs_tool.proofs.Prelude.{◌≡◌, ◌<◌, arith, inl, inr, ℕ, Bool, List, Option, Some, Job, Outcome, Performs}
-use Rattle.bcs_tool.specs.Delivering.{Delivers, FailsToStore, Finishes, PrintsAnswer, failed, held_in_part, refused, stored, to_file, to_output, unopened, unstored, without_output}
+use Rattle.bcs_tool.specs.Delivering.{Delivers, FailsToStore, Finishes, failed, held_in_part, refused, stored, to_file, to_output, unopened, unstored, without_output}
 use Rattle.bcs_tool.specs.HeldOutput.{held_bytes, ran_out}
 use Rattle.bcs_tool.specs.OutputFile.{Stage}
 use Rattle.bcs_tool.specs.declared.held_output.HeldOutput.{HeldOutput}

@@ -22,14 +22,7 @@ pub(crate) fn finish<
     O: ByteSink,
     T: OutputFile,
     E: ByteSink,
->(
-    rt: &R,
-    mut job: Job,
-    input: &mut S,
-    out: &mut O,
-    file: &mut T,
-    errors: &mut E,
-) -> u8
+>(rt: &R, mut job: Job, input: &mut S, out: &mut O, file: &mut T, errors: &mut E) -> u8
     ensures { Finishes R.File.remaining S.content S.is_failed S.allowance O.taken O.is_failed T.stage T.received E.taken E.is_failed
         job input.old input.new out.old out.new file.old file.new errors.old errors.new result }
 {

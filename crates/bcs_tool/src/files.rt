@@ -19,7 +19,7 @@ pub fn read_named<R: InputFiles + AllocGlobal>(rt: &R, name: &str) -> Result<Vec
     ensures text { IfOk result (λ v. IsFileText R.File.remaining v.items) }
     ensures fault { IfErr result (IsFaultOfFiles R.File.remaining) }
 {
-    match rt.open_to_read(name) {
+    match rt.open(name) {
         Ok(file) => Ok(read_opened(rt.alloc(), &mut ReadSource::new(file))?),
         Err(_) => Err(FileFault::Open),
     }
@@ -51,7 +51,7 @@ fn unread_file<R: InputFiles + AllocGlobal>(rt: &R, name: &str, fault: FileFault
 
 // Why a file of this name, which couldn't be opened before, can't be opened now. It is only shown to people.
 fn open_cause<R: InputFiles + AllocGlobal>(rt: &R, name: &str) -> OpenCause {
-    match rt.open_to_read(name) {
+    match rt.open(name) {
         Ok(_) => OpenCause::Other,
         Err(error) => OpenCause::of(error.kind()),
     }

@@ -11,7 +11,7 @@ pub trait InputFiles {
     type File: Read + Drop;
 
     /// Opens a file for reading.
-    fn open_to_read(&self, name: &str) -> io::Result<Self::File>;
+    fn open(&self, name: &str) -> io::Result<Self::File>;
 
     /// The same options with the color decided.
     fn with_color(&self, command: Command, display: Display) -> Display;
@@ -20,7 +20,7 @@ pub trait InputFiles {
 impl InputFiles for HostRuntime {
     type File = File;
 
-    fn open_to_read(&self, name: &str) -> io::Result<File> {
+    fn open(&self, name: &str) -> io::Result<File> {
         File::open(self, name)
     }
 

@@ -1,18 +1,19 @@
 //! The new file that takes the place of FILE, the file of `--output`. It gets FILE's mode and owner.
 
-use std::fs;
 use std::fs::{File, Metadata, OpenOptions, Permissions};
-use std::io;
 use std::io::ErrorKind;
 use std::os::fd::AsFd;
 use std::os::unix::fs::{MetadataExt, OpenOptionsExt, PermissionsExt, fchown};
 use std::path::{Path, PathBuf};
+use std::{fs, io};
 
 // As on Linux.
 const MOST_LINKS: u32 = 40;
 // Each one is left by a run that was killed.
 const MOST_LEFTOVERS: u32 = 1000;
+
 const RIGHTS: u32 = 0o777;
+
 const SPECIAL_RIGHTS: u32 = 0o7000;
 
 /// An empty file, its name, and the name of the file that it can replace.
@@ -80,11 +81,7 @@ fn check_right_to_write(rt: &HostRuntime, path: Path<'_>) -> io::Result<()> {
 }
 
 // Makes a file in the same folder, which only the user may read until it has FILE's rights.
-fn file_beside(
-    rt: &HostRuntime,
-    path: Path<'_>,
-    has_rights: bool,
-) -> io::Result<(PathBuf, File)> {
+fn file_beside(rt: &HostRuntime, path: Path<'_>, has_rights: bool) -> io::Result<(PathBuf, File)> {
     let mode = if has_rights { 0o600 } else { 0o666 };
     for number in 0..MOST_LEFTOVERS {
         let beside = name_beside(rt, path, number)?;
@@ -128,7 +125,5 @@ fn take_rights(file: &File, old: &Metadata) -> io::Result<()> {
     if new.uid() != old.uid() || new.gid() != old.gid() {
         fchown(file.as_fd(), Some(old.uid()), Some(old.gid()))?;
     }
-    file.set_permissions(Permissions::from_mode(
-        old.permissions().mode() & RIGHTS,
-    ))
+    file.set_permissions(Permissions::from_mode(old.permissions().mode() & RIGHTS))
 }

@@ -55,7 +55,7 @@ fn perform_one<R: InputFiles + AllocGlobal, S: ByteSource, O: ByteSink>(
     };
     let (alloc, quiet) = (rt.alloc(), work.options.quiet);
     let name = name.as_str();
-    match rt.open_to_read(name) {
+    match rt.open(name) {
         Ok(file) => match BufReader::with_capacity(alloc, BLOCK, file) {
             Ok(reader) => run_from(
                 alloc,
@@ -86,7 +86,7 @@ fn perform_pairs<R: InputFiles + AllocGlobal, S: ByteSource, O: ByteSink>(
         work.now first.now file input.old input.new out.old out.new result }
 {
     let alloc = rt.alloc();
-    let mut lines = match rt.open_to_read(first) {
+    let mut lines = match rt.open(first) {
         Ok(file) => ReadSource::new(file),
         Err(error) => return unopened(alloc, work.options.quiet, first, error.kind()),
     };
@@ -96,7 +96,7 @@ fn perform_pairs<R: InputFiles + AllocGlobal, S: ByteSource, O: ByteSink>(
         return outcome_of(alloc, work, result, origin, Origin::StandardInput);
     };
     let name = name.as_str();
-    match rt.open_to_read(name) {
+    match rt.open(name) {
         Ok(file) => {
             let result = run_pairs(alloc, work, &mut lines, &mut ReadSource::new(file), out);
             outcome_of(alloc, work, result, origin, Origin::File(name))

@@ -6,11 +6,10 @@ use crate::new_file::{NewFile, new_file};
 use crate::output_file::OutputFile;
 use bcs_io::SinkFailed;
 use bcs_tool_command_line::OpenCause;
-use std::fs;
 use std::fs::File;
-use std::io;
 use std::io::Write;
 use std::path::PathBuf;
+use std::{fs, io};
 
 /// A file of the system.
 #[derive(Drop)]

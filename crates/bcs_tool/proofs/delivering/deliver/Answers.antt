@@ -12,8 +12,8 @@ returns-in-Ok g c =
     (subst (λ (bytes : List ℕ). IsStored g.T.OutputFile.stage g.T.OutputFile.received c.args.name.now bytes c.args.file.now c.store.new.file) c.bytes-2.ensures c.in-Ok.ensures.whole)
     c.print_report-in-Ok.ensures
 
-pub returns-in-Err : goal.returns-in-Err
-returns-in-Err g c =
+pub returns : goal.returns
+returns g c =
     failed (sym c.failed.ensures ∙ c.if-failed.false) (omega (arith, c.if-run-ne0.false)) c.in-Err.outcome
     (subst (λ (bytes : List ℕ). FailsToStore g.T.OutputFile.stage g.T.OutputFile.received c.args.ended.quiet c.args.name.now bytes c.args.file.now c.store.new.file c.in-Err.outcome) c.bytes-2.ensures c.in-Err.ensures.fault)
     c.print_report-in-Err.ensures

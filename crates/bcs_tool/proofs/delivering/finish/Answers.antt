@@ -1,4 +1,3 @@
-use Rattle.std.specs.Prelude.{string_bytes}
 use Rattle.bcs_tool.specs.Delivering.{Delivers, to_file, to_output}
 use Rattle.bcs_tool.specs.HeldOutput.{held_bytes, ran_out}
 use Rattle.bcs_tool.proofs.Prelude.{◌∙◌, List, ℕ, Option, Some, refl, subst, sym, String, Global, Performs}

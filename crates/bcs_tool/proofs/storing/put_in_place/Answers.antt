@@ -1,7 +1,7 @@
 use Rattle.std.proofs.Common.{ℕ, List, Option, length, take, inl, inr, subst, sym, ◌∙◌, ap}
 use Rattle.std.specs.Io.KnownBytes.{Appends}
 use Rattle.std.proofs.Math.Seq.{take-length}
-use Rattle.bcs_tool.specs.OutputFile.{Stage, synced}
+use Rattle.bcs_tool.specs.OutputFile.{synced}
 use Rattle.bcs_tool.proofs.storing.put_in_place.Goals as goal
 
 -- all bytes were written, but not to the disk
