@@ -299,6 +299,23 @@ class Nesting(unittest.TestCase):
             self.assertEqual((raised.exception.reason, raised.exception.at), ("TooManyNodes", ""))
             self.assertEqual(raised.exception.message, "the value has more nodes than --nodes allows, 10000")
 
+    def test_nodes_that_suffice(self) -> None:
+        """The conversion ends early only for values that surely have more nodes."""
+        registry = Registry({"Empty": {"STRUCT": []}})
+        rows: list[tuple[Any, Any, int]] = [
+            ({"MAP": {"KEY": "BYTES", "VALUE": "BYTES"}}, [[bytes([key]), b""] for key in range(200)], 401),
+            ({"MAP": {"KEY": "U8", "VALUE": {"OPTION": "BYTES"}}}, [[key, {"some": b""}] for key in range(200)], 601),
+            ({"SEQ": {"SEQ": "BOOL"}}, [[]] * 5000, 5001),
+            ({"SEQ": {"TYPENAME": "Empty"}}, [{}] * 5000, 10001),
+            ({"SEQ": "UNIT"}, [None] * 5000, 5001),
+        ]
+        for format, value, nodes in rows:
+            data = registry.encode(format, value)
+            self.assertEqual(registry.encode(format, value, Limits(nodes=nodes)), data)
+            with self.assertRaises(TextError) as raised:
+                registry.encode(format, value, Limits(nodes=nodes - 1))
+            self.assertEqual(raised.exception.reason, "TooManyNodes")
+
     def test_depth(self) -> None:
         """The library reads 100 levels of JSON, and values have as many: here each level is one of its text."""
         for levels in [99, 100, 101, 102, 5000]:
