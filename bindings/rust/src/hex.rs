@@ -1,26 +1,38 @@
 //! Bytes as hexadecimal digits.
 
-#[cfg(any(feature = "serde_json", test))]
-const DIGITS: &[u8; 16] = b"0123456789abcdef";
-
 /// Adds two lower-case digits for each byte.
 #[cfg(any(feature = "serde_json", test))]
 pub(crate) fn push_digits(out: &mut String, bytes: &[u8]) {
-    out.reserve(2 * bytes.len());
-    for byte in bytes {
-        out.push(DIGITS[usize::from(byte >> 4)].into());
-        out.push(DIGITS[usize::from(byte & 15)].into());
+    const DIGITS: &[u8; 16] = b"0123456789abcdef";
+    let mut room = [0; 512];
+    for bytes in bytes.chunks(room.len() / 2) {
+        for (pair, byte) in room.chunks_exact_mut(2).zip(bytes) {
+            pair.copy_from_slice(&[DIGITS[usize::from(byte >> 4)], DIGITS[usize::from(byte & 15)]]);
+        }
+        out.push_str(std::str::from_utf8(&room[..2 * bytes.len()]).expect("digits are ASCII"));
     }
 }
 
 /// The bytes of digits of either case, two for each byte. `None`: these aren't such digits.
 pub(crate) fn bytes_of(digits: &str) -> Option<Vec<u8>> {
-    let pairs = digits.as_bytes().chunks(2);
-    pairs.map(|pair| Some(digit(*pair.first()?)? << 4 | digit(*pair.get(1)?)?)).collect()
+    let pairs = digits.as_bytes().chunks_exact(2);
+    let mut bytes = Vec::with_capacity(pairs.len());
+    if !pairs.remainder().is_empty() {
+        return None;
+    }
+    for pair in pairs {
+        bytes.push(digit(pair[0])? << 4 | digit(pair[1])?);
+    }
+    Some(bytes)
 }
 
 fn digit(sign: u8) -> Option<u8> {
-    char::from(sign).to_digit(16).map(|digit| digit as u8)
+    match sign {
+        b'0'..=b'9' => Some(sign - b'0'),
+        b'a'..=b'f' => Some(sign - b'a' + 10),
+        b'A'..=b'F' => Some(sign - b'A' + 10),
+        _ => None,
+    }
 }
 
 #[cfg(test)]

@@ -106,9 +106,11 @@ impl Probe {
         replaced: Replaced,
         read: impl Fn() -> Result<(), Mismatch>,
     ) -> (Result<(), Mismatch>, Vec<String>) {
-        WANTED.take();
+        // (the code of a type may decode something, too, while another walk is under way)
+        let of_outer_walk = WANTED.take();
         self.replaced.set(replaced);
-        (read(), WANTED.take())
+        let result = read();
+        (result, WANTED.replace(of_outer_walk))
     }
 }
 

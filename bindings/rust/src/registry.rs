@@ -11,8 +11,8 @@ use std::sync::Arc;
 
 /// Which formats there are: a serde-reflection registry, as a chain publishes it, in JSON.
 ///
-/// Its calls give the bytes and the texts of values. A format is a container's name, or a [`Format`]. Texts and bytes are
-/// whatever has bytes: a `&str`, a `String`, a `&[u8]`, a `Vec<u8>`, an array.
+/// Its calls return the bytes and the JSON of values. A format is a container's name, or a [`Format`]. JSON and bytes may be a
+/// `&str`, a `String`, a `&[u8]`, a `Vec<u8>` or an array.
 ///
 /// Any number of threads may use one registry at the same time, and a clone of it costs next to nothing.
 ///

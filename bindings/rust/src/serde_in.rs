@@ -60,12 +60,10 @@ fn visit_integer<'de, V: Visitor<'de>>(format: Integer, json: Value, visitor: V)
     }
 }
 
-fn integer_of<N: FromStr>(json: Value) -> Result<N, Mismatch> {
-    let number = match json {
-        Value::String(digits) => digits.parse(),
-        number => number.to_string().parse(),
-    };
-    number.or_else(|_| other_json())
+fn integer_of<N: FromStr + TryFrom<u64> + TryFrom<i64>>(json: Value) -> Result<N, Mismatch> {
+    let unsigned = json.as_u64().and_then(|number| N::try_from(number).ok());
+    let number = unsigned.or_else(|| N::try_from(json.as_i64()?).ok()).or_else(|| json.as_str()?.parse().ok());
+    number.map_or_else(other_json, Ok)
 }
 
 impl<'w> Reader<'w> {

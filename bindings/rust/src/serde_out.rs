@@ -11,7 +11,7 @@ use std::fmt::{self, Write};
 /// The JSON of a value.
 pub(crate) fn json_of<T: Serialize + ?Sized>(value: &T, at: At) -> Result<String, Mismatch> {
     let mut out = String::new();
-    value.serialize(Writer { at, nested: 0, out: &mut out })?;
+    value.serialize(Writer { at, nested: 0, is_octet: false, out: &mut out })?;
     Ok(out)
 }
 
@@ -64,6 +64,8 @@ pub(crate) struct Writer<'w> {
     at: At<'w>,
     /// How many arrays and objects are open.
     nested: u32,
+    /// Whether it is a byte of a list that is written as hexadecimal digits. Only a `u8` fits there.
+    is_octet: bool,
     out: &'w mut String,
 }
 
@@ -101,7 +103,7 @@ impl<'w> Writer<'w> {
     fn put_member<T: Serialize + ?Sized>(mut self, name: &str, shape: &'w Shape, value: &T) -> Result<(), Mismatch> {
         self.open('{')?;
         write!(self.out, "{}:", Quoted(name)).map_err(Mismatch::new)?;
-        let part = Writer { at: self.at.part(shape)?, nested: self.nested, out: &mut *self.out };
+        let part = Writer { at: self.at.part(shape)?, nested: self.nested, is_octet: false, out: &mut *self.out };
         value.serialize(part).map_err(|error| error.under(name))?;
         self.out.push('}');
         Ok(())
@@ -123,15 +125,16 @@ impl<'w> Writer<'w> {
     fn items(mut self, found: &str, variant: Option<&'static str>) -> Result<Items<'w>, Mismatch> {
         self.at = self.at.entered();
         let parts = match self.at.shape {
+            Shape::Seq(content) | Shape::Array(content) if self.at.shape.is_octets() => Parts::Octets(content),
             Shape::Seq(content) | Shape::Array(content) | Shape::Map(content) => Parts::Same(content),
             Shape::Tuple(all) => Parts::Own(all),
             Shape::Entry(halves) => Parts::Own(&halves[..]),
-            Shape::Bytes => Parts::Same(&OCTET),
+            Shape::Bytes => Parts::Octets(&OCTET),
             Shape::Void => Parts::Void,
             shape => return Err(Mismatch::unfit(shape, found)),
         };
         match parts {
-            Parts::Same(Shape::Octet) => self.out.push('"'),
+            Parts::Octets(_) => self.out.push('"'),
             Parts::Void => self.out.push_str(NO_VALUE),
             _ => self.open('[')?,
         }
@@ -222,7 +225,7 @@ impl<'w> Serializer for Writer<'w> {
 
     fn serialize_u8(self, number: u8) -> Result<(), Mismatch> {
         match self.at.shape {
-            Shape::Octet => hex::push_digits(self.out, &[number]),
+            Shape::Octet | Shape::Integer(U8) if self.is_octet => hex::push_digits(self.out, &[number]),
             _ => self.put_integer(U8, number)?,
         }
         Ok(())
@@ -343,6 +346,8 @@ impl<'w> Serializer for Writer<'w> {
 enum Parts<'w> {
     Same(&'w Shape),
     Own(&'w [Shape]),
+    /// Bytes, as hexadecimal digits.
+    Octets(&'w Shape),
     Void,
 }
 
@@ -356,16 +361,17 @@ pub(crate) struct Items<'w> {
 
 impl Items<'_> {
     fn item<T: Serialize + ?Sized>(&mut self, value: &T) -> Result<(), Mismatch> {
-        let shape = match self.parts {
-            Parts::Same(shape) => shape,
-            Parts::Own(all) => all.get(self.count).unwrap_or(&VOID),
+        let (shape, is_octet) = match self.parts {
+            Parts::Same(shape) => (shape, false),
+            Parts::Own(all) => (all.get(self.count).unwrap_or(&VOID), false),
+            Parts::Octets(shape) => (shape, true),
             Parts::Void => return Ok(()),
         };
-        let Writer { at, nested, out } = &mut self.writer;
-        if self.count > 0 && !matches!(shape, Shape::Octet) {
+        let Writer { at, nested, out, .. } = &mut self.writer;
+        if self.count > 0 && !is_octet {
             out.push(',');
         }
-        let part = Writer { at: at.part(shape)?, nested: *nested, out };
+        let part = Writer { at: at.part(shape)?, nested: *nested, is_octet, out };
         value.serialize(part).map_err(|error| in_variant(self.variant, error.under(self.count)))?;
         self.count += 1;
         Ok(())
@@ -373,7 +379,7 @@ impl Items<'_> {
 
     fn finish(self) {
         match self.parts {
-            Parts::Same(Shape::Octet) => self.writer.out.push('"'),
+            Parts::Octets(_) => self.writer.out.push('"'),
             Parts::Void => {}
             _ => self.writer.out.push(']'),
         }
@@ -424,10 +430,10 @@ impl Fields<'_> {
         };
         let shape = fields.get(name).unwrap_or(&VOID);
         self.known += usize::from(fields.contains_key(name));
-        let Writer { at, nested, out } = &mut self.writer;
+        let Writer { at, nested, out, .. } = &mut self.writer;
         let comma = if self.count > 0 { "," } else { "" };
         write!(out, "{comma}{}:", Quoted(name)).map_err(Mismatch::new)?;
-        let part = Writer { at: at.part(shape)?, nested: *nested, out };
+        let part = Writer { at: at.part(shape)?, nested: *nested, is_octet: false, out };
         value.serialize(part).map_err(|error| in_variant(self.variant, error.under(name)))?;
         self.count += 1;
         Ok(())
@@ -493,7 +499,8 @@ fn put_half<T: Serialize + ?Sized>(
     let Shape::Entry(halves) = entry else {
         return Err(Mismatch::unfit(entry, "a map"));
     };
-    let part = Writer { at: writer.at.part(&halves[half])?, nested: writer.nested, out: &mut *writer.out };
+    let at = writer.at.part(&halves[half])?;
+    let part = Writer { at, nested: writer.nested, is_octet: false, out: &mut *writer.out };
     value.serialize(part).map_err(|error| error.under(half).under(count))
 }
 
@@ -519,7 +526,7 @@ impl ser::SerializeMap for Entries<'_> {
             Entries::Fields { fields, name } => {
                 let mut text = String::new();
                 let at = fields.writer.at.to(&FIELD_NAME);
-                key.serialize(Writer { at, nested: fields.writer.nested, out: &mut text })?;
+                key.serialize(Writer { at, nested: fields.writer.nested, is_octet: false, out: &mut text })?;
                 *name = Some(serde_json::from_str(&text).map_err(Mismatch::new)?);
             }
         }

@@ -669,7 +669,7 @@ fn variants_are_variants() {
     row("a variant", Ok::<u8, u8>(7), &[("Shape", Fault("UnknownVariant"))]);
 }
 
-/// A `serde_json::Value` is what `serde` sees of it, and nothing more. `encode_value` reads it as JSON.
+/// A `serde_json::Value` is what `serde` sees of it, and nothing more. `encode_json_value` reads it as JSON.
 #[test]
 fn values_of_json_are_what_they_hold() {
     row("()", Value::Null, &[("UNIT", Is("")), ("Nothing", Is(""))]);
