@@ -48,16 +48,49 @@ for name in BUILT_FROM SHA256SUMS LIBRARIES x86_64-linux aarch64-linux x86_64-wi
     rm -rf "${folder:?}/$name"
 done
 mkdir "$x86_64" "$folder/aarch64-linux" "$folder/x86_64-windows" "$folder/web"
-tools/proved_code.py --program "$room/bcs.o"
-tools/link/link.sh --program "$room/bcs.o" "$x86_64"
-tools/proved_code.py "$archive"
-tools/link/link.sh --libraries "$archive" "$x86_64"
-tools/proved_code.py --module "$room/code.ll"
-tools/proved_code.py --program-module "$room/program.ll"
-bindings/arm64/build.sh --code "$room/code.ll" --program-code "$room/program.ll" "$folder/aarch64-linux"
-bindings/windows/build.sh --code "$room/code.ll" --program-code "$room/program.ll" "$folder/x86_64-windows"
-bindings/web/build.sh --code "$room/code.ll" --program-code "$room/program.ll" "$folder/web"
-bindings/python/make_vectors.sh "$x86_64/libbcs.so" "$folder/vectors"
+make_programs() {
+    tools/proved_code.py --program "$room/bcs.o"
+    tools/link/link.sh --program "$room/bcs.o" "$x86_64"
+    tools/proved_code.py --program-module "$room/program.ll"
+}
+
+make_libraries() {
+    tools/proved_code.py "$archive"
+    tools/link/link.sh --libraries "$archive" "$x86_64"
+    tools/proved_code.py --module "$room/code.ll"
+}
+
+make_arm64() {
+    bindings/arm64/build.sh --code "$room/code.ll" --program-code "$room/program.ll" "$folder/aarch64-linux"
+}
+
+make_windows() {
+    bindings/windows/build.sh --code "$room/code.ll" --program-code "$room/program.ll" "$folder/x86_64-windows"
+}
+
+make_web() {
+    bindings/web/build.sh --code "$room/code.ll" --program-code "$room/program.ll" "$folder/web"
+}
+
+make_vectors() {
+    bindings/python/make_vectors.sh "$x86_64/libbcs.so" "$folder/vectors"
+}
+
+# side_by_side FUNCTION..: runs them at the same time, and fails if one of them does.
+side_by_side() {
+    local name process processes='' failed=''
+    for name; do
+        "$name" &
+        processes="$processes $!"
+    done
+    for process in $processes; do
+        wait "$process" || failed=1
+    done
+    [ -z "$failed" ]
+}
+
+side_by_side make_programs make_libraries
+side_by_side make_web make_arm64 make_windows make_vectors
 tools/libraries.py >"$folder/LIBRARIES"
 
 find "$folder" -type f -exec chmod 644 {} +
