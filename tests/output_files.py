@@ -238,6 +238,25 @@ def file_is_read_only(room: Room) -> None:
     room.check_kept(room.run(user=USER), ": Permission denied")
 
 
+def links_of_others(room: Room) -> None:
+    """In a sticky folder for everybody, the system may refuse to follow a link that another user put there. What it
+    refuses to a shell's `>>`, it refuses here."""
+    target = room.folder.parent / "target of others"
+    for has_target in (True, False):
+        if has_target:
+            target.write_bytes(OLD)
+        room.folder.chmod(0o1777)
+        room.file.symlink_to(target)
+        os.chown(room.file, USER, USER, follow_symlinks=False)
+        shell = subprocess.run(["sh", "-c", ": >>file"], cwd=room.folder, stderr=subprocess.DEVNULL)
+        if shell.returncode != 0:
+            check("the run", room.run(), Ended(4, "fault: write\nin the file file: Permission denied\n"))
+            check("the target", target.read_bytes() if has_target else target.exists(), OLD if has_target else False)
+            room.check_names("file")
+        target.unlink(missing_ok=True)
+        room.file.unlink()
+
+
 def folder_is_missing(room: Room) -> None:
     ended = room.run("missing/file")
     check("the run", ended, Ended(4, "fault: write\nin the file missing/file: No such file or directory\n"))
@@ -372,6 +391,7 @@ TESTS: list[Callable[[Room], None]] = [
     file_is_of_others,
     name_is_long,
     file_is_read_only,
+    links_of_others,
     folder_is_missing,
     file_is_a_folder,
     devices_stay,

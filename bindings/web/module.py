@@ -19,8 +19,8 @@ wasm-opt doesn't lower.
 
     --code FILE            the library's LLVM module, as tools/proved_code.py --module makes it; without it, it is made
     --program-code FILE    the program's, as tools/proved_code.py --program-module makes it; without it, it is made
-    --stack BYTES          the size of the stack within the memory of bcs_scalar.wasm and bcs_program.wasm; without it, 16
-                           MiB, enough for all limits on depth. The others have 4 MiB: the engine's own stack ends before
+    --stack BYTES          the size of the stack within the memory of bcs_scalar.wasm and bcs_program.wasm; without it,
+                           16 MiB, enough for all limits on depth. The others have 4 MiB: the engine's stack ends first
 """
 
 from __future__ import annotations

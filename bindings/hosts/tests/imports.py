@@ -15,8 +15,8 @@ from typing import NoReturn
 
 HERE = pathlib.Path(__file__).resolve().parent.parent
 
-# What the programs need of the C library, in place of the functions that a host defines: rattle_.., and statx, which older
-# systems lack. The last line is for the heap and the stack.
+# What the programs need of the C library, in place of the functions that a host defines: rattle_.., and statx, which
+# older systems lack. The last line is for the heap and the stack.
 OF_BOTH = """
     __errno_location __libc_start_main getenv syscall
     free getrlimit madvise malloc mmap mprotect realloc

@@ -35,10 +35,8 @@ pub(crate) fn new_file(rt: &HostRuntime, name: &str) -> io::Result<Option<NewFil
         Err(error) if error.kind() == ErrorKind::NotFound => None,
         Err(error) => return Err(error),
     };
-    match &old {
-        Some(old) if is_replaceable(old) => check_right_to_write(rt, to.as_path())?,
-        Some(_) => return Ok(None),
-        None => {}
+    if old.as_ref().is_some_and(|old| !is_replaceable(old)) || !leads_to(rt, name, &old)? {
+        return Ok(None);
     }
     let (from, file) = match file_beside(rt, to.as_path(), old.is_some()) {
         Ok(made) => made,
@@ -75,9 +73,22 @@ fn is_replaceable(old: &Metadata) -> bool {
     old.is_file() && old.nlink() == 1 && old.permissions().mode() & SPECIAL_RIGHTS == 0
 }
 
-fn check_right_to_write(rt: &HostRuntime, path: Path<'_>) -> io::Result<()> {
-    OpenOptions::new().write(true).open(rt, path)?;
-    Ok(())
+// Whether the system follows FILE's name to this file, or to none. It opens the file as a shell's `>` does, but leaves it as it
+// is. So it refuses what it protects: files that may not be written, and links that others put into a folder for everybody.
+fn leads_to(rt: &HostRuntime, name: &str, old: &Option<Metadata>) -> io::Result<bool> {
+    let mut options = OpenOptions::new();
+    options.write(true).create(old.is_some());
+    match options.open(rt, name) {
+        Ok(file) => {
+            let found = file.metadata()?;
+            Ok(
+                old.as_ref()
+                    .is_some_and(|old| old.dev() == found.dev() && old.ino() == found.ino()),
+            )
+        }
+        Err(error) if error.kind() == ErrorKind::NotFound => Ok(old.is_none()),
+        Err(error) => Err(error),
+    }
 }
 
 // Makes a file in the same folder, which only the user may read until it has FILE's rights.
