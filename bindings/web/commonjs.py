@@ -14,7 +14,18 @@ import sys
 from joining import joined
 
 HERE = pathlib.Path(__file__).resolve().parent
-MODULES = ["errors", "hex", "octets", "texts", "move_types", "shapes", "json_output", "writing", "reading", "interruptions"]
+MODULES = [
+    "errors",
+    "hex",
+    "octets",
+    "texts",
+    "move_types",
+    "shapes",
+    "json_output",
+    "writing",
+    "reading",
+    "interruptions",
+]
 MODULES += ["calls", "limits", "holder", "refusals", "format_calls", "registry", "support", "loader", "own_module"]
 ADDRESS = "require('node:url').pathToFileURL(__filename).href"
 
