@@ -103,15 +103,27 @@ func readContainers(registry string, names Names) (containers, error) {
 		names  []string
 	}{{kindAddress, false, names.Addresses}, {kindBigInteger, false, names.U256}, {kindBigInteger, true, names.I256}} {
 		for _, name := range named.names {
-			if n := all[name]; n.isOf32Bytes() {
-				n.kind, n.signed, n.bits, n.length = named.kind, named.signed, 8*addressLength, addressLength
-			} else if !isDefaultName(name) {
-				message := fmt.Sprintf("Names: no newtype of 32 bytes is called %q", shortened(name))
-				return nil, &Error{Kind: KindRegistry, Reason: "UnknownName", Place: -1, Message: message}
+			if err := all[name].name(name, named.kind, named.signed); err != nil {
+				return nil, err
 			}
 		}
 	}
 	return all, nil
+}
+
+// name gives a container of Names its own form. Only the default names may be missing.
+func (n *node) name(name string, kind kind, signed bool) error {
+	problem := "no newtype of 32 bytes is called %q"
+	switch {
+	case n.isOf32Bytes():
+		n.kind, n.signed, n.bits, n.length = kind, signed, 8*addressLength, addressLength
+		return nil
+	case n.is(kindAddress) || n.is(kindBigInteger):
+		problem = "two forms are given for %q"
+	case isDefaultName(name):
+		return nil
+	}
+	return &Error{Kind: KindRegistry, Reason: "UnknownName", Place: -1, Message: fmt.Sprintf("Names: "+problem, shortened(name))}
 }
 
 func (n *node) isOf32Bytes() bool {

@@ -418,6 +418,11 @@ func TestNamesOfContainers(t *testing.T) {
 			}
 		}
 	}
+	for _, names := range []Names{{U256: []string{"address"}}, {U256: []string{"U256", "U256"}}, {U256: []string{"Int"}, I256: []string{"Int"}}} {
+		if _, err := Open(text, names); err == nil || !strings.Contains(err.Error(), "Names: two forms are given for") {
+			t.Errorf("%v: %v", names, err)
+		}
+	}
 	registry, err := Open(text, Names{[]string{"AccountAddress"}, []string{"U256"}, []string{"Int"}})
 	if err != nil {
 		t.Fatal(err)
