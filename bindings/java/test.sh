@@ -93,3 +93,6 @@ echo "java: the library by its name, and none"
 
 run "the rows" python3 "$root/tests/rows" java "$@" Driver
 echo "java: $(tail -n 1 "$room/log")"
+
+run "the types of registries" env BCS_LIBRARY="$prefix/lib/libbcs.so" python3 "$here/tests/declared.py" "$room/first/bcsproved.jar" "$room"
+echo "java: $(tail -n 1 "$room/log")"
