@@ -26,7 +26,7 @@ const NO_VALUE: &str = "0.5";
 enum Kind {
     Unit,
     Bool,
-    Integer(Integer),
+    Integer,
     Text,
     Bytes,
     None,
@@ -41,7 +41,7 @@ fn fits(shape: &Shape, kind: Kind) -> bool {
     match kind {
         Kind::Unit => matches!(shape, Shape::Unit),
         Kind::Bool => matches!(shape, Shape::Bool),
-        Kind::Integer(integer) => matches!(shape, Shape::Integer(format) if format.holds(integer)),
+        Kind::Integer => matches!(shape, Shape::Integer(_)),
         Kind::Text => matches!(shape, Shape::Str | Shape::FieldName),
         Kind::Bytes => matches!(shape, Shape::Bytes) || shape.is_octets(),
         Kind::None => matches!(shape, Shape::Option(_)),
@@ -85,7 +85,7 @@ impl<'w> Writer<'w> {
         self.at = self.at.entered();
         match self.at.shape {
             Shape::Integer(format) if !format.holds(integer) => Err(Mismatch::narrow(format.format, integer.rust)),
-            _ => self.put(Kind::Integer(integer), &integer.found(), format_args!("\"{number}\"")),
+            _ => self.put(Kind::Integer, &integer.found(), format_args!("\"{number}\"")),
         }
     }
 

@@ -2,9 +2,10 @@
 #![cfg(feature = "serde_json")]
 
 use bcs_proved::{Bytes, ErrorKind, Hex, Registry};
-use serde::de::DeserializeOwned;
+use serde::de::{DeserializeOwned, Deserializer};
 use serde::{Deserialize, Serialize};
 use serde_json::{Value, json};
+use std::cell::Cell;
 use std::collections::{BTreeMap, BTreeSet};
 use std::fmt::Debug;
 use std::num::NonZeroU8;
@@ -70,6 +71,7 @@ fn flattened_values_come_and_go() {
     comes_and_goes(r#"{"TYPENAME":"Shape"}"#, Shape::Circle(7), "010700000000000000");
     comes_and_goes(r#"{"TYPENAME":"Shape"}"#, Shape::Dot, "00");
     comes_and_goes(r#""U64""#, Either::<u64, String>::Left(7), "0700000000000000");
+    comes_and_goes(r#""U64""#, Either::<Value, f64>::Left(json!(7)), "0700000000000000");
     // (each number goes to the narrowest)
     comes_and_goes(r#""U64""#, Either::<u8, u64>::Left(7), "0700000000000000");
     comes_and_goes(r#""U64""#, Either::<u8, u64>::Right(1 << 60), "0000000000000010");
@@ -102,6 +104,7 @@ fn floats_are_rejected_and_not_rounded() {
     rejected::<(f64, f64)>(r#""BYTES""#, "020707", "BYTES takes a u8 for each byte, not an f64");
     rejected::<Either<f64, String>>(r#""U64""#, SEVEN, f64_at_u64);
     rejected::<Either<String, f64>>(r#""U64""#, SEVEN, f64_at_u64);
+    rejected::<Either<f64, Value>>(r#""U64""#, SEVEN, f64_at_u64);
     rejected::<Either<u64, f64>>(r#""I64""#, "f9ffffffffffffff", "I64 takes an integer, not an f64");
     rejected::<Either<Vec<f64>, String>>(r#"{"SEQ":"U64"}"#, &format!("01{SEVEN}"), f64_at_u64);
     // One float beside integers.
@@ -166,16 +169,30 @@ fn tagged_enums_are_checked() {
     assert_eq!(error.message(), "U8 takes an integer, not an f32");
 }
 
-/// Each format whose values went to a buffer costs one more reading, and no byte of the input more than that.
+thread_local! {
+    static READINGS: Cell<usize> = const { Cell::new(0) };
+}
+
+/// An integer that counts how often it is read.
+#[derive(Debug)]
+struct Counted;
+
+impl<'de> Deserialize<'de> for Counted {
+    fn deserialize<D: Deserializer<'de>>(deserializer: D) -> Result<Counted, D::Error> {
+        READINGS.set(READINGS.get() + 1);
+        u8::deserialize(deserializer).map(|_| Counted)
+    }
+}
+
+/// A value is read once, once with all its integers and bytes replaced, and once for each such format, however long it is.
 #[test]
-fn checks_cost_little() {
-    let registry = registry(r#"{"SEQ":{"TUPLE":["U8","U16","U32","U64","I8","I16"]}}"#);
-    let count = 20_000_usize;
-    let length = [count as u8 | 0x80, (count >> 7) as u8 | 0x80, (count >> 14) as u8];
-    let input = [&[9][..], &length, &vec![0; 18 * count]].concat();
-    let start = std::time::Instant::now();
-    type Row = (u8, u16, u32, u64, i8, i16);
-    let flat: Flat<Rest<Vec<Row>>> = registry.decode("S", input).unwrap();
-    assert_eq!(flat.rest.b.len(), count);
-    assert!(start.elapsed().as_secs() < 20, "it took {:?}", start.elapsed());
+fn a_value_is_read_a_few_times() {
+    let registry = registry(r#"{"SEQ":{"TUPLE":["U8","U16","BYTES"]}}"#);
+    for count in [1, 2, 120] {
+        let input = [&[9, count][..], &[7, 1, 0, 0].repeat(count.into())].concat();
+        READINGS.set(0);
+        let flat: Flat<Rest<Vec<(Counted, u16, Bytes)>>> = registry.decode("S", input).unwrap();
+        assert_eq!(flat.rest.b.len(), usize::from(count));
+        assert!((2..=5 * usize::from(count)).contains(&READINGS.get()), "{} for {count}", READINGS.get());
+    }
 }
