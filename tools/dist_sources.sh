@@ -37,7 +37,8 @@ each_source() {
         bindings/c/include bindings/hosts bindings/web bindings/arm64 bindings/windows \
         bindings/python/bcs_proved bindings/python/make_vectors.sh examples/*.json examples/*.hex \
         \( -name tests -o -name test.sh -o -name test.py -o -name out -o -name __pycache__ -o -name .mypy_cache -o -name package.json \
-        -o -name '*.md' -o -name '*.png' -o -path bindings/python/bcs_proved/registries.py -o -path bindings/python/bcs_proved/types.py \) \
+        -o -name '*.md' -o -name '*.png' -o -path bindings/python/bcs_proved/registries.py \
+        -o -path 'bindings/python/bcs_proved/*types.py' -o -path bindings/python/bcs_proved/declaring.py \) \
         -prune -o \( -type f -o -type l \) "$@" || return
     set -- -name out -prune -o \( -type f -o -type l \) \( -path '*/src/*' -o -path '*/specs/*' -o -path '*/proofs/*' \) "$@"
     for crate in $crates; do

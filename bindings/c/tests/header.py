@@ -160,10 +160,13 @@ def of_headers(proved: pathlib.Path, public: pathlib.Path) -> Interface:
     header = code_of(public)
     faults = enum_of(header, "bcs_fault")
     assert faults.pop("BCS_FAULT_NONE") == 0
+    statuses = enum_of(header, "bcs_status")
+    # Only library.c knows the stack, and no proved call returns this.
+    assert statuses.pop("BCS_STACK") not in statuses.values()
     return Interface(
         calls={name: [result, *map(one_blank, parameters.split(","))] for result, name, parameters in calls},
         structs=structs_declared(code_of(proved)) | structs_declared(header),
-        statuses=enum_of(header, "bcs_status"),
+        statuses=statuses,
         faults=faults,
         forms=enum_of(header, "bcs_form"),
         notations=enum_of(header, "bcs_notation"),
