@@ -195,7 +195,7 @@ final class ValueTypes extends Check {
         registry.checkType("P", Samples.WideBean.class);
         registry.checkType("All", Samples.All.class);
         registry.checkType("E", Samples.Shape.class);
-        refused(Kind.TYPE, "WrongType", -1, "/amount", "U64 doesn't fit in long", () -> registry.checkType("P", Samples.Signed.class));
+        refused(Kind.VALUE, "WrongType", -1, "/amount", "U64 doesn't fit in long", () -> registry.checkType("P", Samples.Signed.class));
         refused(Kind.FORMAT, "UnknownName", -1, "", "no container is called Q", () -> registry.checkType("Q", Samples.Signed.class));
         refused(Kind.FORMAT, "UnknownName", -1, "", "no container is called Q", () -> registry.encode("Q", 1));
         refused(Kind.FORMAT, "UnknownName", -1, "", "no container is called Q", () -> registry.decode("Q", new byte[0], Samples.Pay.class));
@@ -244,7 +244,7 @@ final class ValueTypes extends Check {
         record Entries(List<Map.Entry<byte[], String>> map) {}
         record Digits(Map<Hex, String> map) {}
         Registry maps = Registry.open("{\"M\":{\"STRUCT\":[{\"map\":{\"MAP\":{\"KEY\":\"BYTES\",\"VALUE\":\"STR\"}}}]}}");
-        refused(Kind.TYPE, "WrongType", -1, "/map/-/0",
+        refused(Kind.VALUE, "WrongType", -1, "/map/-/0",
                 "BYTES takes no byte[] as keys, which equal only themselves: use Hex, or a List of Map.Entry", () -> maps.decode("M", unhex("0101aa0162"), Keyed.class));
         equal(HexFormat.of().formatHex(maps.encode("M", new Keyed(Map.of(unhex("aa"), "b")))), "0101aa0162");
         Entries entries = maps.decode("M", unhex("0101aa0162"), Entries.class);

@@ -21,10 +21,8 @@ public final class BcsException extends Exception {
         PATH,
         /** The format has no such example. */
         EXAMPLE,
-        /** A Java value isn't one of the format. */
+        /** A Java value isn't one of the format, or its class can't be. */
         VALUE,
-        /** Values of the format don't fit a Java type. */
-        TYPE,
         /** The thread has too little stack left: use one with more, or a lower depth. */
         STACK
     }

@@ -30,8 +30,8 @@ final class Mismatch extends RuntimeException {
         }
     }
 
-    BcsException refusal(Kind kind) {
-        return new BcsException(kind, "WrongType", -1, String.join("", steps), getMessage());
+    BcsException refusal() {
+        return new BcsException(Kind.VALUE, "WrongType", -1, String.join("", steps), getMessage());
     }
 
     /** A name in quotes, cut if it is long: a message may not cost more than the value. */

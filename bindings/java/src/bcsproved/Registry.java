@@ -116,7 +116,7 @@ public final class Registry implements AutoCloseable {
 
     /**
      * The value that all these bytes encode, as one of a record, a bean, a sealed interface of records or another type. If the type
-     * can't hold all numbers of the format, the kind of the exception is TYPE, and the bytes aren't read.
+     * can't hold all numbers of the format, the kind of the exception is VALUE, and the bytes aren't read.
      */
     @SuppressWarnings("unchecked") // Class.cast has none for int.class
     public <T> T decode(String format, byte[] data, Class<T> type) throws BcsException {

@@ -1,6 +1,5 @@
 package bcsproved;
 
-import bcsproved.BcsException.Kind;
 import java.lang.reflect.Type;
 
 /** Converts Java values to bytes and back, by the JSON that the proved calls read and print. */
@@ -15,7 +14,7 @@ final class Values {
     static byte[] encode(Session session, String format, Object value) throws BcsException {
         Question question = session.question(format);
         Codec.Root root = session.codec().root(session, format);
-        byte[] json = refusing(Kind.VALUE, () -> {
+        byte[] json = refusing(() -> {
             JsonWriter w = new JsonWriter(root.codec(), question.limits().nodes());
             root.codec().encoder(root.node(), Object.class).write(w, value);
             return w.written();
@@ -26,9 +25,9 @@ final class Values {
     /** The value of all the data. A type that can't hold every value of the format's numbers is rejected before they are read. */
     static Object decode(Session session, Question question, String format, byte[] data, Type type) throws BcsException {
         Codec.Root root = session.codec().root(session, format);
-        Decoder decoder = refusing(Kind.TYPE, () -> root.codec().decoder(root.node(), type));
+        Decoder decoder = refusing(() -> root.codec().decoder(root.node(), type));
         byte[] json = session.output(Call.FROM_BCS, question, data, 4);
-        return refusing(Kind.TYPE, () -> {
+        return refusing(() -> {
             JsonReader r = new JsonReader(json);
             Object value = decoder.read(r);
             r.end();
@@ -38,17 +37,17 @@ final class Values {
 
     static void check(Session session, String format, Type type) throws BcsException {
         Codec.Root root = session.codec().root(session, format);
-        refusing(Kind.TYPE, () -> {
+        refusing(() -> {
             root.codec().encoder(root.node(), type);
             return root.codec().decoder(root.node(), type);
         });
     }
 
-    private static <T> T refusing(Kind kind, Step<T> step) throws BcsException {
+    private static <T> T refusing(Step<T> step) throws BcsException {
         try {
             return step.run();
         } catch (Mismatch e) {
-            throw e.refusal(kind);
+            throw e.refusal();
         } catch (StackOverflowError e) {
             throw BcsException.tooLittleStack();
         }
