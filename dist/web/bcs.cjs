@@ -1,50 +1,80 @@
 // bcs.mjs for `require`: bindings/web/commonjs.py makes this file.
 "use strict";
 /**
- * What a call refuses: `kind` says what is refused, `reason` is the fault's name, `place` is the byte offset where bytes stop
- * being a value. `pointer` is where the fault is, a JSON Pointer for values and their JSON, and `expected` what was expected
- * there.
+ * A refusal. `kind` is what is refused, `reason` the fault's name, `place` the byte offset where bytes stop being a value, `at` a
+ * JSON Pointer or field path, which is empty for a whole document, and `detail` what is wrong there. `message` is the line that
+ * joins them.
  */
 class BcsError extends Error {
-  constructor(kind, reason, place, { pointer, expected } = {}) {
-    super(`${kind} refused: ${reason}${whereOf(kind, place, pointer)}${expected === undefined ? '' : `: ${expected}`}`);
+  constructor(kind, { reason, place, at, detail, cause } = {}) {
+    super(lineOf(reason, place, at, detail), cause === undefined ? undefined : { cause });
     this.name = 'BcsError';
     this.kind = kind;
     this.reason = reason;
     this.place = place;
-    this.pointer = pointer;
-    this.expected = expected;
+    this.at = at;
+    this.detail = detail;
   }
 }
 
-function whereOf(kind, place, pointer) {
-  const way = pointer === '' && ['text', 'value'].includes(kind) ? `the whole ${kind}` : pointer;
-  const where = [place, way].filter((part) => part !== undefined).join(', ');
-  return where === '' ? '' : ` at ${where}`;
+/** The same first words as everywhere: `refused: BadNumber at /amount: wanted ..`, and for bytes `refused: BadBool at byte 5, .a: ..`. */
+function lineOf(reason, place, at, detail) {
+  const where = [place === undefined ? '' : `byte ${place}`, at ?? ''].filter((part) => part !== '').join(', ');
+  const fault = where === '' ? reason : `${reason} at ${where}`;
+  return ['refused', fault, detail].filter((part) => part !== undefined && part !== '').join(': ');
 }
 
 // Bytes as hexadecimal digits, and back.
 const DIGITS = Array.from({ length: 256 }, (_, byte) => byte.toString(16).padStart(2, '0'));
+// (in the order of this machine's bytes)
+const PAIRS = new Uint16Array(Uint8Array.from(DIGITS.join(''), (digit) => digit.charCodeAt(0)).buffer);
+// By the code of a digit what it adds to a byte as its first or second one; for all other codes NONE.
+const NONE = 256;
+const FIRST = Uint16Array.from({ length: 128 }, (_, code) => valueOfDigit(code, 16));
+const SECOND = Uint16Array.from({ length: 128 }, (_, code) => valueOfDigit(code, 1));
+// Appending to a string costs memory for each piece, so more bytes than this become an array of digits first.
+const FEW = 256;
+const ascii = new TextDecoder();
+
+function valueOfDigit(code, factor) {
+  const character = String.fromCharCode(code);
+  return /[0-9a-fA-F]/.test(character) ? parseInt(character, 16) * factor : NONE;
+}
 
 /** Two digits for each byte, in lower case. */
 function hexOf(bytes) {
+  if (bytes.length > FEW) {
+    const pairs = new Uint16Array(bytes.length);
+    putHex(bytes, pairs);
+    return ascii.decode(pairs);
+  }
   let digits = '';
   for (const byte of bytes) digits += DIGITS[byte];
   return digits;
 }
 
-/** The bytes of digits of either case, or `undefined` where the text is no even number of digits. */
-function bytesOfHex(digits) {
-  if (digits.length % 2 || /[^0-9a-fA-F]/.test(digits)) return undefined;
-  const bytes = new Uint8Array(digits.length / 2);
-  for (let i = 0; i < bytes.length; i++) {
-    bytes[i] = valueOfDigit(digits.charCodeAt(2 * i)) * 16 + valueOfDigit(digits.charCodeAt(2 * i + 1));
-  }
-  return bytes;
+/** Writes these digits in ASCII, two for each item of an array. */
+function putHex(bytes, pairs) {
+  for (let i = 0; i < bytes.length; i++) pairs[i] = PAIRS[bytes[i]];
 }
 
-function valueOfDigit(code) {
-  return code <= 57 ? code - 48 : (code | 32) - 87;
+/** The bytes of hexadecimal digits, for values that have them: `hex('0aff')`. */
+function hex(digits) {
+  const bytes = typeof digits === 'string' ? bytesOfHex(digits) : undefined;
+  if (bytes !== undefined) return bytes;
+  throw new TypeError('hex takes a string of two hexadecimal digits for each byte, without 0x');
+}
+
+/** The bytes of digits of either case, or `undefined` where the text is no even number of digits. */
+function bytesOfHex(digits) {
+  const bytes = new Uint8Array(digits.length >> 1);
+  let all = digits.length % 2 === 0 ? 0 : NONE;
+  for (let i = 0; i < bytes.length; i++) {
+    const byte = (FIRST[digits.charCodeAt(2 * i)] ?? NONE) | (SECOND[digits.charCodeAt(2 * i + 1)] ?? NONE);
+    all |= byte;
+    bytes[i] = byte;
+  }
+  return all < NONE ? bytes : undefined;
 }
 
 // What callers pass as bytes and as typed arrays, and base64.
@@ -128,10 +158,116 @@ function fromBase64(text) {
   return bytes;
 }
 
+// Strings as UTF-8, and back. A lone surrogate is rejected, since it would turn into another character.
+
+const SHORT_TEXT = 8192;
+const encoder = new TextEncoder();
+// Where the bytes of short texts are stored while a call is made, since a new array for each takes longer.
+const shortText = new Uint8Array(3 * SHORT_TEXT);
+// (a byte order mark is a character as any other)
+const decoder = new TextDecoder('utf-8', { fatal: true, ignoreBOM: true });
+
+/** What a caller passes as JSON, a name or a path, as bytes. */
+function bytesOf(text) {
+  return typeof text === 'string' ? encoder.encode(wellFormed(text)) : bytesOfAny(text);
+}
+
+/** The same for one call, before any other. */
+function bytesForCall(text) {
+  if (typeof text !== 'string' || text.length > SHORT_TEXT) return bytesOf(text);
+  return shortText.subarray(0, encoder.encodeInto(wellFormed(text), shortText).written);
+}
+
+/** What the module returned as UTF-8. */
+function stringOfUtf8(bytes) {
+  try {
+    return decoder.decode(bytes);
+  } catch (cause) {
+    // (the module returns UTF-8, so only the length can be at fault)
+    throw new BcsError('memory', { detail: 'this engine has no string that long', cause });
+  }
+}
+
+function wellFormed(text) {
+  if (isWellFormed(text)) return text;
+  throw new TypeError('the text has a lone surrogate, which UTF-8 has not');
+}
+
+function isWellFormed(string) {
+  return string.isWellFormed?.() ?? !/\p{Surrogate}/u.test(string);
+}
+
+// Types of Move that a registry has as newtypes of 32 bytes: addresses and integers of 256 bits.
+
+const SIZE = 32;
+const BITS = 8 * SIZE;
+// How `bcs from-move` calls the containers.
+const DEFAULT_NAMES = { address: ['address'], u256: ['u256'], i256: ['i256'] };
+
+/** By the names of containers which of the types they are. For a type whose names aren't given, they are the default ones. */
+class MoveTypes {
+  /** The names that the caller gave. */
+  given = [];
+  #types = new Map();
+
+  /** This may run the caller's code. */
+  constructor(names = {}) {
+    if (typeof names !== 'object' || names === null) throw new TypeError('names is an object of arrays');
+    for (const type of Object.keys(names)) {
+      if (!Object.hasOwn(DEFAULT_NAMES, type)) throw new TypeError(`names has address, u256 and i256, and not ${type}`);
+    }
+    for (const [type, defaults] of Object.entries(DEFAULT_NAMES)) {
+      const given = names[type];
+      for (const name of given === undefined ? defaults : listOf(given, type)) this.#add(name, type, given !== undefined);
+    }
+  }
+
+  #add(name, type, isGiven) {
+    if (this.#types.has(name)) throw new TypeError(`names has the container ${name} twice`);
+    this.#types.set(name, type);
+    if (isGiven) this.given.push(name);
+  }
+
+  /** The type of a container, or `undefined` if its values are those of its format. */
+  of(name, container) {
+    return isOf32Bytes(container) ? this.#types.get(name) : undefined;
+  }
+}
+
+function listOf(given, type) {
+  const names = Array.isArray(given) ? Array.from(given) : undefined;
+  if (names?.every((name) => typeof name === 'string')) return names;
+  throw new TypeError(`names.${type} is an array of containers' names`);
+}
+
+function isOf32Bytes(container) {
+  const array = container?.NEWTYPESTRUCT?.TUPLEARRAY;
+  return array?.CONTENT === 'U8' && array.SIZE === SIZE;
+}
+
+/** The bytes of an address: `0x` and 1 to 64 hexadecimal digits. `undefined` for any other string. */
+function bytesOfAddress(string) {
+  const [, digits] = /^0x([0-9a-fA-F]{1,64})$/.exec(string) ?? [];
+  return digits && bytesOfHex(digits.padStart(2 * SIZE, '0'));
+}
+
+/** The bytes of an integer of 256 bits, the lowest first, or `undefined` if it has more. */
+function bytesOfWide(number, isSigned) {
+  if ((isSigned ? BigInt.asIntN(BITS, number) : BigInt.asUintN(BITS, number)) !== number) return undefined;
+  return bytesOfHex(BigInt.asUintN(BITS, number).toString(16).padStart(2 * SIZE, '0')).reverse();
+}
+
+/** The inverse of that. */
+function wideOfBytes(bytes, isSigned) {
+  const number = BigInt(`0x${hexOf(bytes.slice().reverse())}`);
+  return isSigned ? BigInt.asIntN(BITS, number) : number;
+}
+
 // The formats of a registry as values are read and written: parsed once, with fields and variants found by their names.
 
+
 // Values of these kinds are neither `null` nor objects with members.
-const PLAIN = new Set(['BOOL', 'STR', 'BYTES', 'INTEGER', 'SEQ', 'TUPLE', 'MAP']);
+const PLAIN = new Set(['BOOL', 'STR', 'BYTES', 'INTEGER', 'SEQ', 'TUPLE', 'MAP', 'ADDRESS', 'U256', 'I256']);
 const INTEGERS = new Set(['U8', 'U16', 'U32', 'U64', 'U128', 'I8', 'I16', 'I32', 'I64', 'I128']);
 
 /** The containers of a registry's JSON text by their names. The text has passed the proved check. */
@@ -140,20 +276,26 @@ function containersOf(registryText) {
 }
 
 /**
- * Makes shapes of formats. A shape has its `kind`, which is that of the format, except that all integers are an `INTEGER`,
- * `TUPLEARRAY` is a `SEQ` too, tuple structs are a `TUPLE` and newtypes what they hold; the `name` that messages use; and its
- * `item`, `parts`, `entry` or `members`.
+ * Makes shapes of formats. A shape has its `kind`, which is that of the format, except that all integers are an `INTEGER`, lists and
+ * arrays of `U8` are `BYTES`, any other `TUPLEARRAY` is a `SEQ`, tuple structs are a `TUPLE` and newtypes what they hold, or the
+ * `ADDRESS`, `U256` or `I256` of Move; the `name` that messages use; and its `item`, `parts`, `entry` or `members`.
  */
 class Shapes {
   #containers;
+  #moveTypes;
   #known = new Map();
 
-  constructor(containers) {
+  constructor(containers, moveTypes = new MoveTypes()) {
     this.#containers = containers;
+    this.#moveTypes = moveTypes;
   }
 
   get names() {
     return [...this.#containers.keys()];
+  }
+
+  isMoveType(name) {
+    return this.#moveTypes.of(name, this.#containers.get(name)) !== undefined;
   }
 
   /** The shape of a format that has passed the proved check. */
@@ -166,9 +308,9 @@ class Shapes {
       case 'OPTION':
         return { kind, name: kind, members: new Map([['some', this.of(inner)]]) };
       case 'SEQ':
-        return { kind, name: kind, item: this.of(inner) };
+        return this.#list(kind, inner);
       case 'TUPLEARRAY':
-        return { kind: 'SEQ', name: kind, item: this.of(inner.CONTENT) };
+        return this.#list(kind, inner.CONTENT);
       case 'TUPLE':
         return this.#tuple(kind, inner);
       default:
@@ -221,6 +363,8 @@ class Shapes {
 
   #container(name, container) {
     if (container === 'UNITSTRUCT') return this.of('UNIT');
+    const moveType = this.#moveTypes.of(name, container);
+    if (moveType !== undefined) return { kind: moveType.toUpperCase(), name };
     const [[kind, inner]] = Object.entries(container);
     if (kind !== 'ENUM') return this.#content(name, kind, inner);
     const variants = Object.values(inner).map((variant) => Object.entries(variant)[0]);
@@ -244,6 +388,10 @@ class Shapes {
     }
   }
 
+  #list(name, format) {
+    return format === 'U8' ? { kind: 'BYTES', name } : { kind: 'SEQ', name, item: this.of(format) };
+  }
+
   #tuple(name, formats) {
     return { kind: 'TUPLE', name, parts: formats.map((format) => this.of(format)) };
   }
@@ -254,21 +402,86 @@ class Shapes {
   }
 }
 
-// Values in JavaScript's own types, as JSON texts and back. This is a convenience and not proved: the bytes come from the
-// proved call over the JSON text, which rejects a text that is not a value's.
+// JSON as it is written.
+
+// Longer strings become bytes, since appending to a string costs memory for each piece.
+const MOST_TEXT = 8192;
+const FEW_BYTES = 256;
+// What usually follows a long byte string.
+const SPARE = 4096;
+const utf8 = new TextEncoder();
+
+/** A document that grows at its end: bytes in UTF-8, and behind them a string that isn't among them yet. */
+class JsonOutput {
+  #bytes = new Uint8Array();
+  #length = 0;
+  #text = '';
+
+  /** No more than its bytes. */
+  get length() {
+    return this.#length + this.#text.length;
+  }
+
+  put(text) {
+    this.#text += text;
+    if (this.#text.length > MOST_TEXT) this.#flush();
+  }
+
+  /** A string of two digits for each byte. Those of many bytes are written two by two, so a space puts them at an even place. */
+  putHex(bytes) {
+    if (bytes.length <= FEW_BYTES) return this.put(`"${hexOf(bytes)}"`);
+    this.#flush();
+    this.put(this.#length % 2 === 0 ? ' "' : '"');
+    this.#flush();
+    this.#reserve(2 * bytes.length);
+    putHex(bytes, new Uint16Array(this.#bytes.buffer, this.#length, bytes.length));
+    this.#length += 2 * bytes.length;
+    return this.put('"');
+  }
+
+  /** All of it: a string if it is short, and else its bytes. */
+  whole() {
+    if (this.#length === 0) return this.#text;
+    this.#flush();
+    return this.#bytes.subarray(0, this.#length);
+  }
+
+  #flush() {
+    this.#reserve(3 * this.#text.length);
+    this.#length += utf8.encodeInto(this.#text, this.#bytes.subarray(this.#length)).written;
+    this.#text = '';
+  }
+
+  #reserve(count) {
+    const needed = this.#length + count;
+    if (needed <= this.#bytes.length) return;
+    const larger = new Uint8Array(Math.max(needed + SPARE, 2 * this.#bytes.length));
+    larger.set(this.#bytes.subarray(0, this.#length));
+    this.#bytes = larger;
+  }
+}
+
+// Values in JavaScript's own types, as JSON. This is a convenience and not proved: the bytes come from the proved call over the
+// JSON, which rejects a document that is not a value's.
 
 // The limits of docs/FORMAT.md: arrays and objects in one another, and open containers.
 const MOST_NESTED = 100;
 const MOST_OPEN = 500;
-// An array may have a length of billions and take no memory.
+// An array may have a length of billions and take no memory, and a value may hold another one many times.
 const MOST_COUNTED = 1_000_000;
-const WIDE = new Set(['U64', 'U128', 'I64', 'I128']);
+const MOST_JSON = 1 << 30;
+const MOST_SHOWN = 80;
+const BITS_SHOWN = 512;
+const OCTET = { kind: 'INTEGER', name: 'U8' };
 const TAKES = {
   INTEGER: 'an integer',
+  U256: 'an integer',
+  I256: 'an integer',
   UNIT: 'null',
   BOOL: 'a boolean',
   STR: 'a string',
-  BYTES: 'bytes or hexadecimal digits',
+  BYTES: 'bytes, or hex(…) for digits',
+  ADDRESS: '0x and 1 to 64 hexadecimal digits, or 32 bytes',
   OPTION: 'null or { some: value }',
   PLAIN_OPTION: 'null, a value or { some: value }',
   TUPLE: 'an array',
@@ -277,140 +490,162 @@ const TAKES = {
   ENUM: "a variant's name or an object with one member",
 };
 
-/** The JSON text of a value of this shape. A value of a wrong type is rejected; all other faults the proved call finds. */
-function textOf(shapes, shape, value) {
-  return new Writer(shapes).value(shape, value);
-}
-
-/** The value of this shape that a normal JSON text represents; with `plainOptions`, options are their values where that is clear. */
-function valueOf(shapes, shape, text, plainOptions = false) {
-  return new Reader(shapes, plainOptions).value(shape, JSON.parse(text));
+/**
+ * The JSON of a value of this shape with at most so many nodes, as a string or in UTF-8. A value of a wrong type is rejected; all
+ * other faults the proved call finds.
+ */
+function jsonOfValue(shapes, shape, value, nodes) {
+  return new Writer(shapes, nodes).whole(shape, value);
 }
 
 /**
  * Goes through a shape and a value together. It may run the caller's code (getters, proxies), but only before the proved call,
- * and it reads each part once. Below an unknown name and beyond the deepest container the call rejects the text whatever it has
+ * and it reads each part once. Below an unknown name and beyond the deepest container the call rejects the JSON whatever it has
  * there, so the value is not read there.
  */
 class Writer {
   #shapes;
+  #nodes;
+  #out = new JsonOutput();
   #path = [];
   #open = 0;
 
-  constructor(shapes) {
+  constructor(shapes, nodes) {
     this.#shapes = shapes;
+    this.#nodes = nodes;
   }
 
-  value(shape, value) {
+  whole(shape, value) {
+    this.#value(shape, value);
+    return this.#out.whole();
+  }
+
+  #value(shape, value) {
+    this.#count();
     switch (shape.kind) {
       case 'TYPENAME':
-        return this.#container(shape.name, value);
+        return this.#container(shape.name, (held) => this.#value(held, value));
       case 'OPTION':
-        return value === null ? 'null' : this.#option(shape, value);
+        return value === null ? this.#out.put('null') : this.#option(shape, value);
       case 'SEQ':
         return this.#list(shape, value);
       case 'TUPLE':
-        return this.#items(shape, value, (i) => shape.parts[i]);
+        return this.#tuple(shape, value);
       case 'MAP':
-        return this.#items(shape, isMap(value) ? entriesOf(value) : value, () => shape.entry);
+        return this.#array(shape, isMap(value) ? entriesOf(value) : value, (entry) => this.#tuple(shape.entry, entry));
       case 'STRUCT':
         return this.#members(shape, value);
       case 'ENUM':
-        return (typeof value === 'string' && stringText(value)) || this.#members(shape, value);
+        return typeof value === 'string' ? this.#text(shape, value) : this.#members(shape, value);
       default:
-        return this.#leaf(shape, value) ?? this.#reject(shape, value);
+        return this.#leaf(shape, value);
     }
-  }
-
-  #container(name, value) {
-    if (this.#open === MOST_OPEN) return 'null';
-    this.#open++;
-    const text = this.value(this.#shapes.container(name), value);
-    this.#open--;
-    return text;
-  }
-
-  /** `{ some: value }`, or the value alone where it can't be mistaken for that. The names of members are read once. */
-  #option(shape, value) {
-    if (!this.#shapes.isPlainOption(shape) || value === undefined) return this.#members(shape, value);
-    const [name, inner] = [...shape.members][0];
-    if (typeof value !== 'object' || tagOf(value) !== 'Object') return this.#some(name, inner, value);
-    const names = Object.keys(value);
-    const isExact = (names.length === 1 && names[0] === name) || !this.#shapes.hasMembers(inner);
-    return isExact ? this.#members(shape, value, names) : this.#some(name, inner, value, names);
-  }
-
-  #some(name, inner, value, names) {
-    this.#nest();
-    this.#path.push(name);
-    const text = names === undefined ? this.value(inner, value) : this.#object(inner, value, names);
-    this.#path.pop();
-    return `{"${name}":${text}}`;
-  }
-
-  /** A struct or a variant, perhaps within containers, whose members have these names. */
-  #object(shape, value, names) {
-    if (shape.kind !== 'TYPENAME') return this.#members(shape, value, names);
-    if (this.#open === MOST_OPEN) return 'null';
-    this.#open++;
-    const text = this.#object(this.#shapes.container(shape.name), value, names);
-    this.#open--;
-    return text;
   }
 
   #leaf(shape, value) {
     switch (shape.kind) {
       case 'UNIT':
-        return value === null ? 'null' : undefined;
+        return this.#out.put(value === null ? 'null' : this.#reject(shape, value));
       case 'BOOL':
-        return typeof value === 'boolean' ? String(value) : undefined;
+        return this.#out.put(typeof value === 'boolean' ? String(value) : this.#reject(shape, value));
       case 'STR':
-        return typeof value === 'string' ? stringText(value) : undefined;
+        return this.#text(shape, value);
       case 'INTEGER':
-        return integerText(value);
+        return this.#integer(shape, value);
+      case 'U256':
+      case 'I256':
+        return this.#wide(shape, value);
       case 'BYTES':
-        return this.#hexText(shape, value);
+        return this.#bytes(shape, value);
+      case 'ADDRESS':
+        return typeof value === 'string' ? this.#address(shape, value) : this.#bytes(shape, value);
       default:
-        // (the proved call rejects F32, F64 and CHAR, whatever the text has there)
-        return 'null';
+        // (the proved call rejects F32, F64 and CHAR, whatever the JSON has there)
+        return this.#out.put('null');
     }
   }
 
-  #list(shape, value) {
-    const digits = isOctet(shape.item) ? this.#hexText(shape, value) : undefined;
-    if (digits !== undefined) return digits;
-    const integers = shape.item.kind === 'INTEGER' ? this.#copied(copyOfIntegers, shape, value) : undefined;
-    return integers === undefined ? this.#items(shape, value, () => shape.item) : `[${integers.join()}]`;
+  /** Writes what a container holds. */
+  #container(name, write) {
+    if (this.#open === MOST_OPEN) return this.#out.put('null');
+    this.#open++;
+    write(this.#shapes.container(name));
+    this.#open--;
   }
 
-  #items(shape, value, shapeOf) {
+  /** `{ some: value }`, or the value alone where it can't be mistaken for that. The names of members are read once. */
+  #option(shape, value) {
+    if (!this.#shapes.isPlainOption(shape) || value === undefined) return this.#members(shape, value);
+    const inner = shape.members.get('some');
+    if (typeof value !== 'object' || tagOf(value) !== 'Object') return this.#some(() => this.#value(inner, value));
+    const names = Object.keys(value);
+    const isExact = (names.length === 1 && names[0] === 'some') || !this.#shapes.hasMembers(inner);
+    return isExact ? this.#members(shape, value, names) : this.#some(() => this.#object(inner, value, names));
+  }
+
+  #some(write) {
+    this.#nest();
+    this.#out.put('{"some":');
+    this.#within('some', write);
+    this.#out.put('}');
+  }
+
+  /** A struct or a variant, perhaps within containers, whose members have these names. */
+  #object(shape, value, names) {
+    if (shape.kind !== 'TYPENAME') return this.#members(shape, value, names);
+    return this.#container(shape.name, (held) => this.#object(held, value, names));
+  }
+
+  #list(shape, value) {
+    const integers = shape.item.kind === 'INTEGER' ? this.#copied(copyOfIntegers, shape, value) : undefined;
+    if (integers !== undefined) return this.#out.put(`[${integers.join()}]`);
+    return this.#array(shape, value, (item) => this.#value(shape.item, item));
+  }
+
+  #tuple(shape, value) {
+    this.#array(shape, value, (item, i) => this.#value(shape.parts[i], item));
+  }
+
+  /** An array, whose items `write` writes. Items beyond those of a tuple are only counted: the proved call reports their number. */
+  #array(shape, value, write) {
     if (!Array.isArray(value)) this.#reject(shape, value);
     this.#nest();
-    const [texts, { length }] = [[], value];
-    // (items beyond those of a tuple are only counted: the proved call reports their number)
-    const surplus = shape.kind === 'TUPLE' ? Math.max(length - shape.parts.length, 0) : 0;
-    if (surplus > MOST_COUNTED) this.#reject(shape, value, 'one with far too many items');
+    const { length } = value;
+    const count = Math.min(length, shape.parts?.length ?? length);
+    if (length - count > MOST_COUNTED) this.#reject(shape, value, 'one with far too many items');
     const depth = this.#path.push(0) - 1;
-    for (let i = 0; i < length - surplus; i++) {
+    for (let i = 0; i < count; i++) {
       this.#path[depth] = i;
       const item = value[i];
       // (no format takes `undefined`, and the proved call rejects those whose values aren't looked at, such as F64)
       if (item === undefined && i >= MOST_COUNTED) this.#reject(shape, value, 'one with far too many items');
-      texts.push(this.value(shapeOf(i), item));
+      this.#out.put(i === 0 ? '[' : ',');
+      write(item, i);
     }
     this.#path.pop();
-    return `[${texts.concat(new Array(surplus).fill('null')).join()}]`;
+    const surplus = new Array(length - count).fill('null').join();
+    this.#out.put(count === 0 ? `[${surplus}]` : `${surplus && ','}${surplus}]`);
   }
 
-  #members(shape, value, names) {
+  #members(shape, value, known) {
     if (typeof value !== 'object' || tagOf(value) !== 'Object') this.#reject(shape, value);
     this.#nest();
-    const members = (names ?? Object.keys(value)).map((name) => {
-      const part = shape.members.get(name);
-      const text = stringText(name) ?? this.#reject(shape, value, 'one with half of a surrogate pair in a name');
-      return `${text}:${part === undefined ? 'null' : this.#part(name, part, value[name])}`;
-    });
-    return `{${members.join()}}`;
+    const names = known ?? Object.keys(value);
+    if (shape.kind === 'STRUCT' && shape.members.size + names.length === 0 && !isEmpty(value)) {
+      this.#reject(shape, value, 'a class instance or one with hidden members');
+    }
+    this.#out.put('{');
+    names.forEach((name, i) => this.#member(shape, value, name, i === 0 ? '' : ','));
+    this.#out.put('}');
+  }
+
+  #member(shape, value, name, comma) {
+    const text = stringText(name) ?? this.#reject(shape, value, 'one with a lone surrogate in a name');
+    this.#out.put(`${comma}${text}:`);
+    const part = shape.members.get(name);
+    if (part === undefined) return this.#out.put('null');
+    const held = value[name];
+    return this.#within(name, () => this.#value(part, held));
   }
 
   /** The path has a step for each open array or object. A value within itself ends here, too. */
@@ -419,18 +654,62 @@ class Writer {
     throw this.#error('TooNested', `arrays and objects nest more than ${MOST_NESTED} deep`);
   }
 
-  #part(step, shape, value) {
+  #within(step, write) {
     this.#path.push(step);
-    const text = this.value(shape, value);
+    write();
     this.#path.pop();
-    return text;
   }
 
-  /** Bytes as digits, or digits as they are; `undefined` for any other type. */
-  #hexText(shape, value) {
-    if (typeof value === 'string') return stringText(value);
-    const bytes = this.#copied(copyOfBytes, shape, value);
-    return bytes && `"${hexOf(bytes)}"`;
+  /** Values that hold others many times end here: they take little memory, and their JSON much. */
+  #count() {
+    if (this.#nodes-- === 0) throw this.#error('TooManyNodes', 'the value has more nodes than the limits allow');
+    if (this.#out.length > MOST_JSON) throw this.#error('TooLong', 'the JSON of the value is above 1 GiB');
+  }
+
+  #text(shape, value) {
+    this.#out.put((typeof value === 'string' ? stringText(value) : undefined) ?? this.#reject(shape, value));
+  }
+
+  #integer(shape, value) {
+    const number = this.#exact(shape, value);
+    this.#out.put(typeof number === 'number' ? String(number) : `"${number}"`);
+  }
+
+  #wide(shape, value) {
+    const number = BigInt(this.#exact(shape, value));
+    this.#out.putHex(bytesOfWide(number, shape.kind === 'I256') ?? this.#lacksRoom(shape, number));
+  }
+
+  /** An integer as it is. A long `bigint` would take long to print, and no format has it. */
+  #exact(shape, value) {
+    if (typeof value === 'number' ? !Number.isSafeInteger(value) : typeof value !== 'bigint') this.#reject(shape, value);
+    if (typeof value === 'bigint' && isLong(value)) this.#lacksRoom(shape, value);
+    return value;
+  }
+
+  #address(shape, value) {
+    const found = value.length <= MOST_SHOWN ? JSON.stringify(value) : 'a longer string';
+    this.#out.putHex(bytesOfAddress(value) ?? this.#reject(shape, value, found));
+  }
+
+  /** Bytes, or a list of integers from 0 to 255. A string is neither, so that bytes never depend on what it looks like. */
+  #bytes(shape, value) {
+    this.#out.putHex(this.#copied(copyOfBytes, shape, value) ?? this.#octets(shape, value));
+  }
+
+  #octets(shape, value) {
+    const integers = this.#copied(copyOfIntegers, shape, value) ?? (Array.isArray(value) ? value : this.#reject(shape, value));
+    const [octets, { length }] = [[], integers];
+    const depth = this.#path.push(0) - 1;
+    for (let i = 0; i < length; i++) {
+      this.#path[depth] = i;
+      const item = this.#exact(OCTET, integers[i]);
+      if (item < 0 || item > 255) this.#lacksRoom(OCTET, item);
+      if (2 * i > MOST_JSON) this.#reject(shape, value, 'one with far too many items');
+      octets.push(Number(item));
+    }
+    this.#path.pop();
+    return Uint8Array.from(octets);
   }
 
   #copied(copy, shape, value) {
@@ -447,26 +726,25 @@ class Writer {
     throw this.#error('WrongType', `${shape.name} takes ${takes}, not ${found}`);
   }
 
-  #error(reason, expected) {
-    const pointer = this.#path.map((step) => `/${String(step).replaceAll('~', '~0').replaceAll('/', '~1')}`).join('');
-    return new BcsError('value', reason, undefined, { pointer, expected });
+  #lacksRoom(shape, number) {
+    const shown = isLong(BigInt(number)) ? `a number of more than ${BITS_SHOWN} bits` : number;
+    throw this.#error('WrongType', `${shape.name} doesn't hold ${shown}`);
   }
-}
 
-/** Whether this is the integer type `U8` itself, lists of which are bytes. */
-function isOctet({ kind, name }) {
-  return kind === 'INTEGER' && name === 'U8';
+  #error(reason, detail) {
+    const at = this.#path.map((step) => `/${String(step).replaceAll('~', '~0').replaceAll('/', '~1')}`).join('');
+    return new BcsError('value', { reason, at, detail });
+  }
 }
 
 function takenBy({ kind, item }) {
   if (kind !== 'SEQ') return TAKES[kind];
-  if (isOctet(item)) return 'bytes, hexadecimal digits or an array';
   return item.kind === 'INTEGER' ? 'an array or a typed array of integers' : 'an array';
 }
 
 function foundIn(value) {
   if (typeof value === 'number' && !Number.isSafeInteger(value)) return inexact(value);
-  if (typeof value === 'string' && stringText(value) === undefined) return 'a string with half of a surrogate pair';
+  if (typeof value === 'string' && stringText(value) === undefined) return 'a string with a lone surrogate';
   return typeof value === 'object' && value !== null ? tagOf(value) : value === null ? 'null' : typeof value;
 }
 
@@ -474,9 +752,20 @@ function inexact(number) {
   return Number.isInteger(number) ? `the number ${number}: above 2 ** 53 - 1 only a bigint is exact` : `the number ${number}`;
 }
 
+function isLong(number) {
+  return BigInt.asIntN(BITS_SHOWN, number) !== number;
+}
+
 /** What `Object.prototype.toString` says: `Date` for a date, `Object` for plain objects and instances of most classes. */
 function tagOf(object) {
   return Object.prototype.toString.call(object).slice('[object '.length, -1);
+}
+
+/** Whether an object is `{}`, perhaps of another realm, and no instance of a class: that has its members elsewhere. */
+function isEmpty(object) {
+  const prototype = Object.getPrototypeOf(object);
+  const isPlain = prototype === null || (Object.getPrototypeOf(prototype) === null && Object.hasOwn(prototype, 'isPrototypeOf'));
+  return isPlain && Reflect.ownKeys(object).length === 0;
 }
 
 /** The pairs of a map as they are now: reading a value may run code that changes the map. */
@@ -484,24 +773,18 @@ function entriesOf(map) {
   return Array.from(Map.prototype.entries.call(map));
 }
 
-function integerText(value) {
-  switch (typeof value) {
-    case 'bigint':
-      return `"${value}"`;
-    case 'number':
-      return Number.isSafeInteger(value) ? String(value) : undefined;
-    default:
-      return typeof value === 'string' ? stringText(value) : undefined;
-  }
-}
-
-/** The JSON of a string, or `undefined` where half of a surrogate pair is in it, which UTF-8 doesn't have. */
+/** The JSON of a string, or `undefined` where a lone surrogate is in it, which UTF-8 doesn't have. */
 function stringText(string) {
   return isWellFormed(string) ? JSON.stringify(string) : undefined;
 }
 
-function isWellFormed(string) {
-  return string.isWellFormed?.() ?? !/\p{Surrogate}/u.test(string);
+// Values in JavaScript's own types, from normal JSON. This is a convenience and not proved.
+
+const WIDE = new Set(['U64', 'U128', 'I64', 'I128']);
+
+/** The value of this shape that normal JSON represents; with `plainOptions`, options are their values where that is clear. */
+function valueOf(shapes, shape, json, plainOptions = false) {
+  return new Reader(shapes, plainOptions).value(shape, JSON.parse(json));
 }
 
 /** Goes through a shape and the JSON of one of its values together. */
@@ -518,7 +801,7 @@ class Reader {
       case 'OPTION':
         return json === null ? null : this.option(shape, json.some);
       case 'SEQ':
-        return typeof json === 'string' ? bytesOfHex(json) : json.map((item) => this.value(shape.item, item));
+        return json.map((item) => this.value(shape.item, item));
       case 'TUPLE':
         return shape.parts.map((part, i) => this.value(part, json[i]));
       case 'MAP':
@@ -529,7 +812,7 @@ class Reader {
       case 'ENUM':
         return this.variant(shape, json);
       default:
-        return leaf(shape.name, json);
+        return leaf(shape, json);
     }
   }
 
@@ -545,16 +828,59 @@ class Reader {
   }
 }
 
-function leaf(word, json) {
-  if (WIDE.has(word)) return BigInt(json);
-  return word === 'BYTES' ? bytesOfHex(json) : json;
+function leaf({ kind, name }, json) {
+  switch (kind) {
+    case 'INTEGER':
+      return WIDE.has(name) ? BigInt(json) : json;
+    case 'BYTES':
+      return bytesOfHex(json);
+    case 'ADDRESS':
+      return `0x${json}`;
+    case 'U256':
+    case 'I256':
+      return wideOfBytes(bytesOfHex(json), kind === 'I256');
+    default:
+      return json;
+  }
+}
+
+// Calls that the engine breaks off.
+
+/** The stack or the memory of the machine didn't suffice, or the engine broke off: no answer of the calls. */
+class Interruption extends Error {
+  constructor(kind, cause) {
+    super(kind === 'memory' ? 'memory ran out' : 'the stack ran out', { cause });
+    this.kind = kind;
+  }
+}
+
+/** What an error of the engine means. A trap means that the stack within the module's memory ran out. */
+function interruptionOf(error) {
+  if (error instanceof WebAssembly.RuntimeError || isEndOfStack(error)) return new Interruption('stack', error);
+  return error instanceof RangeError ? new Interruption('memory', error) : error;
+}
+
+/** Makes a call, and throws what broke it off as a `BcsError`. */
+function interruptible(call) {
+  try {
+    return call();
+  } catch (error) {
+    const interruption = isEndOfStack(error) ? new Interruption('stack', error) : error;
+    throw interruption instanceof Interruption ? new BcsError(interruption.kind, { detail: interruption.message, cause: error }) : error;
+  }
+}
+
+/** Engines report the end of their own stack only in words. */
+function isEndOfStack(error) {
+  const isOfEngine = error instanceof RangeError || error?.name === 'InternalError';
+  return isOfEngine && /call stack|recursion/.test(error.message);
 }
 
 // The proved calls, which bindings/c/proved.h declares, on an instance of the WebAssembly module: what is handed over is put
 // into its memory, and the answer is read from there.
+
 const STATUSES = ['done', 'short', 'registry', 'format', 'limits', 'refused', 'memory', 'no', 'path', 'newer', 'closed'];
 const FORMS = ['ways', 'paths', 'tree', 'json'];
-const WHATS = ['where', 'wanted'];
 // (their numbers begin with 1)
 const NOTATIONS = [undefined, 'name', 'pointer'];
 const ANSWER_SIZE = 24;
@@ -571,14 +897,6 @@ const FIRST_PLACE = 256;
 const FIRST_DOCUMENT = 4096;
 // The least room in the memory that is kept for what calls are handed.
 const LEAST_ROOM = 4096;
-
-/** The stack or the memory of the machine didn't suffice, or the engine broke off: no answer of the calls. */
-class Interruption extends Error {
-  constructor(kind, cause) {
-    super(kind === 'memory' ? 'memory ran out' : 'the stack ran out', { cause });
-    this.kind = kind;
-  }
-}
 
 /** A registry that is read once for many calls. Where an instance was let go, the next call reads it again. */
 class Opened {
@@ -820,27 +1138,29 @@ class Calls {
     return this.#onHandle('show', registry, [FORMS.indexOf(form), name], FIRST_DOCUMENT);
   }
 
-  /** The line on a format that is refused. */
+  /** Where a format is refused, and why, in a line of the program on this `input`. */
   formatPlace(ask) {
-    return this.#run((room) => wholeCall(room, 'bcs_c_format_place', [ask.registry.text, ask.format], FIRST_PLACE));
+    return this.#line('FORMAT', 'bcs_c_format_place', [ask.registry.text, ask.format]);
   }
 
-  /** The same of a path, and of a newer registry. */
+  /** The same of a path, and of growth. */
   pathPlace(path) {
-    return this.#run((room) => wholeCall(room, 'bcs_c_path_place', [path], FIRST_PLACE));
+    return this.#line('PATH', 'bcs_c_path_place', [path]);
   }
 
   growthPlace(older, newer) {
-    return this.#run((room) => wholeCall(room, 'bcs_c_growth_place', [older, newer], FIRST_PLACE));
+    return this.#line('', 'bcs_c_growth_place', [older, newer]);
   }
 
   growthList(older, newer) {
     return this.#run((room) => wholeCall(room, 'bcs_c_growth_list', [older, newer], FIRST_DOCUMENT));
   }
 
-  /** `where` the text of a registry is refused, or what was `wanted` there. */
-  registryPlace(what, text) {
-    return this.#run((room) => wholeCall(room, 'bcs_c_registry_place', [WHATS.indexOf(what), text], FIRST_PLACE));
+  /** Where the text of a registry is refused with a fault, and what was expected there, with a NUL between them. */
+  registryRefusal(text, fault) {
+    const [where, wanted] = [0, 1].map((what) => this.#run((room) => wholeCall(room, 'bcs_c_registry_place', [what, text], FIRST_PLACE)));
+    const output = [where, wanted].flatMap(({ output: told = [] }, i) => (i === 0 ? [...told] : [0, ...told]));
+    return { ...where, fault, output: Uint8Array.from(output) };
   }
 
   faultName(fault) {
@@ -871,6 +1191,10 @@ class Calls {
     });
   }
 
+  #line(input, name, parts) {
+    return { ...this.#run((room) => wholeCall(room, name, parts, FIRST_PLACE)), input };
+  }
+
   #onHandle(name, registry, parts, outLength) {
     return this.#run((room) => handleCall(room, name, registry, parts, outLength));
   }
@@ -889,11 +1213,458 @@ class Calls {
   }
 }
 
-/** A trap means that the stack within the memory ran out. Its own stack an engine tells by the words of an error. */
-function interruptionOf(error) {
-  const isStack = error instanceof WebAssembly.RuntimeError || /call stack|recursion/.test(error.message);
-  if (isStack) return new Interruption('stack', error);
-  return error instanceof RangeError ? new Interruption('memory', error) : error;
+// Limits on values, and what bytes may cost by default.
+
+const MOST_DEPTH = 500;
+const ALL_NODES = 0xffffffff;
+const SPARE_NODES = 65_536;
+const LONG_NAME = 64;
+const [QUOTE, BACKSLASH] = [0x22, 0x5c];
+
+/** Limits by name, for `withLimits`. */
+const Limits = Object.freeze({
+  /** Those of the specification: the whole range, for bytes too. */
+  standard: () => ({ depth: MOST_DEPTH, nodes: ALL_NODES }),
+});
+
+/**
+ * How many nodes bytes may have by default, as `bcs_handle_nodes_for` of the C library computes it: 16 a byte and 65,536. Five
+ * bytes can announce two billion; no real value comes near this limit. A decoded value may repeat a name in each node, so a
+ * registry with a name of more than 64 bytes gets as many nodes as have that number of bytes in names of 64, but at least 2 a byte.
+ */
+function nodesFor(length, longestName) {
+  const ordinary = Math.min(16 * length + SPARE_NODES, ALL_NODES);
+  if (longestName <= LONG_NAME) return ordinary;
+  return Math.min(Math.max(Math.floor((ordinary * LONG_NAME) / longestName), 2 * length), ordinary);
+}
+
+/** How many bytes the longest string of a JSON document has between its quotes. No name of a registry is longer. */
+function longestStringOf(json) {
+  let [longest, start] = [0, -1];
+  for (let at = 0; at < json.length; at++) {
+    if (start < 0) {
+      if (json[at] === QUOTE) start = at + 1;
+    } else if (json[at] === BACKSLASH) {
+      at++;
+    } else if (json[at] === QUOTE) {
+      longest = Math.max(longest, at - start);
+      start = -1;
+    }
+  }
+  return longest;
+}
+
+/** A limit that a caller passes. */
+function limitOf(number, name) {
+  if (isUnsigned(number)) return number;
+  throw new RangeError(`${name} is an integer from 0 to 4294967295, and not ${String(number)}`);
+}
+
+function isUnsigned(number) {
+  return Number.isInteger(number) && number >= 0 && number <= ALL_NODES;
+}
+
+// A registry that is open.
+
+const KEPT_FORMATS = 100;
+
+/** Frees registries that nothing refers to any more. */
+const collected = new FinalizationRegistry(({ calls, opened }) => calls.close(opened));
+
+/** What a registry has open and what was parsed of it, shared with those that differ from it in their limits. */
+class Holder {
+  opened;
+  #calls;
+  #moveTypes;
+  #isClosed = false;
+  #running = 0;
+  #shapes;
+  #longestName;
+  // (apart, since a container may be called `null` or `7`)
+  #formats = { ofStrings: new Map(), ofObjects: new Map() };
+
+  constructor(calls, text, moveTypes) {
+    this.#calls = calls;
+    this.#moveTypes = moveTypes;
+    this.opened = new Opened(text);
+    collected.register(this, { calls, opened: this.opened }, this);
+  }
+
+  /** Makes a call. It may run code of the caller that closes the registry, which is then freed when the call ends. */
+  during(call) {
+    if (this.#isClosed) throw new Error('the registry is closed');
+    this.#running++;
+    try {
+      return call();
+    } finally {
+      this.#running--;
+      this.#freeIfUnused();
+    }
+  }
+
+  close() {
+    this.#isClosed = true;
+    collected.unregister(this);
+    this.#freeIfUnused();
+  }
+
+  #freeIfUnused() {
+    if (this.#isClosed && this.#running === 0) this.#calls.close(this.opened);
+  }
+
+  get shapes() {
+    this.#shapes ??= new Shapes(containersOf(stringOfUtf8(this.opened.text)), this.#moveTypes);
+    return this.#shapes;
+  }
+
+  /** Throws, and closes the registry, unless it has the containers that the caller called addresses or integers. */
+  checkNames() {
+    const missing = this.#moveTypes.given.find((name) => !this.shapes.isMoveType(name));
+    if (missing === undefined) return;
+    this.close();
+    throw new TypeError(`names: the registry has no newtype of 32 bytes called ${missing}`);
+  }
+
+  /** How many nodes bytes of this length may have by default. */
+  nodesFor(length) {
+    this.#longestName ??= longestStringOf(this.opened.text);
+    return nodesFor(length, this.#longestName);
+  }
+
+  /** The format that a caller names. Only so many are kept. This may run the caller's code. */
+  format(given) {
+    const isString = typeof given === 'string';
+    const formats = isString ? this.#formats.ofStrings : this.#formats.ofObjects;
+    const word = isString ? given : JSON.stringify(given) ?? '';
+    const known = formats.get(word);
+    if (known !== undefined) return known;
+    const text = isString ? textOfFormat(word) : word;
+    const format = { text, bytes: bytesOf(text), shape: undefined };
+    if (formats.size < KEPT_FORMATS) formats.set(word, format);
+    return format;
+  }
+
+  /** The shape of a format that has passed the proved check. */
+  shapeOf(format) {
+    format.shape ??= this.shapes.of(JSON.parse(format.text));
+    return format.shape;
+  }
+}
+
+/** As in the program: a text that begins with `{` or `"` is a format's JSON, and any other a container's name. */
+function textOfFormat(format) {
+  return /^[{"]/.test(format) ? wellFormed(format) : JSON.stringify({ TYPENAME: format });
+}
+
+// What the module reports of a refusal.
+
+// How the program calls a whole registry. Where these faults are, that is the name of a container.
+const WHOLE = 'the whole text';
+const FAULTS_OF_NAMES = ['UnknownName', 'RepeatedName'];
+
+/**
+ * Takes an answer of the module apart: where a refusal is, and what is wrong there. No other function knows how the two are
+ * joined: by a NUL; or, where the answer names the `input`, in a line of the program such as
+ * `at FORMAT, /SEQ: BadShape: wanted a format`. A name in it may contain anything.
+ */
+function reported({ status, fault, output, input }, names) {
+  if (status !== 'done' || output.length === 0) return {};
+  if (input === undefined) {
+    // (the words have no NUL, but a pointer may)
+    const end = output.lastIndexOf(0);
+    const [at, detail] = [output.subarray(0, end), output.subarray(end + 1)].map(stringOfUtf8);
+    const isWhole = at === WHOLE && !FAULTS_OF_NAMES.includes(names.faultName(fault));
+    return { at: isWhole ? '' : at, detail };
+  }
+  const [line, middle] = [stringOfUtf8(output).replace(/^at /, ''), `: ${names.faultName(fault)}`];
+  // (only the words of UnknownName have a name in them, and only the place of the others)
+  const end = middle === ': UnknownName' ? line.indexOf(middle) : line.lastIndexOf(middle);
+  const where = line.slice(0, end);
+  const at = where.startsWith(input) ? where.slice(input.length).replace(/^, /, '') : where;
+  return { at, detail: line.slice(end + middle.length).replace(/^: /, '') };
+}
+
+// The calls on one format of an open registry.
+
+/** Calls on one format within limits. They get texts as bytes, and run no code of the caller except to read a value. */
+class FormatCalls {
+  #bcs;
+  #holder;
+  #limits;
+  #format;
+
+  constructor(bcs, holder, limits, format) {
+    this.#bcs = bcs;
+    this.#holder = holder;
+    this.#limits = limits;
+    this.#format = format;
+  }
+
+  check() {
+    this.#answer(ALL_NODES, (calls, ask) => calls.check(ask));
+  }
+
+  /** The JSON of a value in UTF-8, for the next call. The format passes the proved check first. */
+  jsonOf(value) {
+    if (this.#format.shape === undefined) this.check();
+    const { shapes } = this.#holder;
+    const json = jsonOfValue(shapes, this.#holder.shapeOf(this.#format), value, this.#limits.nodes ?? ALL_NODES);
+    return typeof json === 'string' ? bytesForCall(json) : json;
+  }
+
+  /** The value that normal JSON denotes. */
+  valueOf(json, { plainOptions = false } = {}) {
+    return valueOf(this.#holder.shapes, this.#holder.shapeOf(this.#format), json, plainOptions);
+  }
+
+  encoded(text) {
+    return this.#ofText(text, (calls, ask) => calls.toBcs(ask, text)).output;
+  }
+
+  normalised(text) {
+    return stringOfUtf8(this.#ofText(text, (calls, ask) => calls.normalise(ask, text)).output);
+  }
+
+  areEqual(first, second) {
+    const placing = (calls, ask) => {
+      const told = calls.textRefusal(ask, first);
+      return reported(told.status === 'no' ? calls.textRefusal(ask, second) : told, this.#bcs);
+    };
+    return this.#answer(ALL_NODES, (calls, ask) => calls.compare(ask, first, second), placing).status === 'done';
+  }
+
+  decoded(bytes, nodes = this.#nodesFor(bytes)) {
+    return stringOfUtf8(this.#ofBytes(bytes, (calls, ask) => calls.fromBcs(ask, bytes), nodes).output);
+  }
+
+  /** (The limit on nodes depends on all bytes, so both steps get the same one.) */
+  decodedPrefix(bytes) {
+    const length = this.scanned(bytes);
+    return { text: this.decoded(bytes.subarray(0, length), this.#nodesFor(bytes)), length };
+  }
+
+  scanned(bytes) {
+    return this.#ofBytes(bytes, (calls, ask) => calls.scan(ask, bytes)).length;
+  }
+
+  explained(bytes, form) {
+    return stringOfUtf8(this.#ofBytes(bytes, (calls, ask) => calls.explain(ask, form, bytes)).output);
+  }
+
+  /** The part to which a path leads. */
+  part(bytes, path) {
+    const placing = (calls) => reported(calls.pathPlace(path), this.#bcs);
+    return this.#partBy(bytes, (calls, ask) => calls.part(ask, bytes, path), placing);
+  }
+
+  /** The part with a name. `notation` is `name` or `pointer`. */
+  partNamed(bytes, notation, name) {
+    return this.#partBy(bytes, (calls, ask) => calls.partNamed(ask, notation, name, bytes));
+  }
+
+  #partBy(bytes, call, placing) {
+    const placed = (calls, ask, { status }) => (status === 'path' ? placing?.(calls) : reported(calls.stopRefusal(ask, bytes), this.#bcs));
+    const { status, place, length } = this.#answer(this.#nodesFor(bytes), call, placed);
+    return status === 'no' ? undefined : { place, bytes: bytes.slice(place, place + length) };
+  }
+
+  schema() {
+    return stringOfUtf8(this.#answer(ALL_NODES, (calls, ask) => calls.schema(ask)).output);
+  }
+
+  example(isFull, variant) {
+    return stringOfUtf8(this.#answer(ALL_NODES, (calls, ask) => calls.example(ask, isFull, variant)).output);
+  }
+
+  #nodesFor(bytes) {
+    return this.#holder.nodesFor(bytes.length);
+  }
+
+  #ofText(text, call) {
+    return this.#answer(ALL_NODES, call, (calls, ask) => reported(calls.textRefusal(ask, text), this.#bcs));
+  }
+
+  #ofBytes(bytes, call, nodes = this.#nodesFor(bytes)) {
+    return this.#answer(nodes, call, (calls, ask) => reported(calls.stopRefusal(ask, bytes), this.#bcs));
+  }
+
+  #answer(nodes, call, placing) {
+    const limits = { depth: this.#limits.depth, nodes: this.#limits.nodes ?? nodes };
+    const ask = { registry: this.#holder.opened, format: this.#format.bytes, ...limits };
+    const placed = (calls, answer) => {
+      if (answer.status === 'format') return reported(calls.formatPlace(ask), this.#bcs);
+      return placing?.(calls, ask, answer);
+    };
+    return this.#bcs.answerOf((calls) => call(calls, ask), placed);
+  }
+}
+
+// Registries and their calls, as JavaScript has them.
+
+/**
+ * A registry that is read and open. A format is a container's name, an object, or a JSON text: `"U8"`, `{"SEQ":"U8"}`.
+ *
+ * What a call is passed may run the caller's code as it is read, which may make calls itself. So each call first turns all of it
+ * into texts and bytes of its own, the format first, and only then touches what calls share.
+ */
+class Registry {
+  #bcs;
+  #holder;
+  #limits;
+
+  constructor(bcs, holder, limits) {
+    this.#bcs = bcs;
+    this.#holder = holder;
+    this.#limits = limits;
+  }
+
+  /** The same registry with other limits: how many containers may be open at once, and how many nodes a value may have. */
+  withLimits({ depth = MOST_DEPTH, nodes }) {
+    const limits = { depth: limitOf(depth, 'depth'), nodes: nodes === undefined ? undefined : limitOf(nodes, 'nodes') };
+    return new Registry(this.#bcs, this.#holder, limits);
+  }
+
+  /** Frees the registry, also those that `withLimits` made of it, when calls in progress end. From then on calls throw. */
+  close() {
+    this.#holder.close();
+  }
+
+  /** The names of its containers. */
+  get names() {
+    return this.#holder.shapes.names;
+  }
+
+  /** Returns if the format is good. */
+  check(format) {
+    this.#on(format, (calls) => calls.check());
+  }
+
+  /** The bytes of a value. */
+  encode(format, value) {
+    return this.#on(format, (calls) => calls.encoded(calls.jsonOf(value)));
+  }
+
+  /** The bytes of the value that a JSON text denotes. */
+  encodeText(format, text) {
+    return this.#on(format, (calls) => calls.encoded(bytesForCall(text)));
+  }
+
+  /**
+   * The value whose bytes are the whole input. With `plainOptions`, an option is `null` or its value wherever that can't mean two
+   * values.
+   */
+  decode(format, bytes, options) {
+    return this.#on(format, (calls) => calls.valueOf(calls.decoded(bytesOfAny(bytes)), options));
+  }
+
+  /** The value at the beginning of the input, and how many bytes it has. What follows isn't read. */
+  decodePrefix(format, bytes, options) {
+    return this.#on(format, (calls) => {
+      const { text, length } = calls.decodedPrefix(bytesOfAny(bytes));
+      return { value: calls.valueOf(text, options), length };
+    });
+  }
+
+  /** The same with the normal JSON text of the value. */
+  decodePrefixText(format, bytes) {
+    return this.#on(format, (calls) => calls.decodedPrefix(bytesOfAny(bytes)));
+  }
+
+  /** The normal JSON text of that value. */
+  decodeText(format, bytes) {
+    return this.#on(format, (calls) => calls.decoded(bytesOfAny(bytes)));
+  }
+
+  /** The value as `decode` returns it: maps in the order of their keys, bytes as a `Uint8Array`. */
+  normalise(format, value, options) {
+    return this.#on(format, (calls) => calls.valueOf(calls.normalised(calls.jsonOf(value)), options));
+  }
+
+  /** The one normal JSON text of the value that a JSON text denotes. */
+  normaliseText(format, text) {
+    return this.#on(format, (calls) => calls.normalised(bytesForCall(text)));
+  }
+
+  /** Whether two values are equal, which is whether their bytes are. */
+  equal(format, first, second) {
+    // (the JSON of the second may be stored where that of the first is)
+    return this.#on(format, (calls) => calls.areEqual(calls.jsonOf(first).slice(), calls.jsonOf(second)));
+  }
+
+  /** Whether two JSON texts denote equal values. */
+  equalText(format, first, second) {
+    return this.#on(format, (calls) => calls.areEqual(bytesOf(first), bytesOf(second)));
+  }
+
+  /** A JSON Schema of the JSON of the format's values. */
+  schema(format) {
+    return JSON.parse(this.#on(format, (calls) => calls.schema()));
+  }
+
+  /** A value of the format to start from, as `decode` returns it; with `full`, each option, list and map has an element. */
+  example(format, options) {
+    return this.#on(format, (calls) => calls.valueOf(exampleBy(calls, options), options));
+  }
+
+  /** The JSON text of such a value, as `bcs example` prints it. */
+  exampleText(format, options) {
+    return this.#on(format, (calls) => exampleBy(calls, options));
+  }
+
+  /** The registry in readable form, or one container with what it depends on; with `json` as compact JSON. */
+  show(name = '', { json = false } = {}) {
+    return this.#during(() => {
+      const bytes = bytesOf(name);
+      const refused = () => ({ at: '', detail: `no container is called ${name}` });
+      const call = (calls) => calls.show(this.#holder.opened, json ? 'json' : 'ways', bytes);
+      return stringOfUtf8(this.#bcs.answerOf(call, refused).output);
+    });
+  }
+
+  /** How many bytes the value at the front of the input has. */
+  scan(format, bytes) {
+    return this.#on(format, (calls) => calls.scanned(bytesOfAny(bytes)));
+  }
+
+  /** The part to which a path leads, such as `2/some/0`, and its place; `undefined` where it leads nowhere. */
+  part(format, bytes, path) {
+    return this.#on(format, (calls) => calls.part(bytesOfAny(bytes), bytesOf(path)));
+  }
+
+  /** The same by the part's name, as `explain` has it: `.payload::EntryFunction.args[0]`. */
+  partByName(format, bytes, name) {
+    return this.#on(format, (calls) => calls.partNamed(bytesOfAny(bytes), 'name', bytesOf(name)));
+  }
+
+  /** The same by a JSON Pointer into the value's JSON, such as `/payload/EntryFunction/args/0`. */
+  partByPointer(format, bytes, pointer) {
+    return this.#on(format, (calls) => calls.partNamed(bytesOfAny(bytes), 'pointer', bytesOf(pointer)));
+  }
+
+  /** The pieces of the input, and behind them `{ end }`, or `{ refused, place, .. }` where they stop being a value. */
+  explain(format, bytes) {
+    const lines = this.explainText(format, bytes, 'json').split('\n');
+    return lines.slice(0, -1).map((line) => JSON.parse(line));
+  }
+
+  /** The input piece by piece, as `bcs explain` prints it. */
+  explainText(format, bytes, form = 'ways') {
+    if (!FORMS.includes(form)) throw new TypeError(`no form is called ${form}`);
+    return this.#on(format, (calls) => calls.explained(bytesOfAny(bytes), form));
+  }
+
+  /** Makes calls on the format that the caller names. */
+  #on(given, use) {
+    return this.#during(() => use(new FormatCalls(this.#bcs, this.#holder, this.#limits, this.#holder.format(given))));
+  }
+
+  #during(call) {
+    return interruptible(() => this.#holder.during(call));
+  }
+}
+
+function exampleBy(calls, { variant = '', full = false } = {}) {
+  return calls.example(full, bytesOf(variant));
 }
 
 // Which modules the engine runs.
@@ -911,28 +1682,7 @@ function isSupported(bits = 32) {
   return typeof WebAssembly === 'object' && WebAssembly.validate(smallest);
 }
 
-// The calls as JavaScript has them: registries, values, refusals.
-
-const MOST_DEPTH = 500;
-const ALL_NODES = 0xffffffff;
-const KEPT_FORMATS = 100;
-const SHORT_TEXT = 8192;
-const encoder = new TextEncoder();
-// Where the bytes of short texts stand while a call is made, since an array for each takes longer.
-const shortText = new Uint8Array(3 * SHORT_TEXT);
-// (a byte order mark is a character as any other)
-const decoder = new TextDecoder('utf-8', { fatal: true, ignoreBOM: true });
-
-/** Limits by name, for `withLimits`. */
-const Limits = Object.freeze({
-  /** Those of the specification: the whole range, for bytes too. */
-  standard: () => ({ depth: MOST_DEPTH, nodes: ALL_NODES }),
-});
-
-/** How many nodes bytes may have by default. Five bytes can announce two billion; no real value comes near this limit. */
-function nodesFor(length) {
-  return Math.min(16 * length + 1_000_000, ALL_NODES);
-}
+// Makes the calls from the module: registries, growth, and the names of faults.
 
 /** Makes the calls from the module's bytes, a `Response` with them, a compiled module, or a function that returns one of these. */
 async function load(wasm) {
@@ -964,60 +1714,6 @@ function compiled(wasm) {
   return WebAssembly.compile(wasm);
 }
 
-/** Gives the memory of registries back that nothing refers to any more. */
-const collected = new FinalizationRegistry(({ calls, opened }) => calls.close(opened));
-
-/** What a registry has open and what was parsed of it, shared with those that differ from it in their limits. */
-class Holder {
-  isClosed = false;
-  #calls;
-  #opened;
-  #shapes;
-  // (apart, since a container may be called `null` or `7`)
-  #formats = { ofStrings: new Map(), ofObjects: new Map() };
-
-  constructor(calls, text) {
-    this.#calls = calls;
-    this.#opened = new Opened(text);
-    collected.register(this, { calls, opened: this.#opened }, this);
-  }
-
-  get shapes() {
-    this.#shapes ??= new Shapes(containersOf(decoder.decode(this.#opened.text)));
-    return this.#shapes;
-  }
-
-  /** The format that a caller names. Only so many are kept. This may run the caller's code. */
-  format(given) {
-    const isString = typeof given === 'string';
-    const formats = isString ? this.#formats.ofStrings : this.#formats.ofObjects;
-    const word = isString ? given : JSON.stringify(given) ?? '';
-    const known = formats.get(word);
-    if (known !== undefined) return known;
-    const text = isString ? textOfFormat(word) : word;
-    const format = { text, bytes: encoder.encode(text), shape: undefined };
-    if (formats.size < KEPT_FORMATS) formats.set(word, format);
-    return format;
-  }
-
-  /** The shape of a format that has passed the proved check. */
-  shapeOf(format) {
-    format.shape ??= this.shapes.of(JSON.parse(format.text));
-    return format.shape;
-  }
-
-  get opened() {
-    if (this.isClosed) throw new Error('the registry is closed');
-    return this.#opened;
-  }
-
-  close() {
-    this.isClosed = true;
-    collected.unregister(this);
-    this.#calls.close(this.#opened);
-  }
-}
-
 class Bcs {
   #calls;
   #names = new Map();
@@ -1026,11 +1722,12 @@ class Bcs {
     this.#calls = new Calls(module);
   }
 
-  /** A registry, from its JSON text. */
-  registry(text) {
-    const bytes = bytesOf(text);
-    const holder = new Holder(this.#calls, bytes);
-    this.answerOf((calls) => calls.open(holder.opened), placesOfRegistry(bytes));
+  /** A registry, from its JSON. `names` has the names of containers whose values are addresses and integers of 256 bits. */
+  registry(text, { names } = {}) {
+    const [bytes, moveTypes] = [bytesOf(text), new MoveTypes(names)];
+    const holder = new Holder(this.#calls, bytes, moveTypes);
+    this.answerOf((calls) => calls.open(holder.opened), (calls, { fault }) => reported(calls.registryRefusal(bytes, fault), this));
+    holder.checkNames();
     return new Registry(this, holder, { depth: MOST_DEPTH });
   }
 
@@ -1038,17 +1735,17 @@ class Bcs {
   grows(older, newer) {
     const [first, second] = [bytesOf(older), bytesOf(newer)];
     this.answerOf((calls) => calls.grows(first, second), (calls, answer) => {
-      if (answer.status === 'refused') return this.partsOfLine(calls.growthPlace(first, second), '');
-      return placesOfRegistry(answer.status === 'newer' ? second : first)(calls);
+      if (answer.status === 'refused') return reported(calls.growthPlace(first, second), this);
+      return reported(calls.registryRefusal(answer.status === 'newer' ? second : first, answer.fault), this);
     });
   }
 
   /** All differences from an older registry to a newer one, a line for each. */
   differences(older, newer) {
     const [first, second] = [bytesOf(older), bytesOf(newer)];
-    const { output } = this.answerOf((calls) => calls.growthList(first, second), (calls, { status }) =>
-      placesOfRegistry(status === 'newer' ? second : first)(calls));
-    return decoder.decode(output).split('\n').slice(0, -1);
+    const { output } = this.answerOf((calls) => calls.growthList(first, second), (calls, { status, fault }) =>
+      reported(calls.registryRefusal(status === 'newer' ? second : first, fault), this));
+    return stringOfUtf8(output).split('\n').slice(0, -1);
   }
 
   /** The name of a fault of bcs.h, or `undefined` where no fault has the number. */
@@ -1056,12 +1753,12 @@ class Bcs {
     if (!isUnsigned(fault)) return undefined;
     if (!this.#names.has(fault)) {
       const answer = this.#calls.faultName(fault);
-      this.#names.set(fault, answer.status === 'done' ? decoder.decode(answer.output) : undefined);
+      this.#names.set(fault, answer.status === 'done' ? stringOfUtf8(answer.output) : undefined);
     }
     return this.#names.get(fault);
   }
 
-  /** The answer of a call that is done or says no; any other is thrown, with what `placing` tells of the refusal. */
+  /** The answer of a call that is done or says no; any other is thrown, with what `placing` reports of the refusal. */
   answerOf(call, placing) {
     const answer = interruptible(() => call(this.#calls));
     if (answer.status === 'done' || answer.status === 'no') return answer;
@@ -1070,54 +1767,13 @@ class Bcs {
 
   #refusal(answer, placing) {
     const { status, fault, place } = answer;
-    if (status === 'memory') return new BcsError('memory', 'memory ran out');
-    if (status === 'limits') return new BcsError('limits', 'the depth is above 500');
+    if (status === 'memory') return new BcsError('memory', { detail: 'memory ran out' });
+    if (status === 'limits') return new BcsError('limits', { detail: 'the depth is above 500' });
     const kind = status === 'refused' ? kindOfFault(fault) : status;
-    // (only where bytes stop being a value is there a place: the text that nests too deep has none)
+    const { at, detail } = (placing && interruptible(() => placing(this.#calls, answer))) ?? {};
+    // (only where bytes stop being a value is there a place: the JSON that nests too deep has none)
     const isStop = kind === 'bytes' && fault < 500;
-    return new BcsError(kind, this.faultName(fault), isStop ? place : undefined, this.#told(answer, placing));
-  }
-
-  #told(answer, placing) {
-    const { pointer, expected } = (placing && interruptible(() => placing(this.#calls, answer))) ?? {};
-    return { pointer, expected: expected === '' ? undefined : expected };
-  }
-
-  /** The parts of a line of the program, such as `at FORMAT, /SEQ: BadShape: wanted a format`. Names in it may contain anything. */
-  partsOfLine({ status, fault, output }, prefix) {
-    if (status !== 'done' || output.length === 0) return {};
-    const [line, middle] = [decoder.decode(output).replace(/^at /, ''), `: ${this.faultName(fault)}`];
-    // (only the words of UnknownName have a name in them, and only the place of the others)
-    const end = middle === ': UnknownName' ? line.indexOf(middle) : line.lastIndexOf(middle);
-    const where = line.slice(0, end);
-    const pointer = where.startsWith(prefix) ? where.slice(prefix.length).replace(/^, /, '') : where;
-    return { pointer, expected: line.slice(end + middle.length).replace(/^: /, '') };
-  }
-}
-
-function placesOfRegistry(text) {
-  return (calls) => {
-    const [pointer, expected] = ['where', 'wanted'].map((what) => {
-      const told = calls.registryPlace(what, text);
-      return told.status === 'done' ? decoder.decode(told.output) : undefined;
-    });
-    return { pointer, expected };
-  };
-}
-
-/** The parts of a refusal. A pointer may contain the byte between them, and the words don't. */
-function partsOfRefusal({ status, output }) {
-  if (status !== 'done') return {};
-  const end = output.lastIndexOf(0);
-  return { pointer: decoder.decode(output.subarray(0, end)), expected: decoder.decode(output.subarray(end + 1)) };
-}
-
-function interruptible(call) {
-  try {
-    return call();
-  } catch (error) {
-    if (error instanceof Interruption) throw new BcsError(error.kind, error.message);
-    throw error;
+    return new BcsError(kind, { reason: this.faultName(fault), place: isStop ? place : undefined, at, detail: detail || undefined });
   }
 }
 
@@ -1125,248 +1781,6 @@ function kindOfFault(fault) {
   if (fault < 300) return 'growth';
   if (fault >= 700) return 'example';
   return fault < 400 ? 'text' : 'bytes';
-}
-
-/**
- * A registry that is read and open. A format is a container's name, an object, or a JSON text: `"U8"`, `{"SEQ":"U8"}`.
- *
- * What a call is passed may run the caller's code as it is read, which may make calls itself. So each call first turns all of it
- * into texts and bytes of its own, the format first, and only then touches what calls share.
- */
-class Registry {
-  #bcs;
-  #holder;
-  #limits;
-
-  constructor(bcs, holder, limits) {
-    this.#bcs = bcs;
-    this.#holder = holder;
-    this.#limits = limits;
-  }
-
-  /** The same registry with other limits: how many containers may be open at once, and how many nodes a value may have. */
-  withLimits({ depth = MOST_DEPTH, nodes }) {
-    const limits = { depth: limit(depth, 'depth'), nodes: nodes === undefined ? undefined : limit(nodes, 'nodes') };
-    return new Registry(this.#bcs, this.#holder, limits);
-  }
-
-  /** Gives the registry's memory back, also of those that `withLimits` made of it. From then on calls throw. */
-  close() {
-    this.#holder.close();
-  }
-
-  /** The names of its containers. */
-  get names() {
-    return this.#holder.shapes.names;
-  }
-
-  /** Returns if the format is good. */
-  check(format) {
-    this.#check(this.#holder.format(format));
-  }
-
-  /** The bytes of a value. */
-  encode(format, value) {
-    const known = this.#holder.format(format);
-    if (known.shape === undefined) this.#check(known);
-    const text = textOf(this.#holder.shapes, this.#holder.shapeOf(known), value);
-    return this.#ofText(known, text, (calls, ask, text) => calls.toBcs(ask, text)).output;
-  }
-
-  /** The bytes of the value that a JSON text denotes. */
-  encodeText(format, text) {
-    return this.#ofText(this.#holder.format(format), text, (calls, ask, text) => calls.toBcs(ask, text)).output;
-  }
-
-  /**
-   * The value whose bytes are the whole input; with `json`, as `JSON.parse` makes it of its normal text; with `plainOptions`, an
-   * option is `null` or its value wherever that can't mean two values.
-   */
-  decode(format, bytes, options) {
-    const known = this.#holder.format(format);
-    return this.#valueOf(known, this.#decodedText(known, bytesOfAny(bytes)), options);
-  }
-
-  /** The value at the beginning of the input, and how many bytes it has. What follows isn't read. */
-  decodePrefix(format, bytes, options) {
-    const known = this.#holder.format(format);
-    const { text, length } = this.#decodedPrefix(known, bytes);
-    return { value: this.#valueOf(known, text, options), length };
-  }
-
-  /** The same with the normal JSON text of the value. */
-  decodePrefixText(format, bytes) {
-    return this.#decodedPrefix(this.#holder.format(format), bytes);
-  }
-
-  /** The normal JSON text of that value. */
-  decodeText(format, bytes) {
-    return this.#decodedText(this.#holder.format(format), bytesOfAny(bytes));
-  }
-
-  /** The one normal JSON text of the value that a JSON text denotes. */
-  normalise(format, text) {
-    const call = (calls, ask, text) => calls.normalise(ask, text);
-    return decoder.decode(this.#ofText(this.#holder.format(format), text, call).output);
-  }
-
-  /** Whether two JSON texts denote equal values. */
-  equal(format, first, second) {
-    const known = this.#holder.format(format);
-    const [one, other] = [bytesOf(first), bytesOf(second)];
-    const compared = (calls, ask) => calls.compare(ask, one, other);
-    const answer = this.#answer(known, ALL_NODES, compared, (calls, ask) => {
-      const told = calls.textRefusal(ask, one);
-      return partsOfRefusal(told.status === 'no' ? calls.textRefusal(ask, other) : told);
-    });
-    return answer.status === 'done';
-  }
-
-  /** A JSON Schema of the JSON of the format's values. */
-  schema(format) {
-    return JSON.parse(decoder.decode(this.#answer(this.#holder.format(format), ALL_NODES, (calls, ask) => calls.schema(ask)).output));
-  }
-
-  /** A value of the format to start from, as `decode` returns it; with `full`, each option, list and map has an element. */
-  example(format, options) {
-    const known = this.#holder.format(format);
-    return this.#valueOf(known, this.#exampleText(known, options), options);
-  }
-
-  /** The JSON text of such a value, as `bcs example` prints it. */
-  exampleText(format, options) {
-    return this.#exampleText(this.#holder.format(format), options);
-  }
-
-  /** The registry in readable form, or one container with what it depends on; with `json` as compact JSON. */
-  show(name = '', { json = false } = {}) {
-    const [bytes, registry] = [bytesOf(name), this.#holder.opened];
-    const refused = () => ({ pointer: '', expected: `no container is called ${name}` });
-    return decoder.decode(this.#bcs.answerOf((calls) => calls.show(registry, json ? 'json' : 'ways', bytes), refused).output);
-  }
-
-  /** How many bytes the value at the front of the input has. */
-  scan(format, bytes) {
-    const call = (calls, ask, bytes) => calls.scan(ask, bytes);
-    return this.#ofBytes(this.#holder.format(format), bytesOfAny(bytes), call).length;
-  }
-
-  /** The part to which a path leads, such as `2/some/0`, and its place; `undefined` where it leads nowhere. */
-  part(format, bytes, path) {
-    const known = this.#holder.format(format);
-    const [input, steps] = [bytesOfAny(bytes), bytesOf(path)];
-    const placing = (calls, ask, { status }) =>
-      status === 'path' ? this.#bcs.partsOfLine(calls.pathPlace(steps), 'PATH') : partsOfRefusal(calls.stopRefusal(ask, input));
-    const { status, place, length } = this.#answer(known, nodesFor(input.length), (calls, ask) => calls.part(ask, input, steps), placing);
-    return status === 'no' ? undefined : { place, bytes: input.slice(place, place + length) };
-  }
-
-  /** The same by the part's name, as `explain` has it: `.payload::EntryFunction.args[0]`. */
-  partByName(format, bytes, name) {
-    return this.#partNamed(format, bytes, 'name', name);
-  }
-
-  /** The same by a JSON Pointer into the value's JSON, such as `/payload/EntryFunction/args/0`. */
-  partByPointer(format, bytes, pointer) {
-    return this.#partNamed(format, bytes, 'pointer', pointer);
-  }
-
-  /** The pieces of the input, and behind them `{ end }`, or `{ refused, place, .. }` where they stop being a value. */
-  explain(format, bytes) {
-    const lines = this.explainText(format, bytes, 'json').split('\n');
-    return lines.slice(0, -1).map((line) => JSON.parse(line));
-  }
-
-  /** The input piece by piece, as `bcs explain` prints it. */
-  explainText(format, bytes, form = 'ways') {
-    if (!['ways', 'paths', 'tree', 'json'].includes(form)) throw new TypeError(`no form is called ${form}`);
-    const call = (calls, ask, bytes) => calls.explain(ask, form, bytes);
-    return decoder.decode(this.#ofBytes(this.#holder.format(format), bytesOfAny(bytes), call).output);
-  }
-
-  #exampleText(format, { variant = '', full = false } = {}) {
-    const name = bytesOf(variant);
-    return decoder.decode(this.#answer(format, ALL_NODES, (calls, ask) => calls.example(ask, full, name)).output);
-  }
-
-  #partNamed(format, bytes, notation, name) {
-    const known = this.#holder.format(format);
-    const [input, text] = [bytesOfAny(bytes), bytesOf(name)];
-    const placing = (calls, ask, { status }) => (status === 'path' ? undefined : partsOfRefusal(calls.stopRefusal(ask, input)));
-    const call = (calls, ask) => calls.partNamed(ask, notation, text, input);
-    const { status, place, length } = this.#answer(known, nodesFor(input.length), call, placing);
-    return status === 'no' ? undefined : { place, bytes: input.slice(place, place + length) };
-  }
-
-  #check(format) {
-    this.#answer(format, ALL_NODES, (calls, ask) => calls.check(ask));
-  }
-
-  #valueOf(format, text, { json = false, plainOptions = false } = {}) {
-    return json ? JSON.parse(text) : valueOf(this.#holder.shapes, this.#holder.shapeOf(format), text, plainOptions);
-  }
-
-  #decodedText(format, bytes, nodes = nodesFor(bytes.length)) {
-    return decoder.decode(this.#ofBytes(format, bytes, (calls, ask, bytes) => calls.fromBcs(ask, bytes), nodes).output);
-  }
-
-  /** (The limit on nodes depends on all bytes, so both steps get the same one.) */
-  #decodedPrefix(format, given) {
-    const bytes = bytesOfAny(given);
-    const { length } = this.#ofBytes(format, bytes, (calls, ask, bytes) => calls.scan(ask, bytes));
-    return { text: this.#decodedText(format, bytes.subarray(0, length), nodesFor(bytes.length)), length };
-  }
-
-  #ofText(format, given, call) {
-    const text = bytesForCall(given);
-    const placing = (calls, ask) => partsOfRefusal(calls.textRefusal(ask, text));
-    return this.#answer(format, ALL_NODES, (calls, ask) => call(calls, ask, text), placing);
-  }
-
-  #ofBytes(format, bytes, call, nodes = nodesFor(bytes.length)) {
-    const placing = (calls, ask) => partsOfRefusal(calls.stopRefusal(ask, bytes));
-    return this.#answer(format, nodes, (calls, ask) => call(calls, ask, bytes), placing);
-  }
-
-  #answer(format, nodes, call, placing) {
-    const limits = { depth: this.#limits.depth, nodes: this.#limits.nodes ?? nodes };
-    const ask = { registry: this.#holder.opened, format: format.bytes, ...limits };
-    const placed = (calls, answer) => {
-      if (answer.status === 'format') return this.#bcs.partsOfLine(calls.formatPlace(ask), 'FORMAT');
-      return placing?.(calls, ask, answer);
-    };
-    return this.#bcs.answerOf((calls) => call(calls, ask), placed);
-  }
-}
-
-function limit(number, name) {
-  if (isUnsigned(number)) return number;
-  throw new RangeError(`${name} is a whole number from 0 to 4294967295, and not ${String(number)}`);
-}
-
-function isUnsigned(number) {
-  return Number.isInteger(number) && number >= 0 && number <= 0xffffffff;
-}
-
-/** As the program has it: a text that begins with `{` or `"` is a format's JSON, and any other a container's name. */
-function textOfFormat(format) {
-  return /^[{"]/.test(format) ? wellFormed(format) : JSON.stringify({ TYPENAME: format });
-}
-
-/** A text as bytes. Half of a surrogate pair is refused, since it would turn into another character. */
-function bytesOf(text) {
-  return typeof text === 'string' ? encoder.encode(wellFormed(text)) : bytesOfAny(text);
-}
-
-/** The same for one call, before any other. */
-function bytesForCall(text) {
-  if (typeof text !== 'string' || text.length > SHORT_TEXT) return bytesOf(text);
-  return shortText.subarray(0, encoder.encodeInto(wellFormed(text), shortText).written);
-}
-
-function wellFormed(text) {
-  if (isWellFormed(text)) return text;
-  throw new TypeError('the text has half of a surrogate pair, which UTF-8 has not');
 }
 
 // Finds bcs.wasm beside this file: in Node, in browsers, and where a bundler has put it.
@@ -1402,4 +1816,4 @@ async function nodeFiles() {
   return process.getBuiltinModule?.(name) ?? import(/* webpackIgnore: true */ /* @vite-ignore */ name);
 }
 
-module.exports = { BcsError, Limits, fromBase64, toBase64, load: loadOwn, isSupported };
+module.exports = { BcsError, hex, Limits, fromBase64, toBase64, load: loadOwn, isSupported };

@@ -27,9 +27,9 @@ export type FormatObject =
 export type FormatPart = FormatWord | FormatObject;
 
 /**
- * A value as `decode` gives it. Whole numbers of 64 and 128 bits are `bigint`, narrower ones `number`. `BYTES` and lists of `U8`
- * are `Uint8Array`, a `MAP` is a `Map`, an option is `null` or `{ some: value }`, a struct an object of its fields, a variant its
- * name or `{ Name: payload }`.
+ * A value as `decode` returns it. Integers of 64 bits and more are `bigint`, narrower ones `number`. `BYTES` and lists of `U8` are
+ * `Uint8Array`, a `MAP` is a `Map`, an option is `null` or `{ some: value }`, a struct an object of its fields, a variant its name or
+ * `{ Name: payload }`, and an address of Move a string of `0x` and 64 digits.
  */
 export type Value =
   | null
@@ -48,9 +48,9 @@ export type IntegerArray =
   | Int8Array | Int16Array | Uint16Array | Int32Array | Uint32Array | BigInt64Array | BigUint64Array;
 
 /**
- * A value as `encode` accepts it. README.md lists what each format accepts: an integer is a `bigint`, a `number` that is a safe
- * integer, or a string in plain decimal; `BYTES` and lists of `U8` are a `Uint8Array`, an `ArrayBuffer` or hexadecimal digits. Any
- * other type throws a `BcsError` of the kind `value`.
+ * A value as `encode` accepts it. README.md lists what each format accepts: an integer is a `bigint` or a `number` that is a safe
+ * integer; `BYTES` and lists of `U8` are a `Uint8Array`, an `ArrayBuffer`, an array of integers or `hex('0aff')`, and never a string.
+ * Any other type throws a `BcsError` of the kind `value`.
  */
 export type ValueInput =
   | Value
@@ -60,6 +60,17 @@ export type ValueInput =
   | ReadonlyMap<ValueInput, ValueInput>
   | { readonly [name: string]: ValueInput };
 
+/** A type whose values `encode` may accept, also an interface; its members that are no values, such as functions, become `never`. */
+export type Encodable<V> = V extends ValueInput
+  ? V
+  : V extends (...values: never[]) => unknown
+    ? never
+    : V extends ReadonlyMap<infer K, infer W>
+      ? ReadonlyMap<Encodable<K>, Encodable<W>>
+      : V extends object
+        ? { readonly [name in keyof V]: Encodable<V[name]> }
+        : never;
+
 /**
  * By the names of a registry's containers, what `encode` accepts and what `decode` returns. `bcs-types` writes them; with
  * `--plain-options`, what `decode` returns with `{ plainOptions: true }`.
@@ -68,6 +79,13 @@ export type Types = { [name: string]: { encode: unknown; decode: unknown; plain?
 
 /** Those of a registry whose types aren't known. */
 export type AnyTypes = { [name: string]: { encode: ValueInput; decode: Value; plain: Value } };
+
+/** What `encode` accepts for a format: by the types of a container, and else a value of any type that may be one. */
+export type InputOf<T extends Types, F, V> = F extends FormatText | FormatObject
+  ? V & Encodable<V>
+  : AnyTypes extends T
+    ? V & Encodable<V>
+    : ValueOf<T, F, 'encode'>;
 
 /** What `encode` accepts for a format, or `decode` returns: by the types where it is a container's name. */
 export type ValueOf<T extends Types, F, Call extends 'encode' | 'decode' | 'plain'> = F extends FormatText | FormatObject
@@ -80,8 +98,8 @@ export interface Limits {
   /** How many containers may be open at once: at most 500, which is the default. */
   depth?: number;
   /**
-   * How many nodes a value may have. By default the nodes of bytes are limited to 16 for each byte of the input and 1,000,000 more,
-   * at most 4294967295, and those of values and their JSON to 4294967295.
+   * How many nodes a value may have. By default the nodes of bytes are limited to 16 for each byte of the input and 65,536 more,
+   * fewer if the registry has a name of more than 64 bytes, and those of values and their JSON to 4294967295.
    */
   nodes?: number;
 }
@@ -97,38 +115,36 @@ export type Kind =
   | 'registry' | 'newer' | 'format'
   /** The depth is above 500. */
   | 'limits'
-  /** The JSON text or the bytes are no value of the format. */
+  /** The JSON or the bytes aren't a value of the format. */
   | 'text' | 'bytes'
-  /** A part of the value that `encode` got has a type that its format doesn't accept, or nests too deep. */
+  /** A part of the value that `encode` got has a type that its format doesn't accept, nests too deep, or has too many nodes. */
   | 'value'
-  /** The path is none. */
+  /** The path, the name of a part or the pointer is invalid. */
   | 'path'
   /** The newer registry doesn't keep what the older one has. */
   | 'growth'
   /** The format has no such example. */
   | 'example'
-  /** The machine's memory or stack didn't suffice. */
+  /** Too little memory, or too little stack is left for the value's depth. */
   | 'memory' | 'stack';
 
-/** What a call refuses. */
+/** A refusal. Its `message` is a line such as `refused: BadNumber at /amount: found 256, wanted ..`. */
 export class BcsError extends Error {
-  constructor(kind: Kind, reason: string, place?: number, told?: { pointer?: string; expected?: string });
+  constructor(kind: Kind, parts?: { reason?: string; place?: number; at?: string; detail?: string; cause?: unknown });
+  /** What is refused. */
   readonly kind: Kind;
-  /** The fault's name, as the program `bcs` prints it: `BadBool`. For the kind `value` it is `WrongType` or `TooNested`. */
-  readonly reason: string;
-  /** Where bytes stop being a value, counted from the front. */
+  /** The fault's name, as the program `bcs` prints it: `BadBool`. The kinds `limits`, `memory` and `stack` have none. */
+  readonly reason?: string;
+  /** The byte offset where bytes stop being a value. */
   readonly place?: number;
   /**
-   * Where it is: of a value or a text a JSON Pointer, as `/payload/args/1`, which is empty where it is refused as a whole; of bytes
-   * the way to where they stop, as `.payload.args[1]`; of a format a JSON Pointer; of a registry, a path or growth its place as the
-   * program `bcs` prints it.
+   * Where the fault is: in a value or JSON a JSON Pointer, such as `/payload/args/1`; in bytes the field path to where they stop,
+   * such as `.payload.args[1]`; in a format a JSON Pointer; in a registry, a path or growth the location as the program `bcs`
+   * prints it. It is empty for a whole document.
    */
-  readonly pointer?: string;
-  /**
-   * What was wanted there, or what is wrong with it, in words for people, which may change. For the kind `value` it names the format
-   * and the type that was found: `U64 takes an integer, not Uint8Array`.
-   */
-  readonly expected?: string;
+  readonly at?: string;
+  /** What is wrong there, or what was expected, in words for people, which may change: `U64 takes an integer, not Uint8Array`. */
+  readonly detail?: string;
 }
 
 /** A piece of a value's bytes. */
@@ -177,25 +193,22 @@ export interface Registry<T extends Types = AnyTypes> {
   readonly names: (keyof T & string)[];
   /** The same registry with other limits. */
   withLimits(limits: Limits): Registry<T>;
-  /** Gives the registry's memory back, also of those that `withLimits` made of it. From then on calls throw. */
+  /** Frees the registry, also those that `withLimits` made of it, when calls in progress end. From then on calls throw. */
   close(): void;
   /** Returns if the format is good. */
   check(format: Format<T>): void;
   /** The bytes of a value, which is converted by its format: a wrong type throws a `BcsError` of the kind `value`. */
-  encode<F extends Format<T>>(format: F, value: ValueOf<T, F, 'encode'>): Uint8Array;
+  encode<F extends Format<T>, V = ValueOf<T, F, 'encode'>>(format: F, value: InputOf<T, F, V>): Uint8Array;
   /** The bytes of the value that a JSON text denotes. */
   encodeText(format: Format<T>, text: Text): Uint8Array;
   /** The value whose bytes are the whole input. */
-  decode<F extends Format<T>>(format: F, bytes: Bytes, options?: { json?: false }): ValueOf<T, F, 'decode'>;
-  /** The same as `JSON.parse` makes it of its normal text, so that `JSON.stringify` takes it: wide numbers are strings. */
-  decode(format: Format<T>, bytes: Bytes, options: { json: true }): Json;
+  decode<F extends Format<T>>(format: F, bytes: Bytes, options?: { plainOptions?: false }): ValueOf<T, F, 'decode'>;
   /** The same with options as `null` or their value, except where that could mean two values, as in nested options. */
   decode<F extends Format<T>>(format: F, bytes: Bytes, options: { plainOptions: true }): ValueOf<T, F, 'plain'>;
   /** The value at the beginning of the input, and how many bytes it has. What follows isn't read. */
   decodePrefix<F extends Format<T>>(
-    format: F, bytes: Bytes, options?: { json?: false },
+    format: F, bytes: Bytes, options?: { plainOptions?: false },
   ): { value: ValueOf<T, F, 'decode'>; length: number };
-  decodePrefix(format: Format<T>, bytes: Bytes, options: { json: true }): { value: Json; length: number };
   decodePrefix<F extends Format<T>>(
     format: F, bytes: Bytes, options: { plainOptions: true },
   ): { value: ValueOf<T, F, 'plain'>; length: number };
@@ -203,15 +216,25 @@ export interface Registry<T extends Types = AnyTypes> {
   decodePrefixText(format: Format<T>, bytes: Bytes): { text: string; length: number };
   /** The normal JSON text of that value. */
   decodeText(format: Format<T>, bytes: Bytes): string;
+  /** The value as `decode` returns it: maps in the order of their keys, bytes as a `Uint8Array`. */
+  normalise<F extends Format<T>, V = ValueOf<T, F, 'encode'>>(
+    format: F, value: InputOf<T, F, V>, options?: { plainOptions?: false },
+  ): ValueOf<T, F, 'decode'>;
+  normalise<F extends Format<T>, V = ValueOf<T, F, 'encode'>>(
+    format: F, value: InputOf<T, F, V>, options: { plainOptions: true },
+  ): ValueOf<T, F, 'plain'>;
   /** The one normal JSON text of the value that a JSON text denotes. */
-  normalise(format: Format<T>, text: Text): string;
+  normaliseText(format: Format<T>, text: Text): string;
+  /** Whether two values are equal, which is whether their bytes are. */
+  equal<F extends Format<T>, V = ValueOf<T, F, 'encode'>, W = V>(
+    format: F, first: InputOf<T, F, V>, second: InputOf<T, F, W>,
+  ): boolean;
   /** Whether two JSON texts denote equal values. */
-  equal(format: Format<T>, first: Text, second: Text): boolean;
+  equalText(format: Format<T>, first: Text, second: Text): boolean;
   /** A JSON Schema of the JSON of the format's values. */
   schema(format: Format<T>): { [keyword: string]: Json };
   /** A value of the format to start from, as `decode` returns it. */
-  example<F extends Format<T>>(format: F, options?: ExampleOptions & { json?: false }): ValueOf<T, F, 'decode'>;
-  example(format: Format<T>, options: ExampleOptions & { json: true }): Json;
+  example<F extends Format<T>>(format: F, options?: ExampleOptions & { plainOptions?: false }): ValueOf<T, F, 'decode'>;
   example<F extends Format<T>>(format: F, options: ExampleOptions & { plainOptions: true }): ValueOf<T, F, 'plain'>;
   /** The JSON text of such a value, as the program `bcs example` prints it. */
   exampleText(format: Format<T>, options?: ExampleOptions): string;
@@ -238,9 +261,19 @@ export interface ExampleOptions {
   full?: boolean;
 }
 
+/**
+ * Containers whose values are Move's own types: newtypes of 32 bytes that are addresses (`0x…`), or integers, the lowest byte first.
+ * The default is what `bcs from-move` writes: `{ address: ['address'], u256: ['u256'], i256: ['i256'] }`.
+ */
+export interface Names {
+  address?: readonly string[];
+  u256?: readonly string[];
+  i256?: readonly string[];
+}
+
 export interface Bcs {
   /** A registry, from its JSON text; `registry<Types>(text)` with the types that `bcs-types` wrote of it. */
-  registry<T extends Types = AnyTypes>(text: Text): Registry<T>;
+  registry<T extends Types = AnyTypes>(text: Text, options?: { names?: Names }): Registry<T>;
   /** Returns if the newer registry keeps all that the older one has. */
   grows(older: Text, newer: Text): void;
   /** All differences from an older registry to a newer one, a line for each. */
@@ -251,6 +284,9 @@ export interface Bcs {
 
 /** Whether this engine has what `bcs.wasm` needs, or with 64 what `bcs64.wasm` needs. */
 export function isSupported(bits?: 32 | 64): boolean;
+
+/** The bytes of hexadecimal digits of either case; other strings are a `TypeError`. */
+export function hex(digits: string): Uint8Array;
 
 /** Bytes by base64 (RFC 4648, section 4), as Sui has them. */
 export function toBase64(bytes: Bytes): string;

@@ -1,7 +1,8 @@
 // bcs in JavaScript: Binary Canonical Serialization by serde-reflection registries, by proved calls in a WebAssembly module.
 // README.md says how the module is made, what is proved of it, and what is trusted.
 export { BcsError } from './errors.mjs';
-export { Limits } from './loader.mjs';
+export { hex } from './hex.mjs';
+export { Limits } from './limits.mjs';
 export { fromBase64, toBase64 } from './octets.mjs';
 export { loadOwn as load } from './own_module.mjs';
 export { isSupported } from './support.mjs';

@@ -1,8 +1,9 @@
 // The proved calls, which bindings/c/proved.h declares, on an instance of the WebAssembly module: what is handed over is put
 // into its memory, and the answer is read from there.
+import { Interruption, interruptionOf } from './interruptions.mjs';
+
 const STATUSES = ['done', 'short', 'registry', 'format', 'limits', 'refused', 'memory', 'no', 'path', 'newer', 'closed'];
-const FORMS = ['ways', 'paths', 'tree', 'json'];
-const WHATS = ['where', 'wanted'];
+export const FORMS = ['ways', 'paths', 'tree', 'json'];
 // (their numbers begin with 1)
 const NOTATIONS = [undefined, 'name', 'pointer'];
 const ANSWER_SIZE = 24;
@@ -19,14 +20,6 @@ const FIRST_PLACE = 256;
 const FIRST_DOCUMENT = 4096;
 // The least room in the memory that is kept for what calls are handed.
 const LEAST_ROOM = 4096;
-
-/** The stack or the memory of the machine didn't suffice, or the engine broke off: no answer of the calls. */
-export class Interruption extends Error {
-  constructor(kind, cause) {
-    super(kind === 'memory' ? 'memory ran out' : 'the stack ran out', { cause });
-    this.kind = kind;
-  }
-}
 
 /** A registry that is read once for many calls. Where an instance was let go, the next call reads it again. */
 export class Opened {
@@ -268,27 +261,29 @@ export class Calls {
     return this.#onHandle('show', registry, [FORMS.indexOf(form), name], FIRST_DOCUMENT);
   }
 
-  /** The line on a format that is refused. */
+  /** Where a format is refused, and why, in a line of the program on this `input`. */
   formatPlace(ask) {
-    return this.#run((room) => wholeCall(room, 'bcs_c_format_place', [ask.registry.text, ask.format], FIRST_PLACE));
+    return this.#line('FORMAT', 'bcs_c_format_place', [ask.registry.text, ask.format]);
   }
 
-  /** The same of a path, and of a newer registry. */
+  /** The same of a path, and of growth. */
   pathPlace(path) {
-    return this.#run((room) => wholeCall(room, 'bcs_c_path_place', [path], FIRST_PLACE));
+    return this.#line('PATH', 'bcs_c_path_place', [path]);
   }
 
   growthPlace(older, newer) {
-    return this.#run((room) => wholeCall(room, 'bcs_c_growth_place', [older, newer], FIRST_PLACE));
+    return this.#line('', 'bcs_c_growth_place', [older, newer]);
   }
 
   growthList(older, newer) {
     return this.#run((room) => wholeCall(room, 'bcs_c_growth_list', [older, newer], FIRST_DOCUMENT));
   }
 
-  /** `where` the text of a registry is refused, or what was `wanted` there. */
-  registryPlace(what, text) {
-    return this.#run((room) => wholeCall(room, 'bcs_c_registry_place', [WHATS.indexOf(what), text], FIRST_PLACE));
+  /** Where the text of a registry is refused with a fault, and what was expected there, with a NUL between them. */
+  registryRefusal(text, fault) {
+    const [where, wanted] = [0, 1].map((what) => this.#run((room) => wholeCall(room, 'bcs_c_registry_place', [what, text], FIRST_PLACE)));
+    const output = [where, wanted].flatMap(({ output: told = [] }, i) => (i === 0 ? [...told] : [0, ...told]));
+    return { ...where, fault, output: Uint8Array.from(output) };
   }
 
   faultName(fault) {
@@ -319,6 +314,10 @@ export class Calls {
     });
   }
 
+  #line(input, name, parts) {
+    return { ...this.#run((room) => wholeCall(room, name, parts, FIRST_PLACE)), input };
+  }
+
   #onHandle(name, registry, parts, outLength) {
     return this.#run((room) => handleCall(room, name, registry, parts, outLength));
   }
@@ -335,11 +334,4 @@ export class Calls {
       throw interruptionOf(error);
     }
   }
-}
-
-/** A trap means that the stack within the memory ran out. Its own stack an engine tells by the words of an error. */
-function interruptionOf(error) {
-  const isStack = error instanceof WebAssembly.RuntimeError || /call stack|recursion/.test(error.message);
-  if (isStack) return new Interruption('stack', error);
-  return error instanceof RangeError ? new Interruption('memory', error) : error;
 }

@@ -1,6 +1,7 @@
 // TypeScript declarations of a registry's values: of each container what `decode` gives, and what `encode` takes. Not proved:
 // they say what `values.mjs` does, and tests compare the two.
 import { Identifiers, memberOf, sorted, stringOf } from './identifiers.mjs';
+import { MoveTypes } from './move_types.mjs';
 import { Shapes } from './shapes.mjs';
 
 const HEAD = '// Made of a registry by bcs-types. `decode` gives a Name; `encode` takes a NameInput, and so a Name.\n';
@@ -9,33 +10,34 @@ const LEAVES = { UNIT: 'null', BOOL: 'boolean', STR: 'string', CHAR: 'never', F3
 const WIDE = new Set(['U64', 'U128', 'I64', 'I128']);
 
 // What the two have apart.
-const GIVEN = { narrow: 'number', wide: 'bigint', bytes: 'Uint8Array', octets: 'Uint8Array', map: 'Map', list: '' };
+const GIVEN = { narrow: 'number', wide: 'bigint', bytes: 'Uint8Array', address: 'string', map: 'Map', list: '' };
+const BYTES = 'Uint8Array | ArrayBuffer | readonly (number | bigint)[]';
 const TAKEN = {
   narrow: 'number | bigint',
   wide: 'number | bigint',
-  bytes: 'Uint8Array | ArrayBuffer',
-  octets: 'Uint8Array | ArrayBuffer | readonly (number | bigint)[]',
+  bytes: BYTES,
+  address: `string | ${BYTES}`,
   map: 'ReadonlyMap',
   list: 'readonly ',
 };
 
 /**
  * The declarations for the containers of a registry, by their names. The registry has passed the proved check. With
- * `plainOptions`, those of what `decode` returns with that option.
+ * `plainOptions`, those of what `decode` returns with that option. The names of Move's types are those that it is opened with.
  */
-export function declarationsOf(containers, plainOptions = false) {
+export function declarationsOf(containers, plainOptions = false, moveTypes = new MoveTypes()) {
   const names = sorted(containers.keys());
   const identifiers = new Identifiers();
   const given = identifiers.ofAll(names);
   const taken = new Map(names.map((name) => [name, identifiers.of(`${given.get(name)}Input`)]));
-  const shapes = new Shapes(containers);
+  const shapes = new Shapes(containers, moveTypes);
   const optionOf = plainOptions ? (type) => `null | ${type}` : (type) => `null | { some: ${type} }`;
   const writers = [new Writer(GIVEN, given, shapes, optionOf), new Writer(TAKEN, taken, shapes, (type) => `null | ${type} | { some: ${type} }`)];
   const types = names.map((name) => {
     const isEndless = holdsItself(containers, name);
     const note = noteOf(name, given.get(name), isEndless);
     const declared = writers.map((writer) => {
-      const type = isEndless ? ' never' : writer.container(containers.get(name));
+      const type = isEndless ? ' never' : writer.container(name, containers.get(name));
       return `export type ${writer.names.get(name)} =${type};\n`;
     });
     return note + declared.join('');
@@ -76,8 +78,9 @@ class Writer {
     this.plainOptionOf = plainOptionOf;
   }
 
-  container(container) {
+  container(name, container) {
     if (container === 'UNITSTRUCT') return ' null';
+    if (this.shapes.isMoveType(name)) return ` ${this.shapes.container(name).kind === 'ADDRESS' ? this.words.address : this.words.wide}`;
     const [[kind, inner]] = Object.entries(container);
     if (kind === 'ENUM') return this.variants(Object.values(inner));
     if (kind === 'STRUCT' && inner.length > 0) return ` {\n${this.members(inner).map((member) => `  ${member};\n`).join('')}}`;
@@ -146,7 +149,7 @@ class Writer {
   }
 
   list(format) {
-    if (format === 'U8') return this.words.octets;
+    if (format === 'U8') return this.words.bytes;
     const item = this.format(format);
     return `${this.words.list}${/\||^readonly /.test(item) ? `(${item})` : item}[]`;
   }

@@ -1,22 +1,23 @@
 /**
- * What a call refuses: `kind` says what is refused, `reason` is the fault's name, `place` is the byte offset where bytes stop
- * being a value. `pointer` is where the fault is, a JSON Pointer for values and their JSON, and `expected` what was expected
- * there.
+ * A refusal. `kind` is what is refused, `reason` the fault's name, `place` the byte offset where bytes stop being a value, `at` a
+ * JSON Pointer or field path, which is empty for a whole document, and `detail` what is wrong there. `message` is the line that
+ * joins them.
  */
 export class BcsError extends Error {
-  constructor(kind, reason, place, { pointer, expected } = {}) {
-    super(`${kind} refused: ${reason}${whereOf(kind, place, pointer)}${expected === undefined ? '' : `: ${expected}`}`);
+  constructor(kind, { reason, place, at, detail, cause } = {}) {
+    super(lineOf(reason, place, at, detail), cause === undefined ? undefined : { cause });
     this.name = 'BcsError';
     this.kind = kind;
     this.reason = reason;
     this.place = place;
-    this.pointer = pointer;
-    this.expected = expected;
+    this.at = at;
+    this.detail = detail;
   }
 }
 
-function whereOf(kind, place, pointer) {
-  const way = pointer === '' && ['text', 'value'].includes(kind) ? `the whole ${kind}` : pointer;
-  const where = [place, way].filter((part) => part !== undefined).join(', ');
-  return where === '' ? '' : ` at ${where}`;
+/** The same first words as everywhere: `refused: BadNumber at /amount: wanted ..`, and for bytes `refused: BadBool at byte 5, .a: ..`. */
+function lineOf(reason, place, at, detail) {
+  const where = [place === undefined ? '' : `byte ${place}`, at ?? ''].filter((part) => part !== '').join(', ');
+  const fault = where === '' ? reason : `${reason} at ${where}`;
+  return ['refused', fault, detail].filter((part) => part !== undefined && part !== '').join(': ');
 }

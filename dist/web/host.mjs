@@ -1,6 +1,9 @@
 // The thread that runs the proved program `bcs`, bcs_program.wasm. What it imports are functions of the system;
 // bindings/hosts/README.md has their contracts.
-import { closeSync, constants, openSync, readFileSync, readlinkSync, readSync, writeSync } from 'node:fs';
+import {
+  closeSync, constants, fchmodSync, fchownSync, fstatSync, fsyncSync, lstatSync, openSync, readFileSync, readlinkSync, readSync,
+  renameSync, statSync, unlinkSync, writeSync,
+} from 'node:fs';
 import { isatty } from 'node:tty';
 import { workerData } from 'node:worker_threads';
 import { failed } from './program.mjs';
@@ -9,12 +12,15 @@ import { failed } from './program.mjs';
 const MOST_BYTES = 1 << 30;
 const LONGEST_PAUSE = 50;
 const STANDARD_OUTPUT = '/proc/self/fd/1';
-// Linux's O_WRONLY.
-const WRITES_ONLY = 1;
+// Linux's flags for `open`, and for `statx`.
+const [WRITES_ONLY, CREATES, CREATES_ONLY, EMPTIES] = [0x1, 0x40, 0x80, 0x200];
+const [OF_LINK, OF_DESCRIPTOR] = [0x100, 0x1000];
+// Linux's number for a link's kind and mode.
+const LINK = 0o120777;
 
 // The numbers that the program knows errors by. They are Linux's, on every system.
 const ERRORS = {
-  EPERM: 1, ENOENT: 2, EINTR: 4, EIO: 5, EBADF: 9, EAGAIN: 11, ENOMEM: 12, EACCES: 13, ENOTDIR: 20, EISDIR: 21, EINVAL: 22,
+  EPERM: 1, ENOENT: 2, EINTR: 4, EIO: 5, EBADF: 9, EAGAIN: 11, ENOMEM: 12, EACCES: 13, EEXIST: 17, ENOTDIR: 20, EISDIR: 21, EINVAL: 22,
   EMFILE: 24, EFBIG: 27, ENOSPC: 28, ESPIPE: 29, EROFS: 30, EPIPE: 32, ENAMETOOLONG: 36, ELOOP: 40,
 };
 
@@ -48,12 +54,24 @@ class Host {
 
   functions() {
     return {
-      open: (path, flags) => this.#tried(-1, () => openSync(this.#textAt(path), flagsOf(flags))),
+      open: (path, flags, more) =>
+        this.#tried(-1, () => openSync(this.#textAt(path), flagsOf(flags), flags & CREATES ? this.#view(more).getUint32(0, true) : 0)),
       close: (file) => this.#tried(-1, () => closeSync(file) ?? 0),
       read: (file, at, room) => this.#tried(-1n, () => BigInt(read(file, this.#bytes(at, room)))),
       write: (file, at, length) => this.#tried(-1n, () => BigInt(patiently(() => writeSync(file, this.#bytes(at, length))))),
       readlink: (path, at, room) =>
         this.#tried(-1n, () => BigInt(this.#copy(readlink(this.#textAt(path)), at, room))),
+      statx: (file, path, flags, mask, found) =>
+        this.#tried(-1, () => this.#describe(statsOf(file, this.#textAt(path), flags), this.#view(found))),
+      fsync: (file) => this.#tried(-1, () => fsyncSync(file) ?? 0),
+      fchmod: (file, mode) => this.#tried(-1, () => fchmodSync(file, mode >>> 0) ?? 0),
+      fchown: (file, owner, group) => this.#tried(-1, () => fchownSync(file, owner >>> 0, group >>> 0) ?? 0),
+      rename: (from, to) => this.#tried(-1, () => renameSync(this.#textAt(from), this.#textAt(to)) ?? 0),
+      unlink: (path) => this.#tried(-1, () => unlinkSync(this.#textAt(path)) ?? 0),
+      // (the program is linked with these and doesn't call them)
+      ftruncate: () => this.#fails('EINVAL', -1),
+      fdatasync: () => this.#fails('EINVAL', -1),
+      flock: () => this.#fails('EINVAL', -1),
       // Node has no call for this.
       lseek: () => this.#fails('ESPIPE', -1n),
       // Node ignores SIGPIPE, which alone the program asks for.
@@ -68,6 +86,18 @@ class Host {
   /** (A new view each time, since the memory grows.) */
   #bytes(at, length) {
     return new Uint8Array(this.memory.buffer, Number(at), Math.min(Number(length), MOST_BYTES));
+  }
+
+  #view(at) {
+    return new DataView(this.memory.buffer, Number(at));
+  }
+
+  /** Stores what a file is as bindings/hosts/statx.h has it. */
+  #describe({ mode, nlink, uid, gid, ino, size, dev }, found) {
+    for (const [at, number] of [[16, nlink], [20, uid], [24, gid]]) found.setUint32(at, Number(number), true);
+    for (const [at, number] of [[32, ino], [40, size], [136, dev]]) found.setBigUint64(at, number, true);
+    found.setUint16(28, Number(mode), true);
+    return 0;
   }
 
   /** The bytes up to the first 0. */
@@ -108,8 +138,17 @@ class Host {
 
 /** How Node opens a file with these flags of Linux: to read it, or else to write it from its start. */
 function flagsOf(flags) {
-  const { O_RDONLY, O_WRONLY, O_CREAT, O_TRUNC, O_NOCTTY = 0 } = constants;
-  return O_NOCTTY | ((flags & WRITES_ONLY) === 0 ? O_RDONLY : O_WRONLY | O_CREAT | O_TRUNC);
+  const { O_RDONLY, O_WRONLY, O_CREAT, O_EXCL, O_TRUNC, O_NOCTTY = 0 } = constants;
+  const own = [[WRITES_ONLY, O_WRONLY], [CREATES, O_CREAT], [CREATES_ONLY, O_EXCL], [EMPTIES, O_TRUNC]];
+  return own.reduce((all, [flag, number]) => ((flags & flag) === 0 ? all : all | number), O_NOCTTY | O_RDONLY);
+}
+
+/** What Node knows of a file. Only on Linux does a link's mode say whether it is an ordinary one; on Windows none is. */
+function statsOf(file, path, flags) {
+  if ((flags & OF_DESCRIPTOR) !== 0) return fstatSync(file, { bigint: true });
+  const stats = ((flags & OF_LINK) !== 0 ? lstatSync : statSync)(path, { bigint: true });
+  if (stats.isSymbolicLink() && !['linux', 'win32'].includes(process.platform)) stats.mode = BigInt(LINK);
+  return stats;
 }
 
 /** On Linux a link says which file the standard output is. The program puts colours where that is a terminal. */

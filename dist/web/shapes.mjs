@@ -1,7 +1,9 @@
 // The formats of a registry as values are read and written: parsed once, with fields and variants found by their names.
 
+import { MoveTypes } from './move_types.mjs';
+
 // Values of these kinds are neither `null` nor objects with members.
-const PLAIN = new Set(['BOOL', 'STR', 'BYTES', 'INTEGER', 'SEQ', 'TUPLE', 'MAP']);
+const PLAIN = new Set(['BOOL', 'STR', 'BYTES', 'INTEGER', 'SEQ', 'TUPLE', 'MAP', 'ADDRESS', 'U256', 'I256']);
 const INTEGERS = new Set(['U8', 'U16', 'U32', 'U64', 'U128', 'I8', 'I16', 'I32', 'I64', 'I128']);
 
 /** The containers of a registry's JSON text by their names. The text has passed the proved check. */
@@ -10,20 +12,26 @@ export function containersOf(registryText) {
 }
 
 /**
- * Makes shapes of formats. A shape has its `kind`, which is that of the format, except that all integers are an `INTEGER`,
- * `TUPLEARRAY` is a `SEQ` too, tuple structs are a `TUPLE` and newtypes what they hold; the `name` that messages use; and its
- * `item`, `parts`, `entry` or `members`.
+ * Makes shapes of formats. A shape has its `kind`, which is that of the format, except that all integers are an `INTEGER`, lists and
+ * arrays of `U8` are `BYTES`, any other `TUPLEARRAY` is a `SEQ`, tuple structs are a `TUPLE` and newtypes what they hold, or the
+ * `ADDRESS`, `U256` or `I256` of Move; the `name` that messages use; and its `item`, `parts`, `entry` or `members`.
  */
 export class Shapes {
   #containers;
+  #moveTypes;
   #known = new Map();
 
-  constructor(containers) {
+  constructor(containers, moveTypes = new MoveTypes()) {
     this.#containers = containers;
+    this.#moveTypes = moveTypes;
   }
 
   get names() {
     return [...this.#containers.keys()];
+  }
+
+  isMoveType(name) {
+    return this.#moveTypes.of(name, this.#containers.get(name)) !== undefined;
   }
 
   /** The shape of a format that has passed the proved check. */
@@ -36,9 +44,9 @@ export class Shapes {
       case 'OPTION':
         return { kind, name: kind, members: new Map([['some', this.of(inner)]]) };
       case 'SEQ':
-        return { kind, name: kind, item: this.of(inner) };
+        return this.#list(kind, inner);
       case 'TUPLEARRAY':
-        return { kind: 'SEQ', name: kind, item: this.of(inner.CONTENT) };
+        return this.#list(kind, inner.CONTENT);
       case 'TUPLE':
         return this.#tuple(kind, inner);
       default:
@@ -91,6 +99,8 @@ export class Shapes {
 
   #container(name, container) {
     if (container === 'UNITSTRUCT') return this.of('UNIT');
+    const moveType = this.#moveTypes.of(name, container);
+    if (moveType !== undefined) return { kind: moveType.toUpperCase(), name };
     const [[kind, inner]] = Object.entries(container);
     if (kind !== 'ENUM') return this.#content(name, kind, inner);
     const variants = Object.values(inner).map((variant) => Object.entries(variant)[0]);
@@ -112,6 +122,10 @@ export class Shapes {
       default:
         return { kind: 'STRUCT', name, members: this.#fields(inner) };
     }
+  }
+
+  #list(name, format) {
+    return format === 'U8' ? { kind: 'BYTES', name } : { kind: 'SEQ', name, item: this.of(format) };
   }
 
   #tuple(name, formats) {

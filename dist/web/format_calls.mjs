@@ -1,0 +1,119 @@
+// The calls on one format of an open registry.
+import { ALL_NODES } from './limits.mjs';
+import { reported } from './refusals.mjs';
+import { valueOf } from './reading.mjs';
+import { bytesForCall, stringOfUtf8 } from './texts.mjs';
+import { jsonOfValue } from './writing.mjs';
+
+/** Calls on one format within limits. They get texts as bytes, and run no code of the caller except to read a value. */
+export class FormatCalls {
+  #bcs;
+  #holder;
+  #limits;
+  #format;
+
+  constructor(bcs, holder, limits, format) {
+    this.#bcs = bcs;
+    this.#holder = holder;
+    this.#limits = limits;
+    this.#format = format;
+  }
+
+  check() {
+    this.#answer(ALL_NODES, (calls, ask) => calls.check(ask));
+  }
+
+  /** The JSON of a value in UTF-8, for the next call. The format passes the proved check first. */
+  jsonOf(value) {
+    if (this.#format.shape === undefined) this.check();
+    const { shapes } = this.#holder;
+    const json = jsonOfValue(shapes, this.#holder.shapeOf(this.#format), value, this.#limits.nodes ?? ALL_NODES);
+    return typeof json === 'string' ? bytesForCall(json) : json;
+  }
+
+  /** The value that normal JSON denotes. */
+  valueOf(json, { plainOptions = false } = {}) {
+    return valueOf(this.#holder.shapes, this.#holder.shapeOf(this.#format), json, plainOptions);
+  }
+
+  encoded(text) {
+    return this.#ofText(text, (calls, ask) => calls.toBcs(ask, text)).output;
+  }
+
+  normalised(text) {
+    return stringOfUtf8(this.#ofText(text, (calls, ask) => calls.normalise(ask, text)).output);
+  }
+
+  areEqual(first, second) {
+    const placing = (calls, ask) => {
+      const told = calls.textRefusal(ask, first);
+      return reported(told.status === 'no' ? calls.textRefusal(ask, second) : told, this.#bcs);
+    };
+    return this.#answer(ALL_NODES, (calls, ask) => calls.compare(ask, first, second), placing).status === 'done';
+  }
+
+  decoded(bytes, nodes = this.#nodesFor(bytes)) {
+    return stringOfUtf8(this.#ofBytes(bytes, (calls, ask) => calls.fromBcs(ask, bytes), nodes).output);
+  }
+
+  /** (The limit on nodes depends on all bytes, so both steps get the same one.) */
+  decodedPrefix(bytes) {
+    const length = this.scanned(bytes);
+    return { text: this.decoded(bytes.subarray(0, length), this.#nodesFor(bytes)), length };
+  }
+
+  scanned(bytes) {
+    return this.#ofBytes(bytes, (calls, ask) => calls.scan(ask, bytes)).length;
+  }
+
+  explained(bytes, form) {
+    return stringOfUtf8(this.#ofBytes(bytes, (calls, ask) => calls.explain(ask, form, bytes)).output);
+  }
+
+  /** The part to which a path leads. */
+  part(bytes, path) {
+    const placing = (calls) => reported(calls.pathPlace(path), this.#bcs);
+    return this.#partBy(bytes, (calls, ask) => calls.part(ask, bytes, path), placing);
+  }
+
+  /** The part with a name. `notation` is `name` or `pointer`. */
+  partNamed(bytes, notation, name) {
+    return this.#partBy(bytes, (calls, ask) => calls.partNamed(ask, notation, name, bytes));
+  }
+
+  #partBy(bytes, call, placing) {
+    const placed = (calls, ask, { status }) => (status === 'path' ? placing?.(calls) : reported(calls.stopRefusal(ask, bytes), this.#bcs));
+    const { status, place, length } = this.#answer(this.#nodesFor(bytes), call, placed);
+    return status === 'no' ? undefined : { place, bytes: bytes.slice(place, place + length) };
+  }
+
+  schema() {
+    return stringOfUtf8(this.#answer(ALL_NODES, (calls, ask) => calls.schema(ask)).output);
+  }
+
+  example(isFull, variant) {
+    return stringOfUtf8(this.#answer(ALL_NODES, (calls, ask) => calls.example(ask, isFull, variant)).output);
+  }
+
+  #nodesFor(bytes) {
+    return this.#holder.nodesFor(bytes.length);
+  }
+
+  #ofText(text, call) {
+    return this.#answer(ALL_NODES, call, (calls, ask) => reported(calls.textRefusal(ask, text), this.#bcs));
+  }
+
+  #ofBytes(bytes, call, nodes = this.#nodesFor(bytes)) {
+    return this.#answer(nodes, call, (calls, ask) => reported(calls.stopRefusal(ask, bytes), this.#bcs));
+  }
+
+  #answer(nodes, call, placing) {
+    const limits = { depth: this.#limits.depth, nodes: this.#limits.nodes ?? nodes };
+    const ask = { registry: this.#holder.opened, format: this.#format.bytes, ...limits };
+    const placed = (calls, answer) => {
+      if (answer.status === 'format') return reported(calls.formatPlace(ask), this.#bcs);
+      return placing?.(calls, ask, answer);
+    };
+    return this.#bcs.answerOf((calls) => call(calls, ask), placed);
+  }
+}
