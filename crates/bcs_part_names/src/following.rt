@@ -1,5 +1,7 @@
 //! Follows steps through a value, and collects them.
+ghost use Rattle.std.specs.Prelude.{◌≡◌};
 
+use crate::led::{DeadEnd, Led};
 use bcs_decode_parts::ahead::Ahead;
 use bcs_decode_parts::here::{Here, Reached};
 use bcs_decode_parts::inside::{Inside, inside_of};
@@ -70,18 +72,36 @@ impl<'r, 'a> Follower<'r, 'a> {
         Ok(())
     }
 
-    /// The steps that were taken.
-    pub(crate) fn into_path(self) -> Vec<PathStep> {
-        self.path
+    /// To the part that the steps have led to.
+    pub(crate) fn arrived(self) -> Led<'r, 'a> {
+        Led {
+            path: self.path,
+            nowhere: None,
+        }
+    }
+
+    /// Nowhere, since the step with this index leads nowhere from here.
+    pub(crate) fn stopped(self, step: usize, in_entry: bool) -> Result<Led<'r, 'a>, AllocError> {
+        let Follower { at, mut path, .. } = self;
+        // No value has an element with this index: lengths and sizes are below 2^64.
+        path.push(PathStep::Item(u64::MAX))?;
+        Ok(Led {
+            path,
+            nowhere: Some(DeadEnd { step, at, in_entry }),
+        })
     }
 }
 
 /// The value at the start of `bytes`, before any step.
-pub(crate) fn value_at_start<'r, 'a>(
+pub fn value_at_start<'r, 'a>(
     format: &'r Format,
     limits: &Limits,
     bytes: &'a [u8],
-) -> Reached<'r, 'a> {
+) -> Reached<'r, 'a>
+    ensures bytes { result.ahead.bytes.now ≡ bytes.now }
+    ensures depth { result.ahead.depth ≡ limits.now.depth }
+    ensures nodes { result.ahead.nodes ≡ limits.now.nodes }
+{
     Reached {
         here: Here::Value(format),
         ahead: Ahead {
@@ -93,7 +113,7 @@ pub(crate) fn value_at_start<'r, 'a>(
 }
 
 /// The same step, borrowing its key.
-pub(crate) fn borrowed(step: &PathStep) -> Step<'_> {
+pub fn borrowed(step: &PathStep) -> Step<'_> {
     match step {
         PathStep::Item(number) => Step::Item(*number),
         PathStep::Inner => Step::Inner,

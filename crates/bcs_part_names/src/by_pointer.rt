@@ -3,9 +3,6 @@
 use crate::entries::Entries;
 use crate::following::Follower;
 use crate::led::Led;
-use crate::name_text::unescaped;
-use crate::notation::Notation;
-use crate::nowhere::{entry_line, nowhere_line};
 use bcs_decode_parts::PathStep;
 use bcs_decode_parts::inside::Inside;
 use bcs_decode_parts::variants::after_number;
@@ -23,59 +20,35 @@ struct Position<'r, 'a> {
     entry: Option<&'a [u8]>,
 }
 
-/// Returns the steps that lead to the part that the pointer shows, if the bytes begin with a value of the format. The
-/// empty pointer is the whole value.
-pub fn path_of_pointer(
+/// Returns where the pointer leads, if the bytes begin with a value of the format. The empty pointer leads to the whole
+/// value, and one to an entry of a map or to its key leads nowhere.
+pub fn path_of_pointer<'r, 'a>(
     alloc: Global,
-    registry: &Registry,
-    format: &Format,
+    registry: &'r Registry,
+    format: &'r Format,
     limits: &Limits,
-    bytes: &[u8],
+    bytes: &'a [u8],
     pointer: &str,
-) -> Result<Led, AllocError> {
+) -> Result<Led<'r, 'a>, AllocError> {
     let mut position = Position {
         follower: Follower::start(alloc, registry, format, limits, bytes),
         entry: None,
     };
-    let mut number: u64 = 0;
-    for text in pointer.split('/') {
-        // A pointer begins with `/`, so nothing comes before the first one.
-        if number > 0 {
-            if let Some(line) = position.follow(alloc, number, text)? {
-                return Led::nowhere(alloc, line);
-            }
+    let mut last: usize = 0;
+    // A pointer begins with `/`, so nothing comes before the first one.
+    for (index, text) in pointer.split('/').skip(1).enumerate() {
+        if !position.take(alloc, text)? {
+            return position.stopped(index);
         }
-        number = number.saturating_add(1);
+        last = index;
     }
     if position.entry.is_some() {
-        let line = entry_line(alloc, number.saturating_sub(1), last_step(pointer))?;
-        return Led::nowhere(alloc, line);
+        return position.stopped(last);
     }
-    Ok(Led::to(position.follower.into_path()))
-}
-
-fn last_step(pointer: &str) -> &str {
-    match pointer.rsplit_once('/') {
-        Some((_, step)) => step,
-        None => pointer,
-    }
+    Ok(position.follower.arrived())
 }
 
 impl<'r, 'a> Position<'r, 'a> {
-    // Takes a step, and returns a line about it if it leads nowhere.
-    fn follow(
-        &mut self,
-        alloc: Global,
-        number: u64,
-        text: &str,
-    ) -> Result<Option<Vec<u8>>, AllocError> {
-        if self.take(alloc, text)? {
-            Ok(None)
-        } else {
-            Ok(Some(self.line(alloc, number, text)?))
-        }
-    }
-
     // Takes a step, and returns whether it leads anywhere.
     fn take(&mut self, alloc: Global, text: &str) -> Result<bool, AllocError> {
         if let Some(key) = self.entry {
@@ -125,35 +98,25 @@ impl<'r, 'a> Position<'r, 'a> {
         }
     }
 
-    // The line for a step that leads nowhere from here.
-    fn line(&self, alloc: Global, number: u64, text: &str) -> Result<Vec<u8>, AllocError> {
-        if self.entry.is_some() {
-            return entry_line(alloc, number, text);
-        }
-        nowhere_line(alloc, Notation::Pointer, number, text, self.follower.at())
+    // Nowhere, since the step with this index leads nowhere from here.
+    fn stopped(self, step: usize) -> Result<Led<'r, 'a>, AllocError> {
+        let Position { follower, entry } = self;
+        follower.stopped(step, entry.is_some())
     }
 }
 
-// A name that is written as it is comes before one that is escaped.
 fn field_step(
     alloc: Global,
     fields: &[Named<Format>],
     text: &str,
 ) -> Result<Option<PathStep>, AllocError> {
-    let name = member_name(alloc, text)?;
-    match field_called(fields, name.exact.as_str()) {
-        Some(step) => Ok(Some(step)),
-        None => Ok(field_called(fields, name.printed.as_str())),
-    }
-}
-
-fn field_called(fields: &[Named<Format>], name: &str) -> Option<PathStep> {
+    let name = without_marks(alloc, text)?;
     for (index, field) in fields.iter().enumerate() {
-        if field.name.as_str() == name {
-            return Some(PathStep::Item(index as u64));
+        if field.name.as_str() == name.as_str() {
+            return Ok(Some(PathStep::Item(index as u64)));
         }
     }
-    None
+    Ok(None)
 }
 
 // Only the variant that is there can be entered. One without a payload is a string.
@@ -163,12 +126,12 @@ fn variant_step(
     bytes: &[u8],
     text: &str,
 ) -> Result<Option<PathStep>, AllocError> {
-    let name = member_name(alloc, text)?;
+    let name = without_marks(alloc, text)?;
     let Some((number, _)) = after_number(bytes) else {
         return Ok(None);
     };
     match variants.get(&number) {
-        Some(variant) if has_payload(&variant.value) && name.is(variant.name.as_str()) => {
+        Some(variant) if has_payload(&variant.value) && variant.name.as_str() == name.as_str() => {
             Ok(Some(PathStep::Inner))
         }
         _ => Ok(None),
@@ -188,26 +151,6 @@ fn item_step(text: &str) -> Option<PathStep> {
 
 fn index_of(text: &str) -> Option<u64> {
     Some(parse_unsigned(Width::W8, text)? as u64)
-}
-
-/// The name of a member, as it is written in a pointer.
-#[derive(Drop)]
-struct MemberName {
-    exact: String,
-    /// The name without the escapes that the program prints in pointers, where names are in ASCII.
-    printed: String,
-}
-
-impl MemberName {
-    fn is(&self, name: &str) -> bool {
-        self.exact.as_str() == name || self.printed.as_str() == name
-    }
-}
-
-fn member_name(alloc: Global, text: &str) -> Result<MemberName, AllocError> {
-    let exact = without_marks(alloc, text)?;
-    let printed = unescaped(alloc, exact.as_str())?;
-    Ok(MemberName { exact, printed })
 }
 
 // The text with `/` for `~1`, and `~` for `~0`.

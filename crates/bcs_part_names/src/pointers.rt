@@ -1,13 +1,6 @@
-//! Which texts are names of parts or JSON Pointers, before there is a value in which to follow them.
+//! Which texts are JSON Pointers.
 ghost use Rattle.std.specs.Prelude.{◌≡◌, false};
-ghost use Rattle.bcs_display_pieces.specs.PartTexts.{are_marked, is_name, is_pointer};
-
-/// Whether the text begins like a name. Names of fields may contain any signs, so the rest depends on the registry.
-pub fn is_name(text: &str) -> bool
-    ensures { result ≡ is_name text.now }
-{
-    matches!(text.as_bytes().first(), Some(b'.' | b'[' | b'?' | b':'))
-}
+ghost use Rattle.bcs_part_names.specs.Pointers.{are_marked, is_pointer};
 
 /// Whether the text is a JSON Pointer (RFC 6901).
 pub fn is_pointer(text: &str) -> bool

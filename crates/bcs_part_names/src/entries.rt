@@ -14,13 +14,6 @@ pub(crate) struct Entries<'r, 'a> {
     pub(crate) ahead: Ahead<'a>,
 }
 
-/// What `explain` prints of a key: its first bytes, and how many more there are.
-#[derive(Clone, Copy)]
-pub(crate) struct CutKey<'k> {
-    pub(crate) first: &'k [u8],
-    pub(crate) more: u64,
-}
-
 impl<'r, 'a> Entries<'r, 'a> {
     /// The bytes of the key of entry `index`, from 0.
     pub(crate) fn key_at(&self, index: u64) -> Option<&'a [u8]> {
@@ -35,23 +28,6 @@ impl<'r, 'a> Entries<'r, 'a> {
         None
     }
 
-    /// The bytes of the only key that is printed like this. `None`: there is none, or there are several.
-    pub(crate) fn only_key(&self, cut: CutKey<'_>) -> Option<&'a [u8]> {
-        let (count, mut rest) = after_number(self.ahead.bytes)?;
-        let mut found = None;
-        for _ in 0..count {
-            let (key, behind) = self.key_before(rest)?;
-            if cut.is_of(key) {
-                if found.is_some() {
-                    return None;
-                }
-                found = Some(key);
-            }
-            rest = self.after_content(behind)?;
-        }
-        found
-    }
-
     // The key at the start of `rest`, and the bytes after it.
     fn key_before(&self, rest: &'a [u8]) -> Option<(&'a [u8], &'a [u8])> {
         let behind = after_value(self.registry, self.key, &self.ahead.at(rest))?;
@@ -61,14 +37,5 @@ impl<'r, 'a> Entries<'r, 'a> {
     // The bytes after the value at the start of `rest`.
     fn after_content(&self, rest: &'a [u8]) -> Option<&'a [u8]> {
         after_value(self.registry, self.content, &self.ahead.at(rest))
-    }
-}
-
-impl CutKey<'_> {
-    fn is_of(self, key: &[u8]) -> bool {
-        match key.get(self.first.len()..) {
-            Some(rest) => rest.len() as u64 == self.more && key.starts_with(self.first),
-            None => false,
-        }
     }
 }

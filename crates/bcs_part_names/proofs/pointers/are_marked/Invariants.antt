@@ -1,6 +1,6 @@
 use Rattle.std.specs.Prelude.{◌≡◌, false, drop}
-use Rattle.bcs_display_pieces.specs.PartTexts.{are_marked}
-use Rattle.bcs_display_pieces.proofs.part_texts.are_marked.Given as goal
+use Rattle.bcs_part_names.specs.Pointers.{are_marked}
+use Rattle.bcs_part_names.proofs.pointers.are_marked.Given as goal
 
 -- the rest of the text is marked, after what has been read, if the whole text is
 abbrev pub invariant-loop-byte : goal.invariant-loop-byte
