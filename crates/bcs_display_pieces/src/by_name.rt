@@ -5,7 +5,7 @@ use crate::following::Follower;
 use crate::led::Led;
 use crate::name_text::{behind_name, first_step, unescaped};
 use crate::notation::Notation;
-use crate::nowhere::nowhere_line;
+use crate::nowhere::leads_nowhere;
 use bcs_decode_parts::PathStep;
 use bcs_decode_parts::inside::Inside;
 use bcs_decode_parts::variants::after_number;
@@ -41,8 +41,8 @@ pub fn path_of_name(
         follower.enter_containers()?;
         let Some(behind) = take_first(alloc, &mut follower, rest)? else {
             let step = first_step(rest);
-            let line = nowhere_line(alloc, Notation::Name, number, step, follower.at())?;
-            return Led::nowhere(alloc, line);
+            let step = leads_nowhere(alloc, Notation::Name, number, step, follower.at())?;
+            return Led::nowhere(alloc, step);
         };
         rest = behind;
     }

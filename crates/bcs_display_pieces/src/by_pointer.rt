@@ -5,10 +5,11 @@ use crate::following::Follower;
 use crate::led::Led;
 use crate::name_text::unescaped;
 use crate::notation::Notation;
-use crate::nowhere::{entry_line, nowhere_line};
+use crate::nowhere::{at_entry, leads_nowhere};
 use bcs_decode_parts::PathStep;
 use bcs_decode_parts::inside::Inside;
 use bcs_decode_parts::variants::after_number;
+use bcs_display_refusal::Refusal;
 use bcs_num::{Width, parse_unsigned};
 use bcs_registry::{Format, Named, Registry, VariantFormat};
 use bcs_value::Limits;
@@ -41,15 +42,15 @@ pub fn path_of_pointer(
     for text in pointer.split('/') {
         // A pointer begins with `/`, so nothing comes before the first one.
         if number > 0 {
-            if let Some(line) = position.follow(alloc, number, text)? {
-                return Led::nowhere(alloc, line);
+            if let Some(step) = position.follow(alloc, number, text)? {
+                return Led::nowhere(alloc, step);
             }
         }
         number = number.saturating_add(1);
     }
     if position.entry.is_some() {
-        let line = entry_line(alloc, number.saturating_sub(1), last_step(pointer))?;
-        return Led::nowhere(alloc, line);
+        let step = at_entry(alloc, number.saturating_sub(1), last_step(pointer))?;
+        return Led::nowhere(alloc, step);
     }
     Ok(Led::to(position.follower.into_path()))
 }
@@ -62,17 +63,17 @@ fn last_step(pointer: &str) -> &str {
 }
 
 impl<'r, 'a> Position<'r, 'a> {
-    // Takes a step, and returns a line about it if it leads nowhere.
+    // Takes a step, and returns a refusal of it if it leads nowhere.
     fn follow(
         &mut self,
         alloc: Global,
         number: u64,
         text: &str,
-    ) -> Result<Option<Vec<u8>>, AllocError> {
+    ) -> Result<Option<Refusal>, AllocError> {
         if self.take(alloc, text)? {
             Ok(None)
         } else {
-            Ok(Some(self.line(alloc, number, text)?))
+            Ok(Some(self.lost(alloc, number, text)?))
         }
     }
 
@@ -125,12 +126,12 @@ impl<'r, 'a> Position<'r, 'a> {
         }
     }
 
-    // The line for a step that leads nowhere from here.
-    fn line(&self, alloc: Global, number: u64, text: &str) -> Result<Vec<u8>, AllocError> {
+    // A step that leads nowhere from here.
+    fn lost(&self, alloc: Global, number: u64, text: &str) -> Result<Refusal, AllocError> {
         if self.entry.is_some() {
-            return entry_line(alloc, number, text);
+            return at_entry(alloc, number, text);
         }
-        nowhere_line(alloc, Notation::Pointer, number, text, self.follower.at())
+        leads_nowhere(alloc, Notation::Pointer, number, text, self.follower.at())
     }
 }
 
