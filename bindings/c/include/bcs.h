@@ -275,12 +275,12 @@ bcs_answer bcs_handle_example(bcs_handle *handle, const uint8_t *format, size_t 
 bcs_answer bcs_handle_show(bcs_handle *handle, uint32_t form, const uint8_t *name, size_t name_length, uint8_t *out,
                            size_t out_length);
 
-/* Where a format is refused: BCS_DONE, or BCS_NO if it isn't. The output is the line that the program `bcs` prints on standard
-   error, such as: at FORMAT, /SEQ: BadShape: wanted a format. It is empty if there is no more to say than the fault. */
+/* Where a format is refused: BCS_DONE, or BCS_NO if it isn't. `fault` says why. The output is the place in the format, a NUL, and
+   words without one, such as: /SEQ, NUL, wanted a format. It is empty if there is no more to say than the fault. */
 bcs_answer bcs_handle_format_place(bcs_handle *handle, const uint8_t *format, size_t format_length, uint8_t *out,
                                    size_t out_length);
 
-/* The same for a path: at PATH, step 1 a: BadPath: wanted a number, inner, or key: and hexadecimal digits. */
+/* The same for a path: step 1 a, NUL, wanted a number, inner, or key: and hexadecimal digits. */
 bcs_answer bcs_path_place(const uint8_t *path, size_t path_length, uint8_t *out, size_t out_length);
 
 /* All differences between two registries, as `bcs grows --list` prints them: one per line, each with its line end. The answer is
@@ -289,8 +289,8 @@ bcs_answer bcs_path_place(const uint8_t *path, size_t path_length, uint8_t *out,
 bcs_answer bcs_growth_list(const uint8_t *older, size_t older_length, const uint8_t *newer, size_t newer_length,
                            uint8_t *out, size_t out_length);
 
-/* Where bcs_grows refuses two registries: BCS_DONE, or BCS_NO if it doesn't. The output is the line that the program prints:
-   at Shape, variant 0 Circle: VariantChanged: the newer enum has another payload there. */
+/* Where bcs_grows refuses two registries: BCS_DONE, or BCS_NO if it doesn't. The output has the same form: Shape, variant 0 Circle,
+   NUL, the newer enum has another payload there. */
 bcs_answer bcs_growth_place(const uint8_t *older, size_t older_length, const uint8_t *newer, size_t newer_length,
                             uint8_t *out, size_t out_length);
 

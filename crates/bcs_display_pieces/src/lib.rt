@@ -30,5 +30,5 @@ pub use explanation::{Explanation, explain_text};
 pub use led::Led;
 pub use nowhere::nowhere_on_path;
 pub use part_texts::{is_name, is_pointer};
-pub use placing::stop_place;
-pub use wrong_steps::{wrong_name_line, wrong_pointer_line};
+pub use placing::{Stopped, stop_place, stop_refusal};
+pub use wrong_steps::{wrong_name, wrong_pointer};

@@ -1,31 +1,13 @@
-//! Names in a line: cut if they are long, and only the first ones of many.
+//! Names in a line: only the first ones of many.
 
+use bcs_display_refusal::put_name;
 use bcs_display_text::columns::put_decimal;
-use bcs_display_text::escaping::put_escaped;
 use bcs_registry::{Format, Named, VariantFormat};
 use std::alloc::AllocError;
 use std::collections::BTreeMap;
 
-// The number of characters that are printed of a name, with its escapes.
-const LONGEST: usize = 200;
-
 // The number of names that are printed.
 const MOST: usize = 16;
-
-/// Appends the whole characters of the text, escaped, that fit into `LONGEST`, and whether it is cut.
-pub(crate) fn put_cut(text: &str, line: &mut Vec<u8>) -> Result<(), AllocError> {
-    let start = line.len();
-    for (place, sign) in text.char_indices() {
-        let before = line.len();
-        let end = place.saturating_add(sign.len_utf8());
-        put_escaped(text.get(place..end).unwrap_or(""), line)?;
-        if line.len().saturating_sub(start) > LONGEST {
-            line.truncate(before);
-            return line.extend_from_slice(b"...(cut)");
-        }
-    }
-    Ok(())
-}
 
 /// Appends the names of fields.
 pub(crate) fn put_fields(fields: &[Named<Format>], line: &mut Vec<u8>) -> Result<(), AllocError> {
@@ -58,7 +40,7 @@ fn put_listed(before: usize, name: &str, line: &mut Vec<u8>) -> Result<(), Alloc
     if before > 0 {
         line.extend_from_slice(b", ")?;
     }
-    put_cut(name, line)
+    put_name(name, line)
 }
 
 fn put_more(count: usize, line: &mut Vec<u8>) -> Result<(), AllocError> {

@@ -5,22 +5,8 @@ ghost use Rattle.bcs_tool_answers.specs.JsonRefusals.{HasForm, IsJsonRefusal, is
 
 use crate::answer::{Answer, unplaced};
 use crate::places::place_of_line;
-use serde::Serialize;
 use std::alloc::{AllocError, Global};
 use std::str::from_utf8;
-
-/// The known members of a refusal, in order.
-#[derive(Drop, Serialize)]
-struct Members<'a> {
-    /// The offset of the byte where decoding stopped.
-    #[serde(skip_serializing_if = "Option::is_none")]
-    place: Option<u64>,
-    /// The name of the part, or a JSON pointer.
-    #[serde(skip_serializing_if = "Option::is_none")]
-    at: Option<&'a str>,
-    #[serde(skip_serializing_if = "Option::is_none")]
-    expected: Option<&'a str>,
-}
 
 /// The answer to a line. If refusals are requested as JSON, a refusal is an object. It doesn't count as a failure then: its
 /// status is 0, so only other lines determine the program's status.
@@ -39,7 +25,7 @@ fn object_line(alloc: Global, answer: &Answer) -> Result<Vec<u8>, AllocError>
     ensures { IfOk result (λ line. IsJsonRefusal answer.now.output.items line.items) }
 {
     let name = name_in(answer.output.as_slice());
-    let members = place_of_line(alloc, members_text(alloc, answer, name));
+    let members = place_of_line(alloc, members_text(alloc, answer));
     let mut line = Vec::from_slice(alloc, b"{\"refused\":\"")?;
     line.extend_from_slice(name)?;
     line.extend_from_slice(b"\"")?;
@@ -78,22 +64,14 @@ fn is_of_name(byte: u8) -> bool
     !matches!(byte, b' ' | b'\n')
 }
 
-// The other members of the object, after a comma, if there are any.
-fn members_text(alloc: Global, answer: &Answer, name: &[u8]) -> Option<Vec<u8>> {
-    let name = from_utf8(name).ok()?;
-    let (at, expected) = halves(alloc, &answer.place, name);
-    let members = Members {
-        place: offset_in(&answer.output),
-        at,
-        expected,
-    };
-    let object = serde_json::to_vec(alloc, &members).ok()?;
-    let members = object.strip_prefix(b"{")?.strip_suffix(b"}")?;
-    if members.is_empty() {
-        return None;
+// The other members of the object, each after a comma. The answer's place has those of the refusal.
+fn members_text(alloc: Global, answer: &Answer) -> Option<Vec<u8>> {
+    let mut text = Vec::new(alloc);
+    if let Some(offset) = offset_in(&answer.output) {
+        let member = format!(in alloc; ",\"place\":{offset}").ok()?;
+        text.extend_from_slice(member.as_bytes()).ok()?;
     }
-    let mut text = Vec::from_slice(alloc, b",").ok()?;
-    text.extend_from_slice(members).ok()?;
+    text.extend_from_slice(&answer.place).ok()?;
     Some(text)
 }
 
@@ -101,24 +79,4 @@ fn members_text(alloc: Global, answer: &Answer, name: &[u8]) -> Option<Vec<u8>> 
 fn offset_in(line: &[u8]) -> Option<u64> {
     let (_, offset) = from_utf8(line).ok()?.split_once(" at ")?;
     offset.trim_end().parse().ok()
-}
-
-// WHERE and EXPECTED of `at WHERE: NAME: EXPECTED`.
-fn halves<'a>(alloc: Global, line: &'a [u8], name: &str) -> (Option<&'a str>, Option<&'a str>) {
-    let Some((at, expected)) = split_at_name(alloc, line, name) else {
-        return (None, None);
-    };
-    let expected = expected.strip_prefix(": ");
-    (
-        Some(at),
-        expected.map(|text| text.strip_prefix("wanted ").unwrap_or(text)),
-    )
-}
-
-fn split_at_name<'a>(alloc: Global, line: &'a [u8], name: &str) -> Option<(&'a str, &'a str)> {
-    let mark = format!(in alloc; ": {name}").ok()?;
-    from_utf8(line)
-        .ok()?
-        .strip_prefix("at ")?
-        .split_once(mark.as_str())
 }

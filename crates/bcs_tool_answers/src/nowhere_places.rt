@@ -1,14 +1,15 @@
 //! Where steps lead nowhere.
 ghost use Rattle.bcs_tool_answers.specs.Places.{MayReport};
 
-use crate::places::place_of_line;
+use crate::places::place_of;
 use crate::validating::Asked;
 use bcs_decode_parts::PathStep;
 use bcs_display_pieces::nowhere_on_path;
+use bcs_display_refusal::Refusal;
 use bcs_tool_command_line::Work;
 use std::alloc::{AllocError, Global};
 
-/// Where these steps lead nowhere: `line`, if it is given. Empty for a quiet job, for a line of an input, or if an
+/// Where these steps lead nowhere: `step`, if it is given. Empty for a quiet job, for a line of an input, or if an
 /// allocation fails.
 pub fn place_of_nowhere(
     alloc: Global,
@@ -16,29 +17,29 @@ pub fn place_of_nowhere(
     asked: &Asked,
     bytes: &[u8],
     path: &[PathStep],
-    line: Option<Vec<u8>>,
+    step: Option<Refusal>,
 ) -> Vec<u8>
     ensures { MayReport work.now result.items }
 {
     if work.options.quiet || work.options.lines {
         return Vec::new(alloc);
     }
-    match line {
-        Some(line) => place_of_line(alloc, Some(line)),
-        None => match path_line(alloc, work, asked, bytes, path) {
-            Ok(line) => place_of_line(alloc, line),
+    match step {
+        Some(step) => place_of(alloc, Some(step)),
+        None => match path_step(alloc, work, asked, bytes, path) {
+            Ok(step) => place_of(alloc, step),
             Err(AllocError) => Vec::new(alloc),
         },
     }
 }
 
-fn path_line(
+fn path_step(
     alloc: Global,
     work: &Work,
     asked: &Asked,
     bytes: &[u8],
     path: &[PathStep],
-) -> Result<Option<Vec<u8>>, AllocError> {
+) -> Result<Option<Refusal>, AllocError> {
     let Asked {
         registry,
         format,

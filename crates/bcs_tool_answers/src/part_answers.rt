@@ -14,6 +14,7 @@ use crate::validating::Asked;
 use bcs_decode::{part, scan};
 use bcs_decode_parts::{PathStep, steps_of};
 use bcs_display_pieces::{Led, path_of_name, path_of_pointer};
+use bcs_display_refusal::Refusal;
 use bcs_tool_command_line::{Command, Notation, Work};
 use std::alloc::{AllocError, Global};
 
@@ -74,14 +75,14 @@ fn led_by_names(alloc: Global, work: &Work, asked: &Asked, bytes: &[u8]) -> Resu
     }
 }
 
-// The bytes of the part that these steps lead to. If the steps came from names that lead nowhere, `line` says where.
+// The bytes of the part that these steps lead to. If the steps came from names that lead nowhere, `step` is the first that does.
 fn answer_steps(
     alloc: Global,
     work: &Work,
     asked: &Asked,
     bytes: &[u8],
     path: &[PathStep],
-    line: Option<Vec<u8>>,
+    step: Option<Refusal>,
 ) -> Result<Answer, AllocError>
     requires command { work.now.command ≡ Command.Part }
     requires asked { IsAskedBy work.now asked.now }
@@ -97,7 +98,7 @@ fn answer_steps(
     match part(registry, format, &work.limits, bytes, steps.as_slice()) {
         Ok(Some(part)) => found(alloc, part.bytes, work.coding()),
         Ok(None) => {
-            let place = place_of_nowhere(alloc, work, asked, bytes, path, line);
+            let place = place_of_nowhere(alloc, work, asked, bytes, path, step);
             answer_nowhere(alloc, work, place)
         }
         Err(stop) => answer_stop(alloc, work, asked, bytes, stop),

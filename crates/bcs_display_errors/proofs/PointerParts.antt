@@ -1,5 +1,9 @@
 -- The appended part of a list, followed by the rest of it.
-use Rattle.bcs_c.proofs.Prelude.{◌≡◌, ◌∙◌, ℕ, ◌+◌, ◌<◌, ◌≤◌, List, ◌∷◌, ◌++◌, ap, sym, drop, drop_of_length-le, get_or, length, append_assoc, append-nil, flat_map, map, drop_more, pointer_step_of, JsonStep, marked, marked_sign, pointer, pointer_step}
+use Rattle.std.proofs.Common.{◌≡◌, ◌∙◌, ℕ, ◌+◌, ◌<◌, ◌≤◌, List, ◌∷◌, ◌++◌, ap, sym, drop, drop_of_length-le, get_or, length, append_assoc, append-nil, flat_map, map}
+use Rattle.std.proofs.lemmas.List.{drop_more}
+use Rattle.bcs_json_spec.specs.Place.{pointer_step_of}
+use Rattle.bcs_json_spec.specs.declared.json_step.JsonStep.{JsonStep}
+use Rattle.bcs_display_errors.specs.Pointers.{marked, marked_sign, pointer, pointer_step}
 
 -- one more byte is appended
 pub sign_more : (put name : List ℕ) (i d : ℕ) → i < length name

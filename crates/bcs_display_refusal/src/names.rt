@@ -1,5 +1,6 @@
 //! Names, as lines show them.
 
+use std::alloc::AllocError;
 use std::fmt;
 use std::fmt::InlineText;
 
@@ -12,25 +13,13 @@ const PAIR: usize = 12;
 /// A name, as a line shows it: in ASCII with JSON escapes, so that none of its bytes reaches a terminal unescaped. Of a
 /// long name, the line shows the whole characters that fit, followed by `...(cut)`.
 #[derive(Clone, Copy)]
-pub(crate) struct Name<'a> {
+pub struct Name<'a> {
     text: &'a str,
-    // Whether it is part of a JSON Pointer (RFC 6901), where `~0` stands for `~`, and `~1` for `/`.
-    in_pointer: bool,
 }
 
 impl<'a> Name<'a> {
-    pub(crate) fn of(text: &'a str) -> Name<'a> {
-        Name {
-            text,
-            in_pointer: false,
-        }
-    }
-
-    pub(crate) fn in_pointer(text: &'a str) -> Name<'a> {
-        Name {
-            text,
-            in_pointer: true,
-        }
+    pub fn of(text: &'a str) -> Name<'a> {
+        Name { text }
     }
 }
 
@@ -48,11 +37,7 @@ impl fmt::Display for Name<'_> {
                 return f.write_str("...(cut)");
             }
             room = room.saturating_sub(signs.len());
-            f.write_str(if self.in_pointer {
-                marked(signs)
-            } else {
-                signs
-            })?;
+            f.write_str(signs)?;
         }
         Ok(())
     }
@@ -67,10 +52,28 @@ fn escaped(unit: u16) -> InlineText<6> {
     }
 }
 
-fn marked(signs: &str) -> &str {
-    match signs {
-        "~" => "~0",
-        "/" => "~1",
-        _ => signs,
+/// Appends a name as a line shows it.
+pub fn put_name(text: &str, out: &mut Vec<u8>) -> Result<(), AllocError> {
+    let name = Name::of(text);
+    let shown = format!(in *out.allocator(); "{name}")?;
+    out.extend_from_slice(shown.as_bytes())
+}
+
+/// How a text spells the names in it.
+#[derive(Clone, Copy)]
+pub(crate) enum Spelling {
+    /// As they are.
+    Exact,
+    /// As a line shows them.
+    Shown,
+}
+
+impl Spelling {
+    /// Appends a name.
+    pub(crate) fn put(self, name: &str, out: &mut Vec<u8>) -> Result<(), AllocError> {
+        match self {
+            Spelling::Exact => out.extend_from_slice(name.as_bytes()),
+            Spelling::Shown => put_name(name, out),
+        }
     }
 }

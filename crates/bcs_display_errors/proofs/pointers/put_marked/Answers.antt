@@ -1,6 +1,6 @@
-use Rattle.bcs_c.proofs.Prelude.{sym, ◌∙◌, arith}
-use Rattle.bcs_c.proofs.PointerParts.{sign_more, signs_all}
-use Rattle.bcs_c.proofs.pointers.put_marked.Goals as goal
+use Rattle.std.proofs.Common.{sym, ◌∙◌, arith}
+use Rattle.bcs_display_errors.proofs.PointerParts.{sign_more, signs_all}
+use Rattle.bcs_display_errors.proofs.pointers.put_marked.Goals as goal
 
 pub loop-sign-preserved : goal.loop-sign-preserved
 loop-sign-preserved c = rw c.in_ok-put_sign.ensures (sign_more c.loop-sign.out.items c.args.name.now c.loop-sign.sign-index _ c.loop-sign-test.true ∙ c.loop-sign.invariant)

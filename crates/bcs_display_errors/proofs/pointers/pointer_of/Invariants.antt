@@ -1,5 +1,7 @@
-use Rattle.bcs_c.proofs.Prelude.{◌≡◌, ◌++◌, drop, map, pointer_step_of, pointer}
-use Rattle.bcs_c.proofs.pointers.pointer_of.Given as goal
+use Rattle.std.proofs.Common.{◌≡◌, ◌++◌, drop, map}
+use Rattle.bcs_json_spec.specs.Place.{pointer_step_of}
+use Rattle.bcs_display_errors.specs.Pointers.{pointer}
+use Rattle.bcs_display_errors.proofs.pointers.pointer_of.Given as goal
 
 -- what has been appended so far, followed by the remaining steps
 abbrev pub invariant-loop-step : goal.invariant-loop-step

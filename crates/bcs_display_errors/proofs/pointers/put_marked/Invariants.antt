@@ -1,5 +1,6 @@
-use Rattle.bcs_c.proofs.Prelude.{◌≡◌, ◌++◌, drop, flat_map, marked, marked_sign}
-use Rattle.bcs_c.proofs.pointers.put_marked.Given as goal
+use Rattle.std.proofs.Common.{◌≡◌, ◌++◌, drop, flat_map}
+use Rattle.bcs_display_errors.specs.Pointers.{marked, marked_sign}
+use Rattle.bcs_display_errors.proofs.pointers.put_marked.Given as goal
 
 -- what has been appended so far, followed by the remaining bytes
 abbrev pub invariant-loop-sign : goal.invariant-loop-sign
