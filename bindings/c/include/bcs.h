@@ -239,7 +239,7 @@ bcs_answer bcs_handle_stop_place(bcs_handle *handle, const uint8_t *format, size
 
 /* What bcs_handle_part answers, for a part that is named by fields and variants in place of numbers: `notation` is one of enum
    bcs_notation. BCS_NO: the name leads nowhere in this value. BCS_PATH: another notation, or a text that is no name in any value.
-   A name as bcs_explain prints it may have escapes or not, and "." is the whole value; so is an empty JSON Pointer. */
+   Only the name that bcs_explain prints leads to a part. "." is the whole value, and so is an empty JSON Pointer. */
 bcs_answer bcs_handle_part_named(bcs_handle *handle, const uint8_t *format, size_t format_length, uint32_t depth,
                                  uint32_t nodes, uint32_t notation, const uint8_t *name, size_t name_length,
                                  const uint8_t *bytes, size_t bytes_length);

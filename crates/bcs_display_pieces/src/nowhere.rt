@@ -1,7 +1,6 @@
 //! A step that leads nowhere: which one, and what is there.
 
-use crate::following::{borrowed, value_at_start};
-use crate::listing::{put_fields, put_variants};
+use crate::listing::{put_fields, put_listed, put_variants};
 use crate::notation::Notation;
 use bcs_decode_parts::PathStep;
 use bcs_decode_parts::here::{Here, Reached};
@@ -10,6 +9,8 @@ use bcs_decode_parts::stepping::take_step;
 use bcs_decode_parts::variants::after_number;
 use bcs_display_refusal::{Location, Refusal, put_name};
 use bcs_display_text::columns::put_decimal;
+use bcs_part_names::DeadEnd;
+use bcs_part_names::following::{borrowed, value_at_start};
 use bcs_registry::{Format, Named, Registry, VariantFormat};
 use bcs_registry_model::Kind;
 use bcs_value::Limits;
@@ -38,6 +39,21 @@ pub fn nowhere_on_path(
     Ok(None)
 }
 
+/// About the first step of a name that leads nowhere: `at --name, step 2 .x: U8 has no parts`.
+pub fn nowhere_on_name(alloc: Global, end: &DeadEnd<'_, '_>) -> Result<Refusal, AllocError> {
+    leads_nowhere(alloc, Notation::Name, end.number, end.step.as_str(), &end.at)
+}
+
+/// About the first step of a pointer that leads nowhere, or about its last one, if it leads to an entry of a map.
+pub fn nowhere_on_pointer(alloc: Global, end: &DeadEnd<'_, '_>) -> Result<Refusal, AllocError> {
+    let step = end.step.as_str();
+    if end.in_entry {
+        at_entry(alloc, end.number, step)
+    } else {
+        leads_nowhere(alloc, Notation::Pointer, end.number, step, &end.at)
+    }
+}
+
 fn at_path_step(
     alloc: Global,
     number: u64,
@@ -55,8 +71,8 @@ fn at_path_step(
     leads_nowhere(alloc, Notation::Path, number, text.as_str(), at)
 }
 
-/// A step that leads nowhere from here.
-pub(crate) fn leads_nowhere(
+// A step that leads nowhere from here.
+fn leads_nowhere(
     alloc: Global,
     notation: Notation,
     number: u64,
@@ -65,10 +81,10 @@ pub(crate) fn leads_nowhere(
 ) -> Result<Refusal, AllocError> {
     let mut line = Vec::new(alloc);
     match inside_of(&at.here) {
-        Inside::Fields(fields) => put_fields(fields, &mut line)?,
+        Inside::Fields(fields) => put_fields(notation, fields, &mut line)?,
         Inside::Variants(variants) => {
-            put_variants(variants, &mut line)?;
-            put_chosen(variants, at.ahead.bytes, &mut line)?;
+            put_variants(notation, variants, &mut line)?;
+            put_chosen(notation, variants, at.ahead.bytes, &mut line)?;
         }
         Inside::Option(_) => put_option(notation, at.ahead.bytes, &mut line)?,
         Inside::List(element) => put_list(notation, element, at.ahead.bytes, &mut line)?,
@@ -87,8 +103,8 @@ pub(crate) fn leads_nowhere(
     at_step(alloc, notation, number, step, line)
 }
 
-/// A step from an entry of a map, or a pointer that ends there.
-pub(crate) fn at_entry(alloc: Global, number: u64, step: &str) -> Result<Refusal, AllocError> {
+// A step from an entry of a map, or a pointer that ends there.
+fn at_entry(alloc: Global, number: u64, step: &str) -> Result<Refusal, AllocError> {
     let message = Vec::from_slice(
         alloc,
         b"an entry of a map; 1 leads to its value, and nothing to its key",
@@ -120,6 +136,7 @@ fn put_count(words: &str, count: u64, line: &mut Vec<u8>) -> Result<(), AllocErr
 
 // Which variant of an enum is there.
 fn put_chosen(
+    notation: Notation,
     variants: &BTreeMap<u32, Named<VariantFormat>>,
     bytes: &[u8],
     line: &mut Vec<u8>,
@@ -130,7 +147,7 @@ fn put_chosen(
     match variants.get(&number) {
         Some(variant) => {
             line.extend_from_slice(b"; here ")?;
-            put_name(variant.name.as_str(), line)
+            put_listed(notation, variant.name.as_str(), line)
         }
         None => Ok(()),
     }
@@ -181,7 +198,7 @@ fn put_map(notation: Notation, bytes: &[u8], line: &mut Vec<u8>) -> Result<(), A
     }
     line.extend_from_slice(match notation {
         Notation::Path => b"; key:DIGITS leads to a value",
-        Notation::Name => b"; [key:DIGITS] leads to a value, and nothing to a key",
+        Notation::Name => b"; [key:DIGITS] leads to a value, or [value NUMBER] if its key is long",
         Notation::Pointer => b"; NUMBER/1 leads to a value",
     })
 }

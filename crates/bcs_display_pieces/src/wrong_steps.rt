@@ -1,15 +1,32 @@
 //! Texts that aren't names of parts, or aren't JSON Pointers.
 
-use crate::name_text::first_step;
 use crate::notation::Notation;
 use crate::nowhere::at_step;
 use bcs_display_refusal::{Location, Refusal};
+use bcs_part_names::wrong_step;
 use std::alloc::{AllocError, Global};
+use std::str::from_utf8;
 
-/// A text that can't be a name, whatever the registry: `at --name, step 1 args: BadPath: wanted ..`.
+/// The first invalid step of a text that isn't a name: `at --name, step 1 args: BadPath: wanted ..`.
 pub fn wrong_name(alloc: Global, name: &str) -> Result<Refusal, AllocError> {
-    let wanted = b"wanted ., .NAME, ::NAME, ?, [NUMBER] or [key:DIGITS]";
-    bad_step(alloc, Notation::Name, 1, first_step(name), wanted)
+    let (index, rest) = wrong_step(alloc, name)?;
+    let number = (index as u64).saturating_add(1);
+    let wanted = b"wanted ., .NAME, ::NAME, ?, [NUMBER], [key:DIGITS] or [value NUMBER]";
+    bad_step(alloc, Notation::Name, number, first_of(rest), wanted)
+}
+
+// The text before the next step, as far as the signs show it.
+fn first_of(rest: &[u8]) -> &str {
+    let text = from_utf8(rest).unwrap_or("");
+    let mut is_inside = false;
+    for (place, sign) in text.char_indices() {
+        let is_mark = matches!(sign, '.' | ':' | '?' | '[');
+        if is_mark && is_inside {
+            return text.get(..place).unwrap_or(text);
+        }
+        is_inside = !is_mark;
+    }
+    text
 }
 
 /// The first step of a text that isn't a JSON Pointer.

@@ -5,6 +5,7 @@ use crate::finding::{field_labelled, variant_labelled};
 use crate::following::Follower;
 use crate::led::Led;
 use crate::name_step::NameStep;
+use crate::printing::put_step;
 use crate::reading::read_name;
 use bcs_decode_parts::inside::Inside;
 use bcs_decode_parts::{PathFault, PathStep};
@@ -29,16 +30,30 @@ pub fn path_of_name<'r, 'a>(
     let mut follower = Follower::start(alloc, registry, format, limits, bytes);
     let steps = match read_name(alloc, name) {
         Ok(steps) => steps,
-        Err(PathFault::BadPath) => return follower.stopped(0, false),
+        Err(PathFault::BadPath) => return follower.stopped(
+            0,
+            String::from_str(alloc, name)?,
+            false,
+        ),
         Err(PathFault::OutOfMemory) => return Err(AllocError),
     };
     for (index, step) in steps.iter().enumerate() {
         follower.enter_containers()?;
         if !take_named(alloc, &mut follower, step)? {
-            return follower.stopped(index, false);
+            return follower.stopped(index, text_of(alloc, step)?, false);
         }
     }
     Ok(follower.arrived())
+}
+
+// The text of a step. It is UTF-8, since a name is cut only at ASCII characters. No clause says so.
+fn text_of(alloc: Global, step: &NameStep<'_>) -> Result<String, AllocError> {
+    let mut text = Vec::new(alloc);
+    put_step(step, &mut text)?;
+    match String::from_utf8(text) {
+        Ok(text) => Ok(text),
+        Err(_) => Ok(String::new(alloc)),
+    }
 }
 
 // Takes a step, and returns whether it leads anywhere.

@@ -34,16 +34,17 @@ pub fn path_of_pointer<'r, 'a>(
         follower: Follower::start(alloc, registry, format, limits, bytes),
         entry: None,
     };
-    let mut last: usize = 0;
+    let mut last = (0, "");
     // A pointer begins with `/`, so nothing comes before the first one.
     for (index, text) in pointer.split('/').skip(1).enumerate() {
         if !position.take(alloc, text)? {
-            return position.stopped(index);
+            return position.stopped(alloc, index, text);
         }
-        last = index;
+        last = (index, text);
     }
     if position.entry.is_some() {
-        return position.stopped(last);
+        let (index, text) = last;
+        return position.stopped(alloc, index, text);
     }
     Ok(position.follower.arrived())
 }
@@ -98,10 +99,10 @@ impl<'r, 'a> Position<'r, 'a> {
         }
     }
 
-    // Nowhere, since the step with this index leads nowhere from here.
-    fn stopped(self, step: usize) -> Result<Led<'r, 'a>, AllocError> {
+    // Nowhere, since this step leads nowhere from here.
+    fn stopped(self, alloc: Global, index: usize, text: &str) -> Result<Led<'r, 'a>, AllocError> {
         let Position { follower, entry } = self;
-        follower.stopped(step, entry.is_some())
+        follower.stopped(index, String::from_str(alloc, text)?, entry.is_some())
     }
 }
 

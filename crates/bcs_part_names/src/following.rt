@@ -80,14 +80,24 @@ impl<'r, 'a> Follower<'r, 'a> {
         }
     }
 
-    /// Nowhere, since the step with this index leads nowhere from here.
-    pub(crate) fn stopped(self, step: usize, in_entry: bool) -> Result<Led<'r, 'a>, AllocError> {
+    /// Nowhere, since this step leads nowhere from here. Its index is from 0.
+    pub(crate) fn stopped(
+        self,
+        index: usize,
+        step: String,
+        in_entry: bool,
+    ) -> Result<Led<'r, 'a>, AllocError> {
         let Follower { at, mut path, .. } = self;
         // No value has an element with this index: lengths and sizes are below 2^64.
         path.push(PathStep::Item(u64::MAX))?;
         Ok(Led {
             path,
-            nowhere: Some(DeadEnd { step, at, in_entry }),
+            nowhere: Some(DeadEnd {
+                number: (index as u64).saturating_add(1),
+                step,
+                at,
+                in_entry,
+            }),
         })
     }
 }

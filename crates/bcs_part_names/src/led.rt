@@ -13,10 +13,12 @@ pub struct Led<'r, 'a> {
 }
 
 /// The first step of a name or a pointer that leads nowhere.
-#[derive(Clone, Copy)]
+#[derive(Drop)]
 pub struct DeadEnd<'r, 'a> {
-    /// The index of the step, from 0.
-    pub step: usize,
+    /// The number of the step, from 1.
+    pub number: u64,
+    /// Its text.
+    pub step: String,
     /// Where the steps before it lead.
     pub at: Reached<'r, 'a>,
     /// Whether the pointer is in an entry of the map there, `[key, value]`.

@@ -29,7 +29,8 @@ pub use Rattle.bcs_decode_spec.specs.Stopping.{Stops, StopsAll}
 pub use Rattle.bcs_decode_spec.specs.declared.reason.Reason.{Reason}
 pub use Rattle.bcs_decode_spec.specs.declared.stop.Stop.{Stop}
 pub use Rattle.bcs_display_pieces.specs.EndsAt.{EndsAt}
-pub use Rattle.bcs_display_pieces.specs.PartTexts.{is_name, is_pointer}
+pub use Rattle.bcs_part_names.specs.Names.{is_name}
+pub use Rattle.bcs_part_names.specs.Pointers.{is_pointer}
 pub use Rattle.bcs_encode_spec.proofs.FormLaws.{bytes_decide_same, forms_same}
 pub use Rattle.bcs_encode_spec.specs.Encodes.{Encodes, IsForm}
 pub use Rattle.bcs_encode_spec.specs.Plain.{plain}

@@ -1,7 +1,7 @@
 use Rattle.bcs_tool_answers.proofs.Prelude.{IfOk-weaker, front_stopped}
 use Rattle.bcs_tool_command_line.specs.declared.command.Command.TheVariants.{Part}
 use Rattle.bcs_tool_answers.proofs.AnswerLemmas.{is_asked, placed_answer}
-use Rattle.bcs_tool_answers.proofs.part_answers.answer_named.Goals as goal
+use Rattle.bcs_tool_answers.proofs.part_answers.answer_part.Goals as goal
 
 pub returns-in-Err : goal.returns-in-Err
 returns-in-Err c =
