@@ -35,11 +35,11 @@ pub use Rattle.bcs_registry_model.specs.Container.{Entries}
 pub use Rattle.bcs_registry_model.specs.Shape.{Shape}
 pub use Rattle.bcs_registry_model.specs.View.{shape_of}
 pub use Rattle.bcs_tool_answers.proofs.AnswerLemmas.{if_some_holds, status_below}
-pub use Rattle.bcs_tool_answers.proofs.LineAnswerLemmas.{answers_snoc, as_many, count_of-snoc, count_of_within, greatest-snoc, greatest_below, line_below}
+pub use Rattle.bcs_tool_answers.proofs.LineAnswerLemmas.{answers_snoc, as_many, count_of-snoc, count_of_within, greatest-snoc, greatest_below, run_below, line_below}
 pub use Rattle.bcs_tool_answers.proofs.PairAnswerLemmas.{as_many_pairs, greatest_pair_below, one_alone, pair_line_below, pairs_then}
 pub use Rattle.bcs_tool_answers.specs.Answers.{Answers, count_line, IsAsked, line_of, scan_stopped, scanned, stop_line}
 pub use Rattle.bcs_tool_answers.specs.Input.{GivesBytes}
-pub use Rattle.bcs_tool_answers.specs.LineAnswers.{AnswersAll, AnswersLine, count_of, none, summary, tally_text}
+pub use Rattle.bcs_tool_answers.specs.LineAnswers.{AnswersAll, AnswersLine, count_of, none, run_status, summary, tally_text}
 pub use Rattle.bcs_tool_answers.specs.PairAnswers.{AnswersLinePair, AnswersPairs, lacking_text, pairs_summary}
 pub use Rattle.bcs_tool_answers.specs.Places.{IsAnswer, Places, PrintsWithoutPlace}
 pub use Rattle.bcs_tool_answers.specs.Preparing.{IsAskedBy, IsPrepared}

@@ -1,6 +1,7 @@
 //! The number of answered lines by status.
-ghost use Rattle.std.specs.Prelude.{◌<◌, ◌+◌, ◌^◌, ◌++◌, ◌∷◌, [], ℕ, List};
+ghost use Rattle.std.specs.Prelude.{◌≡◌, ◌<◌, ◌+◌, ◌^◌, ◌++◌, ◌∷◌, [], ℕ, List};
 ghost use Rattle.bcs_tool.specs.Lines.{IsTally};
+ghost use Rattle.bcs_tool_answers.specs.LineAnswers.{run_status};
 
 /// The number of answered lines, the number with each status, and the greatest status.
 #[derive(Clone, Copy, Debug, Drop)]
@@ -43,6 +44,19 @@ impl Tally {
             negative: self.negative + u64::from(status == 1),
             refused: self.refused + u64::from(status == 2),
             status: self.status.max(status),
+        }
+    }
+
+    /// The status of the run: the greatest one. If refusals are JSON, refused lines don't count.
+    pub fn run_status(self, json_refusals: bool) -> u8
+        ensures { (statuses : List ℕ) → IsTally self statuses → result ≡ run_status json_refusals statuses }
+    {
+        if !json_refusals {
+            self.status
+        } else if self.negative > 0 {
+            1
+        } else {
+            0
         }
     }
 }
