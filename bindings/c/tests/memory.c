@@ -127,6 +127,7 @@ static const struct {
     {"text_refusal", {ON_VALUE(TEXT_REFUSAL, "[[\"b\",{\"M\":{\"x\":7,\"y\":[\"one\",2]}}]]")}, BCS_DONE, ROOM},
     {"text_refusal, no JSON", {ON_VALUE(TEXT_REFUSAL, "[[")}, BCS_DONE, ROOM},
     {"stop_refusal", {ON_VALUE(STOP_REFUSAL, DAMAGED)}, BCS_DONE, ROOM},
+    {"registry_refusal", {.call = REGISTRY_REFUSAL, .input = OF("{\"A\":{\"STRUCT\":[{\"x\":\"U9\"}]}}")}, BCS_DONE, ROOM},
     {"schema", {ON_VALUE(SCHEMA, "")}, BCS_DONE, ROOM},
     {"example", {ON_VALUE(EXAMPLE, ""), .number = BCS_FULL}, BCS_DONE, ROOM},
     {"show", {ON_VALUE(SHOW, "B")}, BCS_DONE, ROOM},

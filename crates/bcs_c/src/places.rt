@@ -121,7 +121,8 @@ fn words_of_text(
     refusal: &TextRefusal,
 ) -> Option<Vec<u8>> {
     let (registry, format) = (asked.registry, asked.format);
-    let told = text_refusal(alloc, registry, format, &asked.limits, text, refusal)?;
+    let at = (refusal.fault, refusal.steps.as_deref());
+    let told = text_refusal(alloc, registry, format, &asked.limits, text, at)?;
     let Location::Line(_, _) = &told.location else {
         return Some(told.message);
     };

@@ -110,13 +110,12 @@ fn told_stop(alloc: Global, asked: &Asked, bytes: &[u8], out: &mut [u8]) -> Answ
     ensures answers { On asked.now (λ r l s. AnswersStopRefusal r l s bytes.now out.old out.new result) }
     ensures untouched { result.status ≢ status_number Done → out.new ≡ out.old }
 {
-    let stopped = match stop_refusal(alloc, asked.registry, asked.format, &asked.limits, bytes) {
-        Ok(Some(stopped)) => stopped,
-        Ok(None) => return Answer::plain(Status::No),
-        Err(AllocError) => return Answer::plain(Status::Memory),
-    };
-    match written(alloc, &stopped.refusal) {
-        Ok(told) => put(&told, out).with_stop(Some(stopped.stop)),
+    match stop_refusal(alloc, asked.registry, asked.format, &asked.limits, bytes) {
+        Ok(Some(stopped)) => match written(alloc, &stopped.refusal) {
+            Ok(told) => put(&told, out).with_stop(Some(stopped.stop)),
+            Err(AllocError) => Answer::plain(Status::Memory),
+        },
+        Ok(None) => Answer::plain(Status::No),
         Err(AllocError) => Answer::plain(Status::Memory),
     }
 }
@@ -134,17 +133,13 @@ pub extern "C" fn bcs_c_registry_refusal(alloc: Global, registry: &[u8], out: &m
     if fault == RegistryFault::OutOfMemory {
         return Answer::plain(Status::Memory);
     }
-    match refusal_of_registry(alloc, registry, fault) {
-        Some(told) => put(&told, out).with_fault(Fault::Registry(fault)),
-        None => Answer::plain(Status::Memory),
+    match registry_refusal(alloc, registry, fault) {
+        Ok(Some(refusal)) => match written(alloc, &refusal) {
+            Ok(told) => put(&told, out).with_fault(Fault::Registry(fault)),
+            Err(AllocError) => Answer::plain(Status::Memory),
+        },
+        Ok(None) | Err(_) => Answer::plain(Status::Memory),
     }
-}
-
-fn refusal_of_registry(alloc: Global, text: &[u8], fault: RegistryFault) -> Option<Vec<u8>>
-    ensures { IfSome result (λ told. (place : List ℕ) × IsParted place told.items) }
-{
-    let refusal = registry_refusal(alloc, text, fault).ok()??;
-    written(alloc, &refusal).ok()
 }
 
 /// The place of a refusal, a NUL, and its message.

@@ -2,7 +2,7 @@
 
 use crate::pointers::pointer_of;
 use bcs_display_refusal::Location;
-use bcs_json::JsonStep;
+use bcs_json_spec::JsonStep;
 use std::alloc::{AllocError, Global};
 
 /// The location at the end of these steps into a JSON document.

@@ -8,7 +8,7 @@ use crate::texts::refusal_at;
 use crate::wholes::whole_refusal;
 use crate::wrong_text::WrongText;
 use bcs_display_refusal::{Location, Refusal};
-use bcs_json::TextRefusal;
+use bcs_json_spec::{JsonFault, JsonStep};
 use bcs_registry::{Format, Registry, RegistryFault};
 use bcs_value::Limits;
 use std::alloc::{AllocError, Global};
@@ -49,17 +49,17 @@ pub fn format_refusal(
     }
 }
 
-/// Where the JSON document of a value is refused, and what was expected there. `None` if an allocation fails.
+/// Where the JSON document of a value is refused with this fault, at the end of these steps, and what was expected there. `None`
+/// if an allocation fails.
 pub fn text_refusal(
     alloc: Global,
     registry: &Registry,
     format: &Format,
     limits: &Limits,
     text: &[u8],
-    refusal: &TextRefusal,
+    (fault, steps): (JsonFault, Option<&[JsonStep]>),
 ) -> Option<Refusal> {
-    let fault = refusal.fault;
-    match &refusal.steps {
+    match steps {
         None => whole_refusal(alloc, limits, text, fault),
         Some(steps) => refusal_at(alloc, registry, format, limits, text, (fault, steps)),
     }

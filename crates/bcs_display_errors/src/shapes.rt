@@ -3,7 +3,7 @@
 use crate::locations::location_of;
 use crate::shape_parts::Part;
 use bcs_display_refusal::{Location, Refusal};
-use bcs_json::JsonStep;
+use bcs_json_spec::JsonStep;
 use bcs_num::{Width, parse_unsigned};
 use bcs_registry::RegistryFault;
 use bcs_registry_json::json_text::registry_json;

@@ -7,7 +7,7 @@ use crate::kinds::expectation;
 use crate::locations::location_of;
 use crate::targets::{Location, Target, location_at, opened};
 use bcs_display_refusal::Refusal;
-use bcs_json::{JsonFault, JsonStep};
+use bcs_json_spec::{JsonFault, JsonStep};
 use bcs_registry::{Format, Registry};
 use bcs_value::Limits;
 use std::alloc::{AllocError, Global};

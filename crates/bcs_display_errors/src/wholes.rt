@@ -2,7 +2,7 @@
 
 use crate::no_json::no_json;
 use bcs_display_refusal::{Location, Refusal};
-use bcs_json::JsonFault;
+use bcs_json_spec::JsonFault;
 use bcs_value::Limits;
 use std::alloc::Global;
 

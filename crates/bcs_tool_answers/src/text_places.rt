@@ -60,7 +60,14 @@ fn limited_refusal(
     refusal: &TextRefusal,
 ) -> Option<Refusal> {
     let limits = &work.limits;
-    let mut told = text_refusal(alloc, &asked.registry, &asked.format, limits, text, refusal)?;
+    let mut told = text_refusal(
+        alloc,
+        &asked.registry,
+        &asked.format,
+        limits,
+        text,
+        (refusal.fault, refusal.steps.as_deref()),
+    )?;
     put_text_limit(limits, refusal.fault, &mut told.message).ok()?;
     Some(told)
 }

@@ -4,7 +4,7 @@ use Rattle.bcs_c.proofs.places.place_of_stop.Goals as goal
 pub returns-in-Ok-Some-in-Ok-clause-answers : goal.returns-in-Ok-Some-in-Ok-clause-answers
 returns-in-Ok-Some-in-Ok-clause-answers c =
     let ends = rw c.in-Ok-Some.field-0-is at c.in-Ok-Some.ensures.some in
-    told ends.0 c.in-Ok-Some-in-Ok.half.items ends.1
+    told c.in-Ok-Some.stopped.stop c.in-Ok-Some-in-Ok.half.items ends
     (subst (λ (b : List ℕ). Puts b c.args.out.now c.put.new.out c.put.result) c.deref.ensures.value c.put.ensures.puts)
 
 pub returns-in-Ok-None-clause-answers : goal.returns-in-Ok-None-clause-answers

@@ -9,11 +9,11 @@ some_of_ok (Err e) h f = tt
 pub returns : goal.returns
 returns c =
     let other : 0 ≢ 1 = search rules in
-    rw c.ok.ensures.value (some_of_ok c.both.result c.both.ensures (
-      λ x is fault refused.
-          c.in_ok-place.place.items,
+    let message = c.without_nul.result.now in
+    rw c.ok.ensures.value (some_of_ok c.both.result c.both.ensures (λ x is fault refused. (
+      c.in_ok-place.place.items,
       c.in_ok-place.ensures other fault refused,
-      c.without_nul.result.now,
+      message,
       c.without_nul.ensures,
-      (is ∙ ap (λ (place : List ℕ). (place ++ (0 ∷ [])) ++ c.without_nul.result.now) c.deref.ensures.value),
-    ))
+      is ∙ ap (λ (place : List ℕ). (place ++ (0 ∷ [])) ++ message) c.deref.ensures.value,
+    )))
