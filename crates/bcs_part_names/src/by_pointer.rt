@@ -3,6 +3,7 @@
 use crate::entries::Entries;
 use crate::following::Follower;
 use crate::led::Led;
+use crate::pointers::is_pointer;
 use bcs_decode_parts::PathStep;
 use bcs_decode_parts::inside::Inside;
 use bcs_decode_parts::variants::after_number;
@@ -21,7 +22,7 @@ struct Position<'r, 'a> {
 }
 
 /// Returns where the pointer leads, if the bytes begin with a value of the format. The empty pointer leads to the whole
-/// value, and one to an entry of a map or to its key leads nowhere.
+/// value; one to an entry of a map or to its key, or a text that isn't a pointer, leads nowhere.
 pub fn path_of_pointer<'r, 'a>(
     alloc: Global,
     registry: &'r Registry,
@@ -34,6 +35,9 @@ pub fn path_of_pointer<'r, 'a>(
         follower: Follower::start(alloc, registry, format, limits, bytes),
         entry: None,
     };
+    if !is_pointer(pointer) {
+        return position.stopped(alloc, 0, pointer);
+    }
     let mut last = (0, "");
     // A pointer begins with `/`, so nothing comes before the first one.
     for (index, text) in pointer.split('/').skip(1).enumerate() {

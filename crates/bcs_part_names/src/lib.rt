@@ -4,7 +4,7 @@
 mod by_name;
 mod by_pointer;
 mod entries;
-pub mod finding;
+mod finding;
 pub mod following;
 pub mod labels;
 pub mod laws;

@@ -54,7 +54,7 @@ fn all_steps(alloc: Global, text: &[u8]) -> Result<Vec<NameStep<'_>>, PathFault>
     Ok(steps)
 }
 
-/// The first step of `text`, and the text after it.
+// The first step of `text`, and the text after it.
 fn first_step<'t>(alloc: Global, text: &'t [u8]) -> Result<(NameStep<'t>, &'t [u8]), PathFault>
     ensures ok { IfOk result (λ r. head_step text.now ≡ Some (named r.0, r.1.now)) }
     ensures bad { result ≡ Err PathFault.BadPath → head_step text.now ≡ None }
