@@ -41,7 +41,13 @@ pub fn nowhere_on_path(
 
 /// About the first step of a name that leads nowhere: `at --name, step 2 .x: U8 has no parts`.
 pub fn nowhere_on_name(alloc: Global, end: &DeadEnd<'_, '_>) -> Result<Refusal, AllocError> {
-    leads_nowhere(alloc, Notation::Name, end.number, end.step.as_str(), &end.at)
+    leads_nowhere(
+        alloc,
+        Notation::Name,
+        end.number,
+        end.step.as_str(),
+        &end.at,
+    )
 }
 
 /// About the first step of a pointer that leads nowhere, or about its last one, if it leads to an entry of a map.

@@ -18,6 +18,12 @@ pub fn wrong_name(alloc: Global, name: &str) -> Result<Refusal, AllocError> {
 // The text before the next step, as far as the signs show it.
 fn first_of(rest: &[u8]) -> &str {
     let text = from_utf8(rest).unwrap_or("");
+    if text.starts_with('[') {
+        return match text.find(']') {
+            Some(end) => text.get(..=end).unwrap_or(text),
+            None => text,
+        };
+    }
     let mut is_inside = false;
     for (place, sign) in text.char_indices() {
         let is_mark = matches!(sign, '.' | ':' | '?' | '[');
