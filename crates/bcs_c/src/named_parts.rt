@@ -63,8 +63,9 @@ fn named_place(alloc: Global, asked: &Asked, notation: u32, name: &[u8], bytes: 
         Err(AllocError) => return Answer::plain(Status::Memory),
     };
     // In bytes that aren't a value, a map may claim billions of entries, and a name would be followed through all of them.
-    if let Err(stop) = scan(asked.registry, asked.format, &asked.limits, bytes) {
-        return Answer::stopped(stop);
+    match scan(asked.registry, asked.format, &asked.limits, bytes) {
+        Ok(_) => {}
+        Err(stop) => return Answer::stopped(stop),
     }
     let Ok(led) = follow(alloc, asked, part_name, bytes) else {
         return Answer::plain(Status::Memory);
