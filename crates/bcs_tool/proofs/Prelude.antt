@@ -66,7 +66,7 @@ pub use Rattle.bcs_tool_command_line.specs.declared.work.Outcome.{Outcome}
 pub use Rattle.bcs_tool_command_line.specs.declared.work.Work.{Work}
 pub use mir.Val.{bool_byte}
 pub use Rattle.bcs_tool.specs.Endings.{first_unopened, IsUnopened, IsUnread, lacks_file, no_room, over_file, over_input, over_one, over_pairs, pairs_over_file, pairs_over_input, Performs, PerformsOne, PerformsPairs, Put, ReportsFault, second_unopened, unopened}
-pub use Rattle.bcs_tool.specs.Lines.{AllAnswered, AreRead, broken_at, EndsLines, FailsNext, IsSoFar, IsTally, ReadsOn, StandBefore}
+pub use Rattle.bcs_tool.specs.Lines.{AllAnswered, AreRead, broken_at, EndsLines, FailsNext, IsSoFar, IsTally, ReadsOn, StandBefore, tally_status}
 pub use Rattle.bcs_tool.specs.PairLines.{AllPaired, ArePairsSoFar, ending_of, EndsBy, EndsPaired, HasEnded, last_output, last_statuses, PutsPair, ReadsBoth}
 pub use Rattle.bcs_tool.specs.Pairs.{AnswersBehind, AreAll, AreCompared, BothGaveFew, BrokeInLine, compared, EndsPairs, FailsPairsAt, GaveFew, GaveLine, IsPast, PairRuns, PutPairPart, PutPairs, refused, refused_alone, RespondsPairs, StopsAt}
 pub use Rattle.bcs_tool.specs.Running.{AreFirst, by_line, Ends, FailsAt, HasLines, IfTold, IsAnswered, IsLongBehind, IsOutcomeOf, IsTooLarge, IsUnhurt, of_next, once, PutBefore, PutFront, PutPart, PutsAnswer, PutsLine, ReadsNoFurther, Responds, Runs, StopsInLine, Streams, take_of}

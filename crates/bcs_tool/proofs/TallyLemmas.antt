@@ -1,6 +1,5 @@
 -- Counts of statuses, with one more of them.
-use Rattle.std.proofs.lemmas.Bool.Decides.{eqb_tells}
-use Rattle.bcs_tool.proofs.Prelude.{◌≡◌, ◌≢◌, ◌≤◌, ◌+◌, ◌++◌, ◌∙◌, ◌==◌, ℕ, suc, Bool, true, false, List, [], ◌∷◌, arith, if◌then◌else◌, length-append, max, bool_byte, count_of, count_of-snoc, count_of_within, greatest-snoc, run_status, ap, inl, inr, sym, IsTally, Tally}
+use Rattle.bcs_tool.proofs.Prelude.{◌≡◌, ◌≤◌, ◌+◌, ◌++◌, ◌∙◌, ◌==◌, ℕ, suc, Bool, true, false, List, [], ◌∷◌, arith, if◌then◌else◌, length-append, max, bool_byte, count_of, count_of-snoc, count_of_within, greatest-snoc, IsTally, Tally}
 
 by_bit : (b : Bool) (m : ℕ) → (if b then suc m else m) ≡ m + bool_byte b
 by_bit true m = omega arith
@@ -31,11 +30,3 @@ count_room tally statuses counted = (
   omega (arith, counted.answered, counted.negative, count_of_within 1 statuses),
   omega (arith, counted.answered, counted.refused, count_of_within 2 statuses),
 )
-
--- the status of a run with refusals as JSON
-pub forgiving : (tally : Tally) (statuses : List ℕ) (status : ℕ) → IsTally tally statuses → (tally.negative ≡ 0 → status ≡ 0) → (tally.negative ≢ 0 → status ≡ 1)
-    → status ≡ run_status true statuses
-forgiving tally statuses status counted none some = elim (eqb_tells (count_of 1 statuses) 0) [
-  | inl zero ↦ none (counted.negative ∙ zero.1) ∙ ap (λ (b : Bool). if b then 0 else 1) (sym zero.0)
-  | inr more ↦ some (λ zero. more.1 (sym counted.negative ∙ zero)) ∙ ap (λ (b : Bool). if b then 0 else 1) (sym more.0)
-]

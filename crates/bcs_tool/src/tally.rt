@@ -1,7 +1,6 @@
 //! The number of answered lines by status.
 ghost use Rattle.std.specs.Prelude.{◌≡◌, ◌<◌, ◌+◌, ◌^◌, ◌++◌, ◌∷◌, [], ℕ, List};
-ghost use Rattle.bcs_tool.specs.Lines.{IsTally};
-ghost use Rattle.bcs_tool_answers.specs.LineAnswers.{run_status};
+ghost use Rattle.bcs_tool.specs.Lines.{IsTally, tally_status};
 
 /// The number of answered lines, the number with each status, and the greatest status.
 #[derive(Clone, Copy, Debug, Drop)]
@@ -49,14 +48,12 @@ impl Tally {
 
     /// The status of the run: the greatest one. If refusals are JSON, refused lines don't count.
     pub fn run_status(self, json_refusals: bool) -> u8
-        ensures { (statuses : List ℕ) → IsTally self statuses → result ≡ run_status json_refusals statuses }
+        ensures { result ≡ tally_status json_refusals self }
     {
-        if !json_refusals {
-            self.status
-        } else if self.negative > 0 {
-            1
+        if json_refusals {
+            if self.negative == 0 { 0 } else { 1 }
         } else {
-            0
+            self.status
         }
     }
 }
