@@ -427,7 +427,7 @@ const ANNOUNCED = bytesOfHex('ffffffff07');
 
 test('by default bytes have at most 16 nodes a byte, and 65,536', () => {
   const calls = ['decode', 'decodeText', 'scan', 'explain', 'explainText'];
-  const start = performance.now();
+  const start = process.cpuUsage();
   for (const call of calls.slice(0, 3)) assert.throws(() => none[call]({ SEQ: 'UNIT' }, ANNOUNCED), refusal('bytes', 'TooManyNodes', 5));
   assert.throws(() => none.part({ SEQ: 'UNIT' }, ANNOUNCED, '.'), refusal('bytes', 'TooManyNodes', 5));
   assert.equal(none.explain({ SEQ: 'UNIT' }, ANNOUNCED).at(-1).refused, 'TooManyNodes');
