@@ -55,7 +55,7 @@ final class ValueTypes extends Check {
         equal(shown + decoded(format, digits, type), shown + wanted);
     }
 
-    private static final String U64 = "0100000000000000", P = "03626f62" + U64, REFUSED = "TYPE refused: WrongType";
+    private static final String U64 = "0100000000000000", P = "03626f62" + U64, REFUSED = "VALUE refused: WrongType";
 
     private static void integers() {
         record Row(String format, String digits, List<Class<?>> types) {}
