@@ -281,9 +281,9 @@ export class Calls {
 
   /** Where the text of a registry is refused with a fault, and what was expected there, with a NUL between them. */
   registryRefusal(text, fault) {
-    const [where, wanted] = [0, 1].map((what) => this.#run((room) => wholeCall(room, 'bcs_c_registry_place', [what, text], FIRST_PLACE)));
-    const output = [where, wanted].flatMap(({ output: told = [] }, i) => (i === 0 ? [...told] : [0, ...told]));
-    return { ...where, fault, output: Uint8Array.from(output) };
+    const told = (what) => this.#run((room) => wholeCall(room, 'bcs_c_registry_place', [what, text], FIRST_PLACE));
+    const [where, wanted] = [told(0), told(1)];
+    return { ...where, fault, output: Uint8Array.from([...(where.output ?? []), 0, ...(wanted.output ?? [])]) };
   }
 
   faultName(fault) {

@@ -14,8 +14,10 @@ import sys
 from joining import joined
 
 HERE = pathlib.Path(__file__).resolve().parent
-MODULES = ["errors", "hex", "octets", "texts", "move_types", "shapes", "json_output", "writing", "reading", "interruptions"]
-MODULES += ["calls", "limits", "holder", "refusals", "format_calls", "registry", "support", "loader", "own_module"]
+# Each comes after those that it imports.
+MODULES = ["errors", "hex", "octets", "texts", "move_types", "shapes", "json_output", "writing", "reading"]
+MODULES += ["interruptions", "calls", "limits", "holder", "refusals", "format_calls", "registry", "support"]
+MODULES += ["loader", "own_module"]
 ADDRESS = "require('node:url').pathToFileURL(__filename).href"
 
 

@@ -82,7 +82,8 @@ export class FormatCalls {
   }
 
   #partBy(bytes, call, placing) {
-    const placed = (calls, ask, { status }) => (status === 'path' ? placing?.(calls) : reported(calls.stopRefusal(ask, bytes), this.#bcs));
+    const placed = (calls, ask, { status }) =>
+      status === 'path' ? placing?.(calls) : reported(calls.stopRefusal(ask, bytes), this.#bcs);
     const { status, place, length } = this.#answer(this.#nodesFor(bytes), call, placed);
     return status === 'no' ? undefined : { place, bytes: bytes.slice(place, place + length) };
   }

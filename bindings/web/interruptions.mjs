@@ -20,8 +20,8 @@ export function interruptible(call) {
   try {
     return call();
   } catch (error) {
-    const interruption = isEndOfStack(error) ? new Interruption('stack', error) : error;
-    throw interruption instanceof Interruption ? new BcsError(interruption.kind, { detail: interruption.message, cause: error }) : error;
+    const found = isEndOfStack(error) ? new Interruption('stack', error) : error;
+    throw found instanceof Interruption ? new BcsError(found.kind, { detail: found.message, cause: error }) : error;
   }
 }
 

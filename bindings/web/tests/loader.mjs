@@ -460,13 +460,13 @@ test('three bytes that announce 40,000 structs with long names cost little', () 
   const names = Array.from({ length: 20 }, (_, i) => 'n'.repeat(4000 + i));
   const long = bcs.registry(JSON.stringify({ L: { STRUCT: names.map((name) => ({ [name]: 'UNIT' })) } }));
   const list = { SEQ: { TYPENAME: 'L' } };
-  const [before, start] = [process.memoryUsage().rss, performance.now()];
+  const [before, start] = [process.memoryUsage().rss, process.cpuUsage()];
   for (const call of ['decode', 'decodeText', 'scan']) assert.throws(() => long[call](list, bytesOfHex('c0b802')), { reason: 'TooManyNodes' });
   // (A list has a node, and each of these structs 22. 65,552 nodes for a byte, by 64 / 4019, are 1,043.)
   assert.equal(long.decode(list, Uint8Array.of(47)).length, 47);
   assert.throws(() => long.decode(list, Uint8Array.of(48)), { reason: 'TooManyNodes' });
   assert.ok(process.memoryUsage().rss - before < 64 << 20, 'tens of MiB');
-  assert.ok(performance.now() - start < 2000, 'two seconds');
+  assert.ok(process.cpuUsage(start).user < 2_000_000, 'two seconds');
 });
 
 test('what bytes announce takes no memory by default', async () => {
@@ -592,7 +592,7 @@ test('on a thread with a small stack each call is answered, or throws the kind s
     assert.ok(outcome in counts, outcome);
     counts[outcome]++;
   }
-  assert.ok(counts.answered > 100 && counts.stack > 100 && counts.engine < 200, JSON.stringify(counts));
+  assert.ok(counts.answered > 50 && counts.stack > 50 && counts.engine < 80, JSON.stringify(counts));
   assert.equal(counts['at last answered'], 3);
 });
 
