@@ -215,7 +215,7 @@ class Faults(Measured):
 
 
 class Open(Measured):
-    """After a statement, the open registries use at most bcs.registry_cache of memory, whoever opened them."""
+    """After a statement, open registries use no more memory than bcs.registry_cache, whoever opened them."""
 
     is_unit = "select bcs_is(%s, '\"UNIT\"', '')"
 

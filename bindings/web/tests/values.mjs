@@ -117,7 +117,7 @@ const ARRAY_1_2 = {
 const NO_OPTION = eachColumn(['option', 'optionMap', ...EXACT_OPTIONS], 'BadShape');
 const OTHER_MEMBERS = { Empty: 'UnknownField', Point: 'MissingField', Shape: 'UnknownVariant', ...NO_OPTION };
 const NO_MEMBERS = { Empty: '', Point: 'MissingField', Shape: 'BadShape', ...NO_OPTION };
-/** An object that is no value of an empty struct, though it has no members that count. */
+/** Objects without own members that are still rejected as values of an empty struct. */
 const NOT_PLAIN = { ...NO_MEMBERS, Empty: at('/v', 'Empty takes an object, not a class instance or one with hidden members') };
 /** What `{ some: value }` is, where the value's type isn't accepted. */
 const someOf = (found) => Object.fromEntries([
