@@ -72,7 +72,7 @@ def expect_answers(answers: list[str], engine: str) -> None:
         "refused": "LongForm",
         "place": 73,
         "at": ".payload::EntryFunction.module.name",
-        "expected": "length of STR",
+        "message": "wanted length of STR",
     }
     for number, answer in enumerate(answers):
         found: dict[str, Any] = json.loads(answer)

@@ -82,7 +82,7 @@ MAPS = [
     Job(0, "\1", ["part", "--raw", "{}", PAIRS, "key:0100", "@map_bytes"]),
     Job(0, "\1", ["part", "--raw", "--name", "[key:0100]", "{}", PAIRS, "@map_bytes"]),
     Job(0, "\1", ["part", "--raw", "--pointer", "/1/1", "{}", PAIRS, "@map_bytes"]),
-    Job(0, "\xcc\xed", ["part", "--raw", "--name", ".\\u00e9", ACCENTED, "S", "@bytes"]),
+    Job(0, "\xcc\xed", ["part", "--raw", "--name", '."\\u00e9"', ACCENTED, "S", "@bytes"]),
     Job(1, "", ["part", "--raw", "--quiet", "--name", "[key:0200]", "{}", PAIRS, "@map_bytes"]),
     Job(2, "refused: TooNested", ["decode", "--raw", NESTED, "L", "@nested"]),
     Job(0, "ok 500", ["scan", "--raw", NESTED, "L", "@nested"]),

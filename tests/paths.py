@@ -6,7 +6,7 @@ a registry with all formats, which are the same in each run:
 
 - The pieces are all of the bytes, without gap or overlap.
 - The word PATH of a piece leads `bcs part` to the part that the piece is of. `explain` cuts a key of more than 32
-  bytes, so the word is completed first, from the bytes of the key's own pieces.
+  bytes there, so the word is completed first, from the bytes of the key's own pieces.
 - So do the name of the piece, behind `--name`, and the JSON Pointer of the part, behind `--pointer`. A name into a key
   leads nowhere.
 - The pieces of a part are those that its format has, with the values that `bcs decode` prints of that part.
@@ -49,14 +49,19 @@ REASONS = [
 ]
 PAIRS = [[0, 0], [0, 1], [7, 255]]
 TEXTS = ["", "a", "é\n"]
-# With its length each key has a byte more: 32 are printed whole. The last two are cut to the same text.
+# With its length each key has a byte more: 32 are printed whole. In PATH, the last two are cut to the same text.
 KEYS = [*TEXTS, "k" * 31, "k" * 32, "k" * 33, "k" * 99 + "a", "k" * 99 + "b"]
-# A key in a name or in a word PATH.
+# A key in a word PATH.
 KEY = re.compile(r"key:([0-9a-f]*)(?:\.\.\.\(([0-9]+) bytes? more\))?")
-# A step of a name that doesn't lead to a key or to the value at it.
-PLAIN = re.compile(r"\.(\w+)|::(\w+)|\[(\d+)\]|\?")
-# A step of a name: to a field, a variant, an element, a key, the value at a key, or what an option holds.
-STEP = re.compile(r"\.(\w+)|::(\w+)|\[(\d+)\]|\[(key) \d+\]|\[key:\w*\]|\?")
+# A step of a name: to a field, a variant, an element, a key, the value at a short key, that at a long one, or what an
+# option holds.
+LABEL = r'"(?:[^"\\]|\\.)*"|[A-Za-z0-9_]+'
+STEP = re.compile(
+    rf"\.(?P<field>{LABEL})|::(?P<variant>{LABEL})|\[(?P<number>\d+)\]"
+    r"|\[key (?P<key>\d+)\]|\[key:(?P<digits>[0-9a-f]*)\]|\[value (?P<value>\d+)\]|\?"
+)
+# The number of digits of the longest key in a name.
+SHORT = 64
 
 ANY: dict[str, Any] = {"TYPENAME": "Any"}
 NUMBERS = [f"{sign}{bits}" for sign in "UI" for bits in (8, 16, 32, 64, 128)]
@@ -71,13 +76,13 @@ PAYLOADS: dict[str, Any] = {
     "Maybe": {"NEWTYPE": {"OPTION": ANY}},
     "List": {"NEWTYPE": {"SEQ": ANY}},
     "Octets": {"NEWTYPE": {"SEQ": "U8"}},
-    "Pair": {"TUPLE": [ANY, ANY]},
+    "a::b": {"TUPLE": [ANY, ANY]},
     "Row": {"NEWTYPE": {"TUPLE": [ANY, {"TUPLE": []}, ANY]}},
     "Three": {"NEWTYPE": {"TUPLEARRAY": {"CONTENT": "U8", "SIZE": 3}}},
     "Twice": {"NEWTYPE": {"TUPLEARRAY": {"CONTENT": ANY, "SIZE": 2}}},
     "ByText": {"NEWTYPE": {"MAP": {"KEY": "STR", "VALUE": ANY}}},
     "ByPair": {"NEWTYPE": {"MAP": {"KEY": {"TUPLE": ["U8", {"TYPENAME": "Wrapped"}]}, "VALUE": ANY}}},
-    "Fields": {"STRUCT": [{"first": ANY}, {"second": {"OPTION": "BOOL"}}]},
+    "Fields": {"STRUCT": [{"a": ANY}, {'a.é"~/': {"OPTION": "BOOL"}}]},
     "Wrap": {"NEWTYPE": {"TYPENAME": "Wrapped"}},
     "Tuple": {"NEWTYPE": {"TYPENAME": "Tupled"}},
     "Struct": {"NEWTYPE": {"TYPENAME": "Point"}},
@@ -164,37 +169,46 @@ def pieces_of(registry: str, format: str, digits: str) -> list[Piece]:
 
 
 def with_whole_keys(pieces: list[Piece]) -> Iterator[Piece]:
-    """The pieces with whole keys in names and words. The pieces of a key come right before those of the value at it."""
+    """The pieces with whole keys in words. The pieces of a key come right before those of the value at it."""
     keys: dict[str, tuple[str, str]] = {}
     for piece in pieces:
         name, pointer, wholes = "", "", []
-        for step in re.split(r"(?=\[key)", piece.name):
-            steps = step.split("]", 1)[1] if step.startswith("[key") else step
-            if number := re.match(r"\[key ([0-9]+)\]", step):
-                last, digits = keys.get(name, ("", ""))
-                keys[name] = (number[1], piece.digits if number[1] != last else digits + piece.digits)
-                pointer += f"/{number[1]}/0"
-            elif step.startswith("[key:"):
-                pointer += f"/{keys[name][0]}/1"
-                wholes.append(keys[name][1])
-                step = KEY.sub(partial(whole_key, wholes[-1]), step, count=1)
-            name += step
-            pointer += PLAIN.sub(pointer_step, steps.removesuffix("."))
+        for step in STEP.finditer(piece.name):
+            number, key = keys.get(name, ("", ""))
+            if step["key"]:
+                keys[name] = (step["key"], piece.digits if number != step["key"] else key + piece.digits)
+                pointer += f"/{step['key']}/0"
+            elif step["digits"] is not None or step["value"]:
+                is_right = step["digits"] == key if len(key) <= SHORT else step["value"] == number
+                expect(is_right, f"{piece.name} has the step {step[0]} to entry {number} with the key {key}")
+                pointer += f"/{number}/1"
+                wholes.append(key)
+            else:
+                pointer += pointer_step(step)
+            name += step[0]
+        expect((name or ".") == piece.name, f"{piece.name} isn't a name")
         path = piece.path
         if path is not None:
             rest = iter(wholes)
             path = KEY.sub(lambda step: whole_key(next(rest), step), path)
             expect(next(rest, None) is None, f"{piece.path} has fewer keys than {piece.name}")
-        yield piece._replace(name=name, path=path, pointer=pointer)
+        yield piece._replace(path=path, pointer=pointer)
 
 
 def pointer_step(step: re.Match[str]) -> str:
-    return f"/{step[1] or step[2] or step[3] or 'some'}"
+    label = step["field"] or step["variant"]
+    name = named(label).replace("~", "~0").replace("/", "~1") if label else step["number"] or "some"
+    return f"/{name}"
+
+
+def named(label: str) -> str:
+    """The name that is printed as this label."""
+    return str(json.loads(label)) if label.startswith('"') else label
 
 
 def whole_key(key: str, step: re.Match[str]) -> str:
     left_out = len(key) // 2 - 32
-    expect(step[1] == key[:64] and int(step[2] or 0) == max(left_out, 0), f"{step[0]} is printed for the key {key}")
+    expect(step[1] == key[:SHORT] and int(step[2] or 0) == max(left_out, 0), f"{step[0]} is printed for the key {key}")
     return f"key:{key}"
 
 
@@ -239,19 +253,20 @@ def without_newtypes(containers: dict[str, Any], format: Any) -> Any:
 
 def below(containers: dict[str, Any], format: dict[str, Any], step: re.Match[str]) -> Any:
     """The format, or the payload of a variant, to which a step of a name leads."""
-    field, variant, number, key = step.groups()
     [(kind, content)] = format.items()
     if kind == "TYPENAME":
         [(kind, content)] = containers[content].items()
     match kind:
         case "STRUCT":
+            field = named(step["field"])
             return next(member[field] for member in content if field in member)
         case "ENUM":
+            variant = named(step["variant"])
             return next(choice[variant] for choice in content.values() if variant in choice)
         case "TUPLE" | "TUPLESTRUCT":
-            return content[int(number)]
+            return content[int(step["number"])]
         case "MAP":
-            return content["KEY" if key else "VALUE"]
+            return content["KEY" if step["key"] else "VALUE"]
         case "TUPLEARRAY":
             return content["CONTENT"]
     return content
@@ -385,12 +400,12 @@ LEAVES: dict[str, Callable[[Random, Inner], Any]] = {
 NODES: dict[str, Callable[[Random, Inner], Any]] = {
     "Maybe": lambda random, inner: random.choice([None, {"some": inner()}]),
     "List": lambda random, inner: [inner() for _ in range(random.randrange(4))],
-    "Pair": lambda random, inner: [inner(), inner()],
+    "a::b": lambda random, inner: [inner(), inner()],
     "Row": lambda random, inner: [inner(), [], inner()],
     "Twice": lambda random, inner: [inner(), inner()],
     "ByText": lambda random, inner: [[key, inner()] for key in KEYS if random.random() < 0.4],
     "ByPair": lambda random, inner: [[key, inner()] for key in PAIRS if random.random() < 0.5],
-    "Fields": lambda random, inner: {"first": inner(), "second": random.choice([None, {"some": True}])},
+    "Fields": lambda random, inner: {"a": inner(), 'a.é"~/': random.choice([None, {"some": True}])},
     "Tuple": lambda random, inner: [True, inner()],
     "Struct": lambda random, inner: {"x": inner(), "y": -1},
 }

@@ -84,6 +84,7 @@ bcs_answer bcs_c_handle_show(bcs_c_handle *handle, uint32_t form, const uint8_t 
                              size_t out_length);
 bcs_answer bcs_c_format_place(const uint8_t *registry, size_t registry_length, const uint8_t *format,
                               size_t format_length, uint8_t *out, size_t out_length);
+bcs_answer bcs_c_registry_refusal(const uint8_t *registry, size_t registry_length, uint8_t *out, size_t out_length);
 bcs_answer bcs_c_path_place(const uint8_t *path, size_t path_length, uint8_t *out, size_t out_length);
 bcs_answer bcs_c_growth_list(const uint8_t *older, size_t older_length, const uint8_t *newer, size_t newer_length,
                              uint8_t *out, size_t out_length);

@@ -94,6 +94,7 @@ enum proved {
     GROWTH_PLACE,
     GROWS,
     REGISTRY_PLACE,
+    REGISTRY_REFUSAL,
     FAULT_NAME,
 };
 
@@ -211,6 +212,7 @@ static void make_proved(struct box *box, const struct call *call, const struct p
     case GROWTH_PLACE: Z_bcsZ_bcs_c_growth_place(in, answer, first, first_length, second, second_length, out, room); break;
     case GROWS: Z_bcsZ_bcs_c_grows(in, answer, first, first_length, second, second_length); break;
     case REGISTRY_PLACE: Z_bcsZ_bcs_c_registry_place(in, answer, call->number, first, first_length, out, room); break;
+    case REGISTRY_REFUSAL: Z_bcsZ_bcs_c_registry_refusal(in, answer, first, first_length, out, room); break;
     case FAULT_NAME: Z_bcsZ_bcs_c_fault_name(in, answer, call->number, out, room); break;
     }
 }
@@ -399,6 +401,11 @@ static bcs_answer bcs_c_grows(const uint8_t *older, size_t older_length, const u
 static bcs_answer bcs_c_registry_place(uint32_t what, const uint8_t *registry, size_t registry_length, uint8_t *out,
                                        size_t out_length) {
     return run_alone((struct call){.proved = REGISTRY_PLACE, .number = what, GIVEN(first, registry), TO_OUT});
+}
+
+static bcs_answer bcs_c_registry_refusal(const uint8_t *registry, size_t registry_length, uint8_t *out,
+                                         size_t out_length) {
+    return run_alone((struct call){.proved = REGISTRY_REFUSAL, GIVEN(first, registry), TO_OUT});
 }
 
 static bcs_answer bcs_c_fault_name(uint32_t fault, uint8_t *out, size_t out_length) {

@@ -54,9 +54,9 @@ def is_named(question: Question, data: bytes, piece: dict[str, Any]) -> bool:
     named = question.ask("part_named", data, piece["name"].encode(), "name")
     if piece["path"] is None:
         return named.status == "no"
-    # (a name may have a key that is cut, and a path may not)
+    # (in a path, a long key is cut, and then it leads nowhere)
     if "..." in piece["path"]:
-        return True
+        return named.status == "done"
     by_path = question.ask("part", data, piece["path"].encode())
     return named.status == "done" and part_in(named, data) == part_in(by_path, data)
 

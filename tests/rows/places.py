@@ -16,7 +16,7 @@ from words import Unsayable, bytes_of, bytes_of_digits, format_of
 
 LINE = re.compile(
     r'2 "(?:.*\\n)?refused: (?P<fault>\w+)(?: at \d+)?\\n" '
-    r"(?:in (?P<of>\w+), )?at (?P<place>.*?): (?P=fault): (?P<words>.*)"
+    r"(?:in (?P<of>\w+), )?at (?P<place>.*): (?P=fault): (?P<words>.*)"
 )
 UNTOLD = re.compile(r"(?:FORMAT|PATH|NAME|--variant)\b|the whole input$|byte \d+ of the input$|.*\.\.\.\(cut\)")
 GROWTH_FAULTS = ("Missing", "Changed", "VariantMissing", "VariantChanged")

@@ -244,17 +244,17 @@ bcs_answer bcs_handle_stop_place(bcs_handle *handle, const uint8_t *format, size
 
 /* What bcs_handle_part answers, for a part that is named by fields and variants in place of numbers: `notation` is one of enum
    bcs_notation. BCS_NO: the name leads nowhere in this value. BCS_PATH: another notation, or a text that is no name in any value.
-   A name as bcs_explain prints it may have escapes or not, and "." is the whole value; so is an empty JSON Pointer. */
+   Only the name that bcs_explain prints leads to a part. "." is the whole value, and so is an empty JSON Pointer. */
 bcs_answer bcs_handle_part_named(bcs_handle *handle, const uint8_t *format, size_t format_length, uint32_t depth,
                                  uint32_t nodes, uint32_t notation, const uint8_t *name, size_t name_length,
                                  const uint8_t *bytes, size_t bytes_length);
 
 /* ---- For people: documents, and refusals with all that is known of them. The words of these texts may change. */
 
-/* Both parts of a refusal in one call: BCS_DONE, or BCS_NO if the input isn't refused. `fault` says why it is refused, and
-   `place` where bytes stop being a value. The output is what bcs_handle_text_place or bcs_handle_stop_place writes with
-   BCS_WHERE, then a NUL, and then what it writes with BCS_WANTED. The last NUL of the output is the one between them, since a
-   name in a JSON Pointer may contain others. */
+/* A whole refusal in one call: BCS_DONE, or BCS_NO if the input isn't refused. `fault` says why it is refused, and `place` where
+   bytes stop being a value. The output is a place, a NUL, and a message: what bcs_handle_text_place or bcs_handle_stop_place
+   writes with BCS_WHERE, and with BCS_WANTED. The message is printable ASCII, so the last NUL of the output ends the place: a
+   name in it may contain others. Names in a place are as they are: never escaped or cut. */
 bcs_answer bcs_handle_text_refusal(bcs_handle *handle, const uint8_t *format, size_t format_length, uint32_t depth,
                                    uint32_t nodes, const uint8_t *text, size_t text_length, uint8_t *out,
                                    size_t out_length);
@@ -280,12 +280,17 @@ bcs_answer bcs_handle_example(bcs_handle *handle, const uint8_t *format, size_t 
 bcs_answer bcs_handle_show(bcs_handle *handle, uint32_t form, const uint8_t *name, size_t name_length, uint8_t *out,
                            size_t out_length);
 
-/* Where a format is refused: BCS_DONE, or BCS_NO if it isn't. The output is the line that the program `bcs` prints on standard
-   error, such as: at FORMAT, /SEQ: BadShape: wanted a format. It is empty if there is no more to say than the fault. */
+/* The same for a registry: BCS_DONE, or BCS_NO if it is valid. The place is that of bcs_registry_place, but with names as they are:
+   Shape, variant 2 Circle, field side. */
+bcs_answer bcs_registry_refusal(const uint8_t *registry, size_t registry_length, uint8_t *out, size_t out_length);
+
+/* The same for a format. The place is a JSON Pointer into it, which is empty for the whole format, or the line and the column where
+   it stops being JSON: /SEQ, a NUL, wanted a format. The output is empty if there is no more to say than the fault. */
 bcs_answer bcs_handle_format_place(bcs_handle *handle, const uint8_t *format, size_t format_length, uint8_t *out,
                                    size_t out_length);
 
-/* The same for a path: at PATH, step 1 a: BadPath: wanted a number, inner, or key: and hexadecimal digits. */
+/* The same for a path. The place is its first invalid step: step 1 a, a NUL, wanted a number, inner, or key: and hexadecimal
+   digits. */
 bcs_answer bcs_path_place(const uint8_t *path, size_t path_length, uint8_t *out, size_t out_length);
 
 /* All differences between two registries, as `bcs grows --list` prints them: one per line, each with its line end. The answer is
@@ -294,8 +299,8 @@ bcs_answer bcs_path_place(const uint8_t *path, size_t path_length, uint8_t *out,
 bcs_answer bcs_growth_list(const uint8_t *older, size_t older_length, const uint8_t *newer, size_t newer_length,
                            uint8_t *out, size_t out_length);
 
-/* Where bcs_grows refuses two registries: BCS_DONE, or BCS_NO if it doesn't. The output is the line that the program prints:
-   at Shape, variant 0 Circle: VariantChanged: the newer enum has another payload there. */
+/* Where bcs_grows refuses two registries: BCS_DONE, or BCS_NO if it doesn't. The output has the same form: Shape, variant 0
+   Circle, a NUL, the newer enum has another payload there. */
 bcs_answer bcs_growth_place(const uint8_t *older, size_t older_length, const uint8_t *newer, size_t newer_length,
                             uint8_t *out, size_t out_length);
 

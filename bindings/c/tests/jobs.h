@@ -6,7 +6,7 @@
 
 enum call {
     CHECKS, GROWS, TO_BCS, FROM_BCS, NORMALISE, COMPARE, SCAN, PART, EXPLAIN, FAULT_NAME, TEXT_PLACE, STOP_PLACE, REGISTRY_PLACE,
-    PART_NAMED, PATH_PLACE, GROWTH_LIST, GROWTH_PLACE,
+    PART_NAMED, REGISTRY_REFUSAL, PATH_PLACE, GROWTH_LIST, GROWTH_PLACE,
     /* PART_NAMED, and these and those behind them, are there on a handle only */
     TEXT_REFUSAL, STOP_REFUSAL, SCHEMA, EXAMPLE, SHOW, FORMAT_PLACE
 };
@@ -72,6 +72,8 @@ static inline bcs_answer make(const struct job *job, uint8_t *out, size_t room) 
         return bcs_stop_place(WITH_TEXTS(job), job->number, input.at, input.length, out, room);
     case REGISTRY_PLACE:
         return bcs_registry_place(job->number, input.at, input.length, out, room);
+    case REGISTRY_REFUSAL:
+        return bcs_registry_refusal(input.at, input.length, out, room);
     case PATH_PLACE:
         return bcs_path_place(input.at, input.length, out, room);
     case GROWTH_LIST:
@@ -137,6 +139,7 @@ static inline bcs_answer make_on(bcs_handle *handle, const struct job *job, uint
     case GROWS:
     case FAULT_NAME:
     case REGISTRY_PLACE:
+    case REGISTRY_REFUSAL:
     case PATH_PLACE:
     case GROWTH_LIST:
     case GROWTH_PLACE:

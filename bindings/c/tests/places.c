@@ -47,6 +47,32 @@ static const struct refused registries[] = {
     ROW("", "7", "the whole text", "wanted an object of containers"),
 };
 
+/* What is refused besides a text and bytes, and which fault it has. Names look like the program's lines, aren't ASCII, or are long. */
+struct whole {
+    struct job job;
+    uint32_t fault;
+    const char *where, *wanted;
+};
+
+#define NAME "a: UnknownName: \xc3\xa9: wanted b" HUNDRED("long")
+#define ON(what, ...) {.call = what, .registry = OF("{}"), __VA_ARGS__, STANDARD}
+
+static const struct whole wholes[] = {
+    {ON(REGISTRY_REFUSAL, .input = OF("{")), BCS_REGISTRY_NOT_JSON, "line 1, column 1", "the text stops being JSON there"},
+    {ON(REGISTRY_REFUSAL, .input = OF("{\"" NAME "\":{\"STRUCT\":[{\"" NAME "\":{\"TYPENAME\":\"Z\"}}]}}")), BCS_REGISTRY_UNKNOWN_NAME,
+     NAME ", field " NAME, "no container is called Z"},
+    {ON(REGISTRY_REFUSAL, .input = OF("{\"" NAME "\":{\"STRUCT\":[{\"" NAME "\":\"u8\"}]}}")), BCS_REGISTRY_BAD_SHAPE,
+     "/" NAME "/STRUCT/0/" NAME, "wanted a format"},
+    {ON(FORMAT_PLACE, .format = OF("{\"TUPLE\":[\"U8\",{\"SEQ\":7}]}")), BCS_REGISTRY_BAD_SHAPE, "/TUPLE/1/SEQ", "wanted a format"},
+    {ON(FORMAT_PLACE, .format = OF("{\"TYPENAME\":\"x: UnknownName: y\"}")), BCS_REGISTRY_UNKNOWN_NAME, "",
+     "no container is called x: UnknownName: y"},
+    {ON(PATH_PLACE, .input = OF("inner/" NAME)), BCS_PATH_BAD_PATH, "step 2 " NAME,
+     "wanted a number, inner, or key: and hexadecimal digits"},
+    {ON(GROWTH_PLACE, .input = OF("{\"" NAME "\":{\"ENUM\":{\"7\":{\"" NAME "\":\"UNIT\"}}}}"),
+        .second = OF("{\"" NAME "\":{\"ENUM\":{\"7\":{\"z: VariantChanged: q\":\"UNIT\"}}}}")),
+     BCS_GROWTH_VARIANT_CHANGED, NAME ", variant 7 " NAME, "the newer enum has z: VariantChanged: q there"},
+};
+
 #define COUNT(table) (sizeof(table) / sizeof(table)[0])
 
 /* The output is this text, and with less room nothing is written. */
@@ -107,6 +133,17 @@ static void told_whole(const struct refused *row, enum call call, enum call on_i
     drop(registry);
 }
 
+static void told_besides(const struct whole *row) {
+    const size_t room = 2000, place = strlen(row->where), length = place + 1 + strlen(row->wanted);
+    uint8_t *out = guarded(room);
+    memset(out, UNTOUCHED, room);
+    const bcs_answer answer = make(&row->job, out, room);
+    CHECK(answer.status == BCS_DONE && answer.fault == row->fault && answer.place == 0 && answer.length == length);
+    CHECK(memcmp(out, row->where, place + 1) == 0 && memcmp(out + place + 1, row->wanted, length - place - 1) == 0);
+    CHECK(are_untouched(out + length, room - length));
+    unguard(out, room);
+}
+
 static void told_of_registry(const struct refused *row, uint32_t what, const char *words) {
     uint8_t *out = guarded(ROOM);
     memset(out, UNTOUCHED, ROOM);
@@ -161,6 +198,9 @@ int main(void) {
     for (size_t row = 0; row < COUNT(registries); row++) {
         told_of_registry(&registries[row], BCS_WHERE, registries[row].where);
         told_of_registry(&registries[row], BCS_WANTED, registries[row].wanted);
+    }
+    for (size_t row = 0; row < COUNT(wholes); row++) {
+        told_besides(&wholes[row]);
     }
     others();
     return 0;

@@ -6,4 +6,3 @@ pub mod Holdings
 pub mod RawBoxes
 pub mod RegistrySend
 pub mod Steps
-pub mod PointerParts

@@ -54,8 +54,8 @@ pub use Rattle.bcs_c.specs.Named.{named}
 pub use Rattle.bcs_c.specs.Opened.{opened}
 pub use Rattle.bcs_c.specs.Output.{Puts}
 pub use Rattle.bcs_c.specs.Parts.{AnswersPart, AnswersSteps, Finds, found, IsPath, no_path, no_text, out_of_memory, RefusesPath, stepped, Steps, stopped}
+pub use Rattle.bcs_display_errors.specs.Pointers.{pointer}
 pub use Rattle.bcs_c.specs.Places.{no_memory, stands, told, whole}
-pub use Rattle.bcs_c.specs.Pointers.{marked, marked_sign, pointer, pointer_step}
 pub use Rattle.bcs_c.specs.Registries.{breaks, has_fault, IsFormat, IsRegistry, no_newer, no_older, RefusesFor, RefusesFormat, RefusesRegistry}
 pub use Rattle.bcs_c.specs.Shown.{too_nested}
 pub use Rattle.bcs_c.specs.contracts.handle.Handle.{the_row, the_type}

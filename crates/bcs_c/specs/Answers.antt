@@ -30,6 +30,10 @@ refusal status fault = record { status = status_number status; fault = fault_num
 abbrev pub stop_at : Reason → ℕ → Answer
 stop_at reason place = record { status = status_number Refused; fault = fault_number (Stop reason); place = place; length = 0 }
 
+-- the answer, with why something is refused
+abbrev pub with_fault : Fault → Answer → Answer
+with_fault fault a = record a { fault = fault_number fault }
+
 -- the answer, with why and where the bytes stop being a value, if they do
 abbrev pub with_stop : Option declared.Stop → Answer → Answer
 with_stop None a = a

@@ -15,5 +15,4 @@ pub mod NamedParts
 pub mod Explained
 pub mod Named
 pub mod Holding
-pub mod Pointers
 pub mod Places

@@ -3,7 +3,8 @@ use Rattle.std.specs.Prelude.{◌≡◌, ◌==◌, ℕ, Bool, false, true, IsUtf
 use Rattle.bcs_registry_model.specs.Container.{Entries}
 use Rattle.bcs_registry_model.specs.Shape.{Shape}
 use Rattle.bcs_value_model.specs.Limits.{Bounds}
-use Rattle.bcs_display_pieces.specs.PartTexts.{is_name, is_pointer}
+use Rattle.bcs_part_names.specs.Names.{is_name}
+use Rattle.bcs_part_names.specs.Pointers.{is_pointer}
 use Rattle.bcs_c.specs.Answers.{plain, refusal}
 use Rattle.bcs_c.specs.Parts.{AnswersSteps, Steps}
 use Rattle.bcs_c.specs.declared.answer.Answer.{Answer}

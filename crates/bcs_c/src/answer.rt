@@ -4,7 +4,7 @@ ghost use Rattle.bcs_registry_model.specs.declared.fault.RegistryFault.TheVarian
 ghost use Rattle.bcs_json_spec.specs.declared.json_fault.JsonFault.TheVariants as json_fault;
 ghost use Rattle.bcs_c.specs.declared.status.Status.TheVariants.{Memory, Refused};
 ghost use Rattle.bcs_c.specs.declared.fault.Fault.TheVariants.{Registry, Text};
-ghost use Rattle.bcs_c.specs.Answers.{placed, plain, refusal, sized, stop_at, with_stop};
+ghost use Rattle.bcs_c.specs.Answers.{placed, plain, refusal, sized, stop_at, with_fault, with_stop};
 
 use crate::fault::Fault;
 use crate::status::Status;
@@ -113,7 +113,7 @@ impl Answer {
 
     /// The same answer, with the reason why something is refused.
     pub(crate) fn with_fault(self, fault: Fault) -> Answer
-        ensures { result.status ≡ self.status }
+        ensures { result ≡ with_fault fault self }
     {
         Answer {
             fault: fault.number(),

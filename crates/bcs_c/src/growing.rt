@@ -8,7 +8,8 @@ use crate::fault::Fault;
 use crate::output::put;
 use crate::registries::read_registry;
 use crate::status::Status;
-use bcs_display_errors::place_of_growth;
+use crate::whole_refusals::written;
+use bcs_display_errors::growth_refusal;
 use bcs_display_registry::{difference_lines, differences};
 use bcs_registry::Registry;
 use std::alloc::{AllocError, Global};
@@ -36,7 +37,7 @@ pub extern "C" fn bcs_c_growth_list(
     }
 }
 
-/// Where the older registry doesn't grow into the newer one: the line that the program prints.
+/// Where the older registry doesn't grow into the newer one, a NUL, and the message.
 #[unsafe(no_mangle)]
 pub extern "C" fn bcs_c_growth_place(
     alloc: Global,
@@ -53,10 +54,21 @@ pub extern "C" fn bcs_c_growth_place(
     let Err(fault) = older.grows(&newer) else {
         return Answer::plain(Status::No);
     };
-    match place_of_growth(alloc, older.containers(), newer.containers()) {
-        Ok(Some(line)) => put(&line, out).with_fault(Fault::Growth(fault)),
+    match told_of_growth(alloc, &older, &newer) {
+        Ok(Some(told)) => put(&told, out).with_fault(Fault::Growth(fault)),
         Ok(None) => put(b"", out).with_fault(Fault::Growth(fault)),
         Err(AllocError) => Answer::plain(Status::Memory),
+    }
+}
+
+fn told_of_growth(
+    alloc: Global,
+    older: &Registry,
+    newer: &Registry,
+) -> Result<Option<Vec<u8>>, AllocError> {
+    match growth_refusal(alloc, older.containers(), newer.containers())? {
+        Some(refusal) => Ok(Some(written(alloc, &refusal)?)),
+        None => Ok(None),
     }
 }
 

@@ -1,19 +1,24 @@
 //! Parts of values by names, for C.
-ghost use Rattle.std.specs.Prelude.{◌≡◌, IfSome};
+ghost use Rattle.std.specs.Prelude.{◌≡◌, ℕ, IfOk, IfSome, map};
 ghost use Rattle.std.specs.declared.option.Option.TheVariants.{None};
+ghost use Rattle.bcs_value_model.specs.Tree.{Tree};
+ghost use Rattle.bcs_decode_spec.specs.Accepting.{Accepts};
+ghost use Rattle.bcs_decode_parts.specs.Steps.{step_of};
 ghost use Rattle.bcs_c.specs.Asking.{AnswersIfAsked, On, on_handle};
 ghost use Rattle.bcs_c.specs.NamedParts.{AnswersNamed, MayName};
+ghost use Rattle.bcs_c.specs.Parts.{AnswersSteps};
 
 use crate::Handle;
 use crate::answer::Answer;
 use crate::ask::{HandleAsk, take_ask};
 use crate::asked::Asked;
 use crate::fault::Fault;
-use crate::parts::step_place;
 use crate::status::Status;
-use bcs_decode::scan;
-use bcs_decode_parts::steps_of;
-use bcs_display_pieces::{Led, is_name, is_pointer, path_of_name, path_of_pointer};
+use bcs_decode::{Step, scan};
+use bcs_decode_parts::{PathFault, steps_of};
+use bcs_part_names::{
+    Led, is_pointer, part_of_scanned, path_of_name, path_of_pointer, read_name,
+};
 use std::alloc::{AllocError, Global};
 use std::str::from_utf8;
 
@@ -52,44 +57,66 @@ pub extern "C" fn bcs_c_handle_part_named(
 fn named_place(alloc: Global, asked: &Asked, notation: u32, name: &[u8], bytes: &[u8]) -> Answer
     ensures { On asked.now (λ r l s. AnswersNamed r l s bytes.now notation name.now result) }
 {
-    let Some(part_name) = read_name(notation, name) else {
-        return Answer::refusal(Status::Path, Fault::BadPath);
+    let part_name = match name_in(alloc, notation, name) {
+        Ok(Some(part_name)) => part_name,
+        Ok(None) => return Answer::refusal(Status::Path, Fault::BadPath),
+        Err(AllocError) => return Answer::plain(Status::Memory),
     };
     // In bytes that aren't a value, a map may claim billions of entries, and a name would be followed through all of them.
-    if let Err(stop) = scan(asked.registry, asked.format, &asked.limits, bytes) {
-        return Answer::stopped(stop);
+    match scan(asked.registry, asked.format, &asked.limits, bytes) {
+        Ok(_) => {}
+        Err(stop) => return Answer::stopped(stop),
     }
     let Ok(led) = follow(alloc, asked, part_name, bytes) else {
         return Answer::plain(Status::Memory);
     };
     match steps_of(alloc, led.path.as_slice()) {
-        Ok(steps) => step_place(asked, bytes, steps.as_slice()),
+        Ok(steps) => scanned_place(asked, bytes, steps.as_slice()),
         Err(AllocError) => Answer::plain(Status::Memory),
     }
 }
 
+/// Finds the part that the steps lead to, within the value at the start of the input, which has been scanned.
+fn scanned_place(asked: &Asked, bytes: &[u8], steps: &[Step]) -> Answer
+    requires { On asked.now (λ r l s. (n : ℕ) × (c : Tree) × Accepts r l s bytes.now n c) }
+    ensures { On asked.now (λ r l s. AnswersSteps r l s bytes.now (map step_of steps.now) result) }
+{
+    match part_of_scanned(asked.registry, asked.format, &asked.limits, bytes, steps) {
+        Some(found) => Answer::placed(found.place, found.bytes.len()),
+        None => Answer::plain(Status::No),
+    }
+}
+
 /// The name in the notation with this number, if it is valid there.
-fn read_name(notation: u32, name: &[u8]) -> Option<PartName<'_>>
-    ensures some { IfSome result (λ part_name. MayName notation name.now) }
-    ensures none { result ≡ None → MayName notation name.now → ⊥ }
+fn name_in(
+    alloc: Global,
+    notation: u32,
+    name: &[u8],
+) -> Result<Option<PartName<'_>>, AllocError>
+    ensures some { IfOk result (λ o. IfSome o (λ part_name. MayName notation name.now)) }
+    ensures none { IfOk result (λ o. o ≡ None → MayName notation name.now → ⊥) }
 {
     let Ok(text) = from_utf8(name) else {
-        return None;
+        return Ok(None);
     };
     match notation {
-        1 if is_name(text) => Some(PartName::Name(text)),
-        2 if is_pointer(text) => Some(PartName::Pointer(text)),
-        _ => None,
+        1 => match read_name(alloc, text) {
+            Ok(_) => Ok(Some(PartName::Name(text))),
+            Err(PathFault::BadPath) => Ok(None),
+            Err(PathFault::OutOfMemory) => Err(AllocError),
+        },
+        2 if is_pointer(text) => Ok(Some(PartName::Pointer(text))),
+        _ => Ok(None),
     }
 }
 
 /// Where the name leads.
-fn follow(
+fn follow<'a, 'b>(
     alloc: Global,
-    asked: &Asked,
+    asked: &Asked<'a>,
     part_name: PartName<'_>,
-    bytes: &[u8],
-) -> Result<Led, AllocError> {
+    bytes: &'b [u8],
+) -> Result<Led<'a, 'b>, AllocError> {
     let Asked {
         registry,
         format,

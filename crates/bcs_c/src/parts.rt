@@ -73,7 +73,7 @@ fn read_steps(alloc: Global, path: &[u8]) -> Result<Vec<PathStep>, Answer>
 }
 
 /// Finds the part that the steps lead to, within the value at the start of the input.
-pub(crate) fn step_place(asked: &Asked, bytes: &[u8], steps: &[Step]) -> Answer
+fn step_place(asked: &Asked, bytes: &[u8], steps: &[Step]) -> Answer
     ensures { On asked.now (λ r l s. AnswersSteps r l s bytes.now (map step_of steps.now) result) }
 {
     match part(asked.registry, asked.format, &asked.limits, bytes, steps) {

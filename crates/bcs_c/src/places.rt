@@ -12,15 +12,19 @@ ghost use Rattle.bcs_c.specs.declared.status.Status.TheVariants.{Done};
 use crate::answer::Answer;
 use crate::ask::{Ask, read_ask};
 use crate::asked::Asked;
-use crate::halves::{half_of, half_of_stop};
 use crate::output::put;
-use crate::pointers::pointer_of;
 use crate::status::Status;
-use bcs_display_errors::{refusal_line, registry_line};
-use bcs_display_pieces::stop_place;
+use bcs_display_errors::{pointer_of, registry_refusal, text_refusal};
+use bcs_display_pieces::stop_refusal;
+use bcs_display_refusal::{Location, Refusal};
 use bcs_json::{JsonFault, TextRefusal, read_value_or_refusal};
 use bcs_registry::{Registry, RegistryFault};
 use std::alloc::{AllocError, Global};
+
+/// Requests the place.
+pub(crate) const WHERE: u32 = 0;
+/// Requests the message.
+pub(crate) const WANTED: u32 = 1;
 
 /// Writes where a document is refused, or what was expected there, to the start of the output.
 #[unsafe(no_mangle)]
@@ -81,7 +85,7 @@ pub(crate) fn told_of_text(
 ) -> Option<Vec<u8>>
     ensures { IfSome result (λ told. what ≢ 1 → refusal.now.fault ≢ OutOfMemory
         → IsRefusedAs asked.now.registry.now asked.now.limits (shape_of asked.now.format.now) text.now refusal.now
-        → IsWhere asked.now.registry.now asked.now.limits (shape_of asked.now.format.now) text.now told.items) }
+        → IsWhere asked.now.registry.now asked.now.limits (shape_of asked.now.format.now) text.now told.items refusal.now.fault) }
 {
     if what == 1 {
         return words_of_text(alloc, asked, text, refusal);
@@ -117,16 +121,15 @@ fn words_of_text(
     refusal: &TextRefusal,
 ) -> Option<Vec<u8>> {
     let (registry, format) = (asked.registry, asked.format);
-    let line = refusal_line(alloc, registry, format, &asked.limits, text, refusal)?;
-    let fault = refusal.fault;
-    let words = half_of(alloc, 1, &line, fault.name())?;
-    if fault != JsonFault::NotJson {
-        return Vec::from_slice(alloc, words).ok();
-    }
-    let mut told = Vec::from_slice(alloc, half_of(alloc, 0, &line, fault.name())?).ok()?;
-    told.extend_from_slice(b": ").ok()?;
-    told.extend_from_slice(words).ok()?;
-    Some(told)
+    let at = (refusal.fault, refusal.steps.as_deref());
+    let told = text_refusal(alloc, registry, format, &asked.limits, text, at)?;
+    let Location::Line(_, _) = &told.location else {
+        return Some(told.message);
+    };
+    let mut words = told.place(alloc).ok()?;
+    words.extend_from_slice(b": ").ok()?;
+    words.extend_from_slice(&told.message).ok()?;
+    Some(words)
 }
 
 /// Writes the field path to where bytes stop being a value, or what was expected there, to the start of the output.
@@ -159,10 +162,22 @@ pub(crate) fn place_of_stop(
     ensures answers { On asked.now (λ r l s. AnswersStopPlace r l s bytes.now out.old out.new result) }
     ensures untouched { result.status ≢ status_number Done → out.new ≡ out.old }
 {
-    match stop_place(alloc, asked.registry, asked.format, &asked.limits, bytes) {
-        Ok(Some(line)) => put(half_of_stop(what, &line), out),
+    match stop_refusal(alloc, asked.registry, asked.format, &asked.limits, bytes) {
+        Ok(Some(stopped)) => match half_of(alloc, what, stopped.refusal) {
+            Ok(half) => put(&half, out),
+            Err(AllocError) => Answer::plain(Status::Memory),
+        },
         Ok(None) => Answer::plain(Status::No),
         Err(AllocError) => Answer::plain(Status::Memory),
+    }
+}
+
+/// The place of a refusal as the program prints it, or with 1 the message.
+fn half_of(alloc: Global, what: u32, refusal: Refusal) -> Result<Vec<u8>, AllocError> {
+    if what == WANTED {
+        Ok(refusal.message)
+    } else {
+        refusal.shown_place(alloc)
     }
 }
 
@@ -197,6 +212,6 @@ fn told_of_registry(
     text: &[u8],
     fault: RegistryFault,
 ) -> Option<Vec<u8>> {
-    let line = registry_line(alloc, text, fault).ok()??;
-    Vec::from_slice(alloc, half_of(alloc, what, &line, fault.name())?).ok()
+    let refusal = registry_refusal(alloc, text, fault).ok()??;
+    half_of(alloc, what, refusal).ok()
 }

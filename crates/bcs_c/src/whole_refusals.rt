@@ -1,5 +1,11 @@
 //! Whole refusals, for C: why and where something is refused, and what was expected there.
-ghost use Rattle.std.specs.Prelude.{◌≡◌, ◌≢◌};
+ghost use Rattle.std.specs.Prelude.{◌≡◌, ◌≢◌, ◌++◌, ◌∷◌, [], IfOk, IfSome, List, true, ℕ};
+ghost use Rattle.std.specs.List.{All};
+ghost use Rattle.bcs_json_spec.specs.declared.json_fault.JsonFault.TheVariants.{OutOfMemory};
+ghost use Rattle.bcs_json.specs.Refusing.{IsRefusedAs};
+ghost use Rattle.bcs_registry_model.specs.View.{shape_of};
+ghost use Rattle.bcs_c.specs.Asking.{AnswersIfAsked, On, on_handle};
+ghost use Rattle.bcs_c.specs.Places.{AnswersRegistryRefusal, AnswersStopRefusal, AnswersTextRefusal, IsNoNul, IsParted, IsTextRefusal};
 ghost use Rattle.bcs_c.specs.Statuses.{status_number};
 ghost use Rattle.bcs_c.specs.declared.status.Status.TheVariants.{Done};
 
@@ -8,14 +14,14 @@ use crate::answer::Answer;
 use crate::ask::{HandleAsk, take_ask};
 use crate::asked::Asked;
 use crate::fault::Fault;
-use crate::halves::{WANTED, WHERE, half_of_stop};
 use crate::output::put;
-use crate::places::told_of_text;
+use crate::places::{WANTED, WHERE, told_of_text};
 use crate::status::Status;
-use bcs_decode::scan;
-use bcs_decode_spec::{Reason, Stop};
-use bcs_display_pieces::stop_place;
+use bcs_display_errors::registry_refusal;
+use bcs_display_pieces::stop_refusal;
+use bcs_display_refusal::Refusal;
 use bcs_json::{JsonFault, TextRefusal, read_value_or_refusal};
+use bcs_registry::{Registry, RegistryFault};
 use std::alloc::{AllocError, Global};
 
 /// The JSON Pointer to where a document is refused, a NUL, and what was expected there.
@@ -27,6 +33,7 @@ pub extern "C" fn bcs_c_handle_text_refusal(
     text: &[u8],
     out: &mut [u8],
 ) -> Answer
+    ensures answers { AnswersIfAsked (on_handle handle.old.registry ask.now) result (λ r l s. AnswersTextRefusal r l s text.now out.old out.new result) }
     ensures untouched { result.status ≢ status_number Done → out.new ≡ out.old }
     ensures kept { handle.new.registry ≡ handle.old.registry }
 {
@@ -48,6 +55,7 @@ pub extern "C" fn bcs_c_handle_stop_refusal(
     bytes: &[u8],
     out: &mut [u8],
 ) -> Answer
+    ensures answers { AnswersIfAsked (on_handle handle.old.registry ask.now) result (λ r l s. AnswersStopRefusal r l s bytes.now out.old out.new result) }
     ensures untouched { result.status ≢ status_number Done → out.new ≡ out.old }
     ensures kept { handle.new.registry ≡ handle.old.registry }
 {
@@ -55,12 +63,13 @@ pub extern "C" fn bcs_c_handle_stop_refusal(
         Ok(lent) => lent,
         Err(answer) => return answer,
     };
-    let answer = stop_refusal(alloc, &lent.asked(), bytes, out);
+    let answer = told_stop(alloc, &lent.asked(), bytes, out);
     handle.put(lent.back());
     answer
 }
 
 fn text_refusal(alloc: Global, asked: &Asked, text: &[u8], out: &mut [u8]) -> Answer
+    ensures answers { On asked.now (λ r l s. AnswersTextRefusal r l s text.now out.old out.new result) }
     ensures untouched { result.status ≢ status_number Done → out.new ≡ out.old }
 {
     let refusal = match read_value_or_refusal(
@@ -87,51 +96,79 @@ fn refusal_of_text(
     asked: &Asked,
     text: &[u8],
     refusal: &TextRefusal,
-) -> Option<Vec<u8>> {
+) -> Option<Vec<u8>>
+    ensures { IfSome result (λ told. refusal.now.fault ≢ OutOfMemory
+        → IsRefusedAs asked.now.registry.now asked.now.limits (shape_of asked.now.format.now) text.now refusal.now
+        → IsTextRefusal asked.now.registry.now asked.now.limits (shape_of asked.now.format.now) text.now told.items refusal.now.fault) }
+{
     let place = told_of_text(alloc, asked, WHERE, text, refusal)?;
-    let expected = told_of_text(alloc, asked, WANTED, text, refusal)?;
-    both(alloc, &place, &expected).ok()
+    let words = told_of_text(alloc, asked, WANTED, text, refusal)?;
+    both(alloc, &place, without_nul(&words)).ok()
 }
 
-fn stop_refusal(alloc: Global, asked: &Asked, bytes: &[u8], out: &mut [u8]) -> Answer
+fn told_stop(alloc: Global, asked: &Asked, bytes: &[u8], out: &mut [u8]) -> Answer
+    ensures answers { On asked.now (λ r l s. AnswersStopRefusal r l s bytes.now out.old out.new result) }
     ensures untouched { result.status ≢ status_number Done → out.new ≡ out.old }
 {
-    let stop = stop_of(asked, bytes);
-    if stop.is_none() {
-        return Answer::plain(Status::No);
-    }
-    match refusal_of_stop(alloc, asked, bytes) {
-        Some(told) => put(&told, out).with_stop(stop),
-        None => Answer::plain(Status::Memory),
-    }
-}
-
-fn refusal_of_stop(alloc: Global, asked: &Asked, bytes: &[u8]) -> Option<Vec<u8>> {
-    let line = stop_place(alloc, asked.registry, asked.format, &asked.limits, bytes).ok()??;
-    both(
-        alloc,
-        half_of_stop(WHERE, &line),
-        half_of_stop(WANTED, &line),
-    )
-    .ok()
-}
-
-/// Where the whole input stops being a value.
-fn stop_of(asked: &Asked, bytes: &[u8]) -> Option<Stop> {
-    match scan(asked.registry, asked.format, &asked.limits, bytes) {
-        Ok(length) if length < bytes.len() => Some(Stop {
-            reason: Reason::TrailingBytes,
-            place: length as u64,
-        }),
-        Ok(_) => None,
-        Err(stop) => Some(stop),
+    match stop_refusal(alloc, asked.registry, asked.format, &asked.limits, bytes) {
+        Ok(Some(stopped)) => match written(alloc, &stopped.refusal) {
+            Ok(told) => put(&told, out).with_stop(Some(stopped.stop)),
+            Err(AllocError) => Answer::plain(Status::Memory),
+        },
+        Ok(None) => Answer::plain(Status::No),
+        Err(AllocError) => Answer::plain(Status::Memory),
     }
 }
 
-/// The place, a NUL, and what was expected there.
-fn both(alloc: Global, place: &[u8], expected: &[u8]) -> Result<Vec<u8>, AllocError> {
+/// Where the JSON of a registry is refused, a NUL, and what was expected there.
+#[unsafe(no_mangle)]
+pub extern "C" fn bcs_c_registry_refusal(alloc: Global, registry: &[u8], out: &mut [u8]) -> Answer
+    ensures answers { AnswersRegistryRefusal registry.now out.old out.new result }
+    ensures untouched { result.status ≢ status_number Done → out.new ≡ out.old }
+{
+    let fault = match Registry::read(alloc, registry) {
+        Ok(_) => return Answer::plain(Status::No),
+        Err(fault) => fault,
+    };
+    if fault == RegistryFault::OutOfMemory {
+        return Answer::plain(Status::Memory);
+    }
+    match registry_refusal(alloc, registry, fault) {
+        Ok(Some(refusal)) => match written(alloc, &refusal) {
+            Ok(told) => put(&told, out).with_fault(Fault::Registry(fault)),
+            Err(AllocError) => Answer::plain(Status::Memory),
+        },
+        Ok(None) | Err(_) => Answer::plain(Status::Memory),
+    }
+}
+
+/// The place of a refusal, a NUL, and its message.
+pub(crate) fn written(alloc: Global, refusal: &Refusal) -> Result<Vec<u8>, AllocError>
+    ensures { IfOk result (λ told. (place : List ℕ) × IsParted place told.items) }
+{
+    let place = refusal.place(alloc)?;
+    both(alloc, &place, without_nul(&refusal.message))
+}
+
+/// The place, a NUL, and the message.
+fn both(alloc: Global, place: &[u8], message: &[u8]) -> Result<Vec<u8>, AllocError>
+    ensures { IfOk result (λ told. told.items ≡ (place.now ++ (0 ∷ [])) ++ message.now) }
+{
     let mut told = Vec::from_slice(alloc, place)?;
     told.push(0)?;
-    told.extend_from_slice(expected)?;
+    told.extend_from_slice(message)?;
     Ok(told)
+}
+
+/// The message, or nothing if it contains a NUL. It is printable ASCII, so this needs no contract where it is made.
+fn without_nul(message: &[u8]) -> &[u8]
+    ensures { All IsNoNul result.now }
+{
+    if has_no_nul(message) { message } else { b"" }
+}
+
+fn has_no_nul(message: &[u8]) -> bool
+    ensures { result ≡ true → All IsNoNul message.now }
+{
+    message.iter().all(|byte| *byte != 0)
 }

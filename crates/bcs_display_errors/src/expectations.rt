@@ -1,8 +1,8 @@
 //! What was expected in JSON.
 
 use crate::hints::Hint;
-use crate::names::Name;
 use crate::number_hints::FoundNumber;
+use bcs_display_refusal::Name;
 use bcs_registry_model::{IntegerKind, Scalar};
 use std::fmt;
 

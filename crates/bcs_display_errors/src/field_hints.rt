@@ -1,8 +1,8 @@
 //! Hints about a struct's member that is missing, or that is no field.
 
 use crate::hints::Hint;
-use crate::names::Name;
 use crate::nearest::NearestName;
+use bcs_display_refusal::Name;
 use bcs_registry::{Format, Named};
 use serde_json::{Map, Value as Json};
 use std::alloc::{AllocError, Global};

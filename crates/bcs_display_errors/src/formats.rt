@@ -1,20 +1,20 @@
 //! FORMAT, or NAME of `show`, with a name that no container has.
 
 use crate::container_hints::container_hint;
-use crate::names::Name;
+use bcs_display_refusal::{Location, Name, Refusal};
 use bcs_registry::{Registry, RegistryFault};
 use bcs_registry_json::format_text::format_from;
 use bcs_registry_json::json_text::registry_json;
 use bcs_registry_model::known::first_unknown;
 use std::alloc::Global;
 
-/// The line for a FORMAT that isn't JSON, if no container has this name. It may be meant as a format without a name, such
-/// as `U64`, so the line says how to write that.
-pub fn place_of_word(
+/// The refusal of a FORMAT that isn't JSON, if no container has this name. It may be meant as a format without a name, such
+/// as `U64`, so the message says how to write that.
+pub fn unknown_word(
     alloc: Global,
     text: &[u8],
     word: &str,
-) -> Result<Option<Vec<u8>>, RegistryFault> {
+) -> Result<Option<Refusal>, RegistryFault> {
     let registry = Registry::read(alloc, text)?;
     if registry.container(word).is_some() {
         return Ok(None);
@@ -23,34 +23,34 @@ pub fn place_of_word(
         Name::of(word),
         container_hint(alloc, registry.containers(), word)?,
     );
-    let line = format!(in alloc;
-        "at FORMAT: UnknownName: no container is called {name}; a format without a name is written as JSON, as '\"U64\"'{hint}"
+    let message = format!(in alloc;
+        "no container is called {name}; a format without a name is written as JSON, as '\"U64\"'{hint}"
     )?;
-    Ok(Some(line.into_bytes()))
+    Ok(Some(unknown("FORMAT", message)))
 }
 
-/// The line for the NAME of `show`, if no container has this name.
-pub fn place_of_container(
+/// The refusal of the NAME of `show`, if no container has this name.
+pub fn container_refusal(
     alloc: Global,
     text: &[u8],
     name: &str,
-) -> Result<Option<Vec<u8>>, RegistryFault> {
+) -> Result<Option<Refusal>, RegistryFault> {
     let registry = Registry::read(alloc, text)?;
     if registry.container(name).is_some() {
         return Ok(None);
     }
     let hint = container_hint(alloc, registry.containers(), name)?;
     let name = Name::of(name);
-    let line = format!(in alloc; "at NAME: UnknownName: no container is called {name}{hint}")?;
-    Ok(Some(line.into_bytes()))
+    let message = format!(in alloc; "no container is called {name}{hint}")?;
+    Ok(Some(unknown("NAME", message)))
 }
 
-/// The line for the first name in a format's JSON that no container has, if there is one.
-pub fn place_of_name(
+/// The refusal of a format's JSON for the first name in it that no container has, if there is one.
+pub fn unknown_name(
     alloc: Global,
     text: &[u8],
     word: &str,
-) -> Result<Option<Vec<u8>>, RegistryFault> {
+) -> Result<Option<Refusal>, RegistryFault> {
     let registry = Registry::read(alloc, text)?;
     let json = registry_json(alloc, word.as_bytes())?;
     let format = format_from(alloc, &json)?;
@@ -59,6 +59,11 @@ pub fn place_of_name(
     };
     let hint = container_hint(alloc, registry.containers(), name)?;
     let name = Name::of(name);
-    let line = format!(in alloc; "at FORMAT: UnknownName: no container is called {name}{hint}")?;
-    Ok(Some(line.into_bytes()))
+    let message = format!(in alloc; "no container is called {name}{hint}")?;
+    Ok(Some(unknown("FORMAT", message)))
+}
+
+fn unknown(argument: &'static str, message: String) -> Refusal {
+    let refusal = Refusal::of("UnknownName", Location::Whole, message.into_bytes());
+    refusal.in_argument(argument)
 }

@@ -1,46 +1,44 @@
 //! Where a newer registry lacks or changes something of an older one.
 
-use crate::names::Name;
-use crate::owners::Owner;
+use crate::owners::{Owner, Slot};
+use bcs_display_refusal::{Name, Refusal};
 use bcs_display_registry::{Change, Difference, differences};
 use bcs_registry::{Container, GrowthFault};
 use std::alloc::{AllocError, Global};
 use std::collections::BTreeMap;
 
-/// The line for the first container or variant that the newer registry lacks or changes. `None`: it only adds some.
-pub fn place_of_growth(
+/// The refusal for the first container or variant that the newer registry lacks or changes. `None`: it only adds some.
+pub fn growth_refusal(
     alloc: Global,
     older: &BTreeMap<String, Container>,
     newer: &BTreeMap<String, Container>,
-) -> Result<Option<Vec<u8>>, AllocError> {
+) -> Result<Option<Refusal>, AllocError> {
     for difference in &differences(alloc, older, newer)? {
         if let Some(fault) = difference.change.fault() {
-            let line = growth_line(alloc, difference, fault)?;
-            return Ok(Some(line.into_bytes()));
+            return Ok(Some(refusal_of(alloc, difference, fault)?));
         }
     }
     Ok(None)
 }
 
-fn growth_line(
+fn refusal_of(
     alloc: Global,
     difference: &Difference<'_>,
     fault: GrowthFault,
-) -> Result<String, AllocError> {
+) -> Result<Refusal, AllocError> {
     let owner = Owner {
         container: difference.container,
         variant: older_variant(&difference.change),
     };
-    match difference.change {
+    let message = match difference.change {
         Change::VariantChanged { older, newer, .. } if older.name != newer.name => {
             let name = Name::of(newer.name.as_str());
-            format!(in alloc; "at {owner}: {fault}: the newer enum has {name} there")
+            format!(in alloc; "the newer enum has {name} there")?
         }
-        change => {
-            let words = message_of(&change);
-            format!(in alloc; "at {owner}: {fault}: {words}")
-        }
-    }
+        change => String::from_str(alloc, message_of(&change))?,
+    };
+    let location = owner.location(alloc, Slot::Whole)?;
+    Ok(Refusal::of(fault.name(), location, message.into_bytes()))
 }
 
 // The variant of the older enum that differs.

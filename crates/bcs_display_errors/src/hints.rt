@@ -1,7 +1,7 @@
 //! What helps to correct a name that doesn't exist.
 
-use crate::names::Name;
 use crate::variant_list::VariantList;
+use bcs_display_refusal::Name;
 use std::fmt;
 
 /// What a line suggests after its message.

@@ -1,6 +1,6 @@
 //! The JSON at a location in a document, without what is inside it.
 
-use bcs_json::JsonStep;
+use bcs_json_spec::JsonStep;
 use json::{Scratch, Value};
 use serde_json::{Map, Value as Json};
 use std::alloc::{AllocError, Global};

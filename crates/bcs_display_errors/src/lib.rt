@@ -1,4 +1,4 @@
-//! Lines that tell people where something is refused, and what was expected there: a registry with a wrong shape or a
+//! Refusals as data: where something is refused, and what was expected there: a registry with a wrong shape or a
 //! broken rule, one that doesn't extend an older one, FORMAT, NAME, PATH, and the JSON document of a value.
 #![tactic(auto)]
 
@@ -13,7 +13,7 @@ mod hints;
 mod json_outline;
 mod kinds;
 mod limits;
-mod names;
+mod locations;
 mod nearest;
 mod no_json;
 mod number_hints;
@@ -32,10 +32,11 @@ mod wholes;
 mod wrong_text;
 
 pub use digits::wrong_digits;
-pub use formats::place_of_container;
-pub use growth::place_of_growth;
+pub use formats::container_refusal;
+pub use growth::growth_refusal;
 pub use limits::{put_limit, put_text_limit};
-pub use paths::place_of_path;
-pub use refusals::{format_line, input_line, line_in, refusal_line, registry_line};
-pub use variant_hints::place_of_variant;
+pub use paths::path_refusal;
+pub use pointers::pointer_of;
+pub use refusals::{format_refusal, input_refusal, registry_refusal, text_refusal};
+pub use variant_hints::variant_refusal;
 pub use wrong_text::WrongText;

@@ -1,7 +1,7 @@
 //! The limit that a value exceeds.
 
 use bcs_decode_spec::Reason;
-use bcs_json::JsonFault;
+use bcs_json_spec::JsonFault;
 use bcs_value::Limits;
 use std::alloc::AllocError;
 

@@ -1,5 +1,6 @@
 //! Where a text stops being JSON.
 
+use bcs_display_refusal::{Location, Refusal};
 use serde_json::{Category, Value};
 use std::alloc::Global;
 
@@ -8,14 +9,14 @@ const COMMENTS: usize = 100;
 
 const YAML: &str = "; it looks like YAML, and docs/REGISTRIES.md says how it becomes JSON";
 
-/// The line for a registry that isn't JSON, with the line and the column that `serde_json` reports. Chains keep registries
+/// The refusal of a registry that isn't JSON, with the line and the column that `serde_json` reports. Chains keep registries
 /// as YAML, so for text that begins like YAML, it says what to do.
-pub fn place_of_no_json(alloc: Global, text: &[u8]) -> Option<Vec<u8>> {
-    let mut line = stop_line(alloc, "at", text)?;
+pub fn no_registry_json(alloc: Global, text: &[u8]) -> Option<Refusal> {
+    let mut refusal = no_json(alloc, text)?;
     if begins_as_yaml(text) {
-        line.extend_from_slice(YAML.as_bytes()).ok()?;
+        refusal.message.extend_from_slice(YAML.as_bytes()).ok()?;
     }
-    Some(line)
+    Some(refusal)
 }
 
 // Whether the text begins with three dashes, or with a name and a colon, after any comment lines.
@@ -45,19 +46,17 @@ fn is_in_name(byte: u8) -> bool {
 }
 
 /// The same for FORMAT.
-pub fn place_of_no_format_json(alloc: Global, word: &str) -> Option<Vec<u8>> {
-    stop_line(alloc, "at FORMAT,", word.as_bytes())
+pub fn no_format_json(alloc: Global, word: &str) -> Option<Refusal> {
+    Some(no_json(alloc, word.as_bytes())?.in_argument("FORMAT"))
 }
 
-/// The line for text that isn't JSON, starting with this prefix. `None`: it is JSON, or an allocation failed.
-pub(crate) fn stop_line(alloc: Global, front: &str, text: &[u8]) -> Option<Vec<u8>> {
+/// The refusal of text that isn't JSON. `None`: it is JSON, or an allocation failed.
+pub(crate) fn no_json(alloc: Global, text: &[u8]) -> Option<Refusal> {
     let error = Value::from_slice(alloc, text).err()?;
     if error.classify() == Category::Memory {
         return None;
     }
-    let (line, column) = (error.line(), error.column());
-    let told = format!(in alloc;
-        "{front} line {line}, column {column}: NotJson: the text stops being JSON there"
-    );
-    Some(told.ok()?.into_bytes())
+    let location = Location::Line(error.line() as u64, error.column() as u64);
+    let message = Vec::from_slice(alloc, b"the text stops being JSON there").ok()?;
+    Some(Refusal::of("NotJson", location, message))
 }

@@ -1,7 +1,7 @@
 //! The number that was found where another one was expected.
 
 use crate::json_outline::Outline;
-use crate::names::Name;
+use bcs_display_refusal::Name;
 use serde_json::Value as Json;
 use std::fmt;
 

@@ -1,7 +1,7 @@
 //! The containers and variants that have formats, and the position of a format in one.
 
-use crate::names::Name;
-use std::fmt;
+use bcs_display_refusal::{Definition, Location};
+use std::alloc::{AllocError, Global};
 
 /// A container, or a variant of one.
 #[derive(Clone, Copy)]
@@ -12,23 +12,10 @@ pub(crate) struct Owner<'a> {
     pub(crate) variant: Option<(u32, &'a str)>,
 }
 
-impl fmt::Display for Owner<'_> {
-    fn fmt<W: fmt::Write>(&self, f: &mut fmt::Formatter<W>) -> fmt::Result {
-        let container = Name::of(self.container);
-        match self.variant {
-            Some((number, name)) => {
-                let name = Name::of(name);
-                write!(f, "{container}, variant {number} {name}")
-            }
-            None => write!(f, "{container}"),
-        }
-    }
-}
-
 /// The position of a format in its owner.
 #[derive(Clone, Copy)]
 pub(crate) enum Slot<'a> {
-    /// It is the only one.
+    /// It is the only one, or none is meant.
     Whole,
     /// The element of a tuple with this index, from 0.
     Numbered(usize),
@@ -36,15 +23,27 @@ pub(crate) enum Slot<'a> {
     Field(&'a str),
 }
 
-impl fmt::Display for Slot<'_> {
-    fn fmt<W: fmt::Write>(&self, f: &mut fmt::Formatter<W>) -> fmt::Result {
-        match self {
-            Slot::Whole => Ok(()),
-            Slot::Numbered(number) => write!(f, ", number {number}"),
-            Slot::Field(name) => {
-                let name = Name::of(name);
-                write!(f, ", field {name}")
-            }
-        }
+impl Owner<'_> {
+    /// The location of a format in the owner.
+    pub(crate) fn location(self, alloc: Global, slot: Slot<'_>) -> Result<Location, AllocError> {
+        let variant = match self.variant {
+            Some((number, name)) => Some((number, String::from_str(alloc, name)?)),
+            None => None,
+        };
+        Ok(Location::Definition(Definition {
+            container: String::from_str(alloc, self.container)?,
+            variant,
+            slot: slot.owned(alloc)?,
+        }))
+    }
+}
+
+impl Slot<'_> {
+    fn owned(self, alloc: Global) -> Result<bcs_display_refusal::Slot, AllocError> {
+        Ok(match self {
+            Slot::Whole => bcs_display_refusal::Slot::Whole,
+            Slot::Numbered(number) => bcs_display_refusal::Slot::Numbered(number),
+            Slot::Field(name) => bcs_display_refusal::Slot::Field(String::from_str(alloc, name)?),
+        })
     }
 }

@@ -1,17 +1,17 @@
 //! The first invalid step of PATH.
 
 use crate::digits::{PREFIX, has_prefix};
-use crate::names::Name;
 use bcs_decode_parts::{PathFault, read_path};
+use bcs_display_refusal::{Location, Refusal};
 use std::alloc::{AllocError, Global};
 
-/// The first invalid step of PATH, counted from 1, its text, and what is expected there. `None`: each step is valid.
-pub fn place_of_path(alloc: Global, word: &str) -> Result<Option<Vec<u8>>, AllocError> {
+/// The first invalid step of PATH, and what is expected there. `None`: each step is valid.
+pub fn path_refusal(alloc: Global, word: &str) -> Result<Option<Refusal>, AllocError> {
     let mut number: u64 = 0;
     for text in word.split('/') {
         number = number.saturating_add(1);
         if !is_step(alloc, text)? {
-            return Ok(Some(line_of_step(alloc, number, text)?));
+            return Ok(Some(bad_step(alloc, number, text)?));
         }
     }
     Ok(None)
@@ -26,14 +26,15 @@ fn is_step(alloc: Global, text: &str) -> Result<bool, AllocError> {
     }
 }
 
-fn line_of_step(alloc: Global, number: u64, text: &str) -> Result<Vec<u8>, AllocError> {
-    let line = if text.is_empty() {
-        format!(in alloc; "at PATH, step {number}: BadPath: an empty step")?
+fn bad_step(alloc: Global, number: u64, text: &str) -> Result<Refusal, AllocError> {
+    let words = if text.is_empty() {
+        "an empty step"
     } else {
-        let (name, words) = (Name::of(text), message_of(text));
-        format!(in alloc; "at PATH, step {number} {name}: BadPath: {words}")?
+        message_of(text)
     };
-    Ok(line.into_bytes())
+    let location = Location::Step(number, String::from_str(alloc, text)?);
+    let message = Vec::from_slice(alloc, words.as_bytes())?;
+    Ok(Refusal::of("BadPath", location, message).in_argument("PATH"))
 }
 
 // What is wrong with an invalid step that isn't empty.

@@ -1,31 +1,51 @@
-//! Places in a JSON document.
+//! JSON Pointers.
+ghost use Rattle.std.specs.Prelude.{◌≡◌, ◌++◌, IfOk, OnOk, map};
+ghost use Rattle.bcs_json_spec.specs.Place.{pointer_step_of};
+ghost use Rattle.bcs_display_errors.specs.Pointers.{marked, marked_sign, pointer, pointer_step};
 
-use crate::names::Name;
-use bcs_json::JsonStep;
-use std::fmt;
+use bcs_display_text::columns::put_decimal;
+use bcs_json_spec::JsonStep;
+use std::alloc::{AllocError, Global};
 
-/// The steps to a JSON value. It is shown as a JSON Pointer (RFC 6901), or as `the whole text` if there are no steps.
-#[derive(Clone, Copy)]
-pub(crate) struct Pointer<'a>(pub(crate) &'a [JsonStep]);
+/// The JSON Pointer with these steps.
+pub fn pointer_of(alloc: Global, steps: &[JsonStep]) -> Result<Vec<u8>, AllocError>
+    ensures { IfOk result (λ text. text.items ≡ pointer (map pointer_step_of steps.now)) }
+{
+    let mut out = Vec::new(alloc);
+    for step in steps {
+        put_step(step, &mut out)?;
+    }
+    Ok(out)
+}
 
-impl fmt::Display for Pointer<'_> {
-    fn fmt<W: fmt::Write>(&self, f: &mut fmt::Formatter<W>) -> fmt::Result {
-        if self.0.is_empty() {
-            return f.write_str("the whole text");
-        }
-        for step in self.0 {
-            put_step(step, f)?;
-        }
-        Ok(())
+/// Appends a step.
+fn put_step(step: &JsonStep, out: &mut Vec<u8>) -> Result<(), AllocError>
+    ensures { OnOk result (out.new.items ≡ out.old.items ++ pointer_step (pointer_step_of step.now)) }
+{
+    out.push(b'/')?;
+    match step {
+        JsonStep::Item(number) => put_decimal(u128::from(*number), out),
+        JsonStep::Member(name) => put_marked(name.as_bytes(), out),
     }
 }
 
-fn put_step<W: fmt::Write>(step: &JsonStep, f: &mut fmt::Formatter<W>) -> fmt::Result {
-    match step {
-        JsonStep::Item(number) => write!(f, "/{number}"),
-        JsonStep::Member(name) => {
-            let name = Name::in_pointer(name.as_str());
-            write!(f, "/{name}")
-        }
+/// Appends a name.
+fn put_marked(name: &[u8], out: &mut Vec<u8>) -> Result<(), AllocError>
+    ensures { OnOk result (out.new.items ≡ out.old.items ++ marked name.now) }
+{
+    for sign in name {
+        put_sign(*sign, out)?;
+    }
+    Ok(())
+}
+
+/// Appends a byte of a name.
+fn put_sign(sign: u8, out: &mut Vec<u8>) -> Result<(), AllocError>
+    ensures { OnOk result (out.new.items ≡ out.old.items ++ marked_sign sign) }
+{
+    match sign {
+        b'~' => out.extend_from_slice(b"~0"),
+        b'/' => out.extend_from_slice(b"~1"),
+        _ => out.extend_from_slice(&[sign]),
     }
 }

@@ -2,8 +2,8 @@
 
 use crate::container_hints::container_hint;
 use crate::content::Content;
-use crate::names::Name;
 use crate::owners::{Owner, Slot};
+use bcs_display_refusal::{Location, Name, Refusal};
 use bcs_registry::{Container, Format, Named, RegistryFault, VariantFormat};
 use bcs_registry_json::one_by_one::containers_one_by_one;
 use bcs_registry_model::known::first_unknown;
@@ -11,16 +11,20 @@ use bcs_registry_model::levels::has_few_levels;
 use std::alloc::{AllocError, Global};
 use std::collections::{BTreeMap, BTreeSet};
 
-/// The line for the first rule, in the order of the faults, that the containers in a registry's JSON break, and for the
+/// The refusal for the first rule, in the order of the faults, that the containers in a registry's JSON break, and for the
 /// first place where they break it. `None`: they break none. Fails if the text isn't JSON or has a wrong shape, perhaps
 /// with another fault than the registry's.
-pub fn place_of_rule(alloc: Global, text: &[u8]) -> Result<Option<Vec<u8>>, RegistryFault> {
+pub fn broken_rule(alloc: Global, text: &[u8]) -> Result<Option<Refusal>, RegistryFault> {
     let containers = containers_one_by_one(alloc, text)?;
     let mut search = Search::over(alloc, &containers);
     for (name, container) in &containers {
         search.container(name.as_str(), container)?;
     }
-    Ok(search.first_line())
+    Ok(search.first())
+}
+
+fn broken(fault: &'static str, location: Location, message: String) -> Refusal {
+    Refusal::of(fault, location, message.into_bytes())
 }
 
 /// A search for the first place where each rule is broken, in one pass over the containers.
@@ -28,9 +32,9 @@ pub fn place_of_rule(alloc: Global, text: &[u8]) -> Result<Option<Vec<u8>>, Regi
 struct Search<'a> {
     alloc: Global,
     containers: &'a BTreeMap<String, Container>,
-    too_nested: Option<String>,
-    repeated: Option<String>,
-    unknown: Option<String>,
+    too_nested: Option<Refusal>,
+    repeated: Option<Refusal>,
+    unknown: Option<Refusal>,
 }
 
 impl<'a> Search<'a> {
@@ -44,9 +48,8 @@ impl<'a> Search<'a> {
         }
     }
 
-    fn first_line(self) -> Option<Vec<u8>> {
-        let line = self.too_nested.or(self.repeated).or(self.unknown)?;
-        Some(line.into_bytes())
+    fn first(self) -> Option<Refusal> {
+        self.too_nested.or(self.repeated).or(self.unknown)
     }
 
     fn container(&mut self, name: &str, container: &Container) -> Result<(), AllocError> {
@@ -89,14 +92,27 @@ impl<'a> Search<'a> {
         let mut seen = BTreeSet::new(self.alloc);
         for variant in variants.values() {
             if !seen.insert(variant.name.as_str())? {
-                let (container, name) = (Name::of(container), Name::of(variant.name.as_str()));
-                self.repeated = Some(format!(in self.alloc;
-                    "at {container}: RepeatedName: two variants are called {name}"
-                )?);
+                let owner = Owner {
+                    container,
+                    variant: None,
+                };
+                self.repeated = Some(self.repeated_name(owner, "variants", variant.name.as_str())?);
                 return Ok(());
             }
         }
         Ok(())
+    }
+
+    fn repeated_name(
+        &self,
+        owner: Owner<'_>,
+        what: &str,
+        name: &str,
+    ) -> Result<Refusal, AllocError> {
+        let location = owner.location(self.alloc, Slot::Whole)?;
+        let name = Name::of(name);
+        let message = format!(in self.alloc; "two {what} are called {name}")?;
+        Ok(broken("RepeatedName", location, message))
     }
 
     // Searches the contents of anything but an enum.
@@ -120,10 +136,7 @@ impl<'a> Search<'a> {
             let name = field.name.as_str();
             self.format(owner, Slot::Field(name), &field.value)?;
             if self.repeated.is_none() && !seen.insert(name)? {
-                let name = Name::of(name);
-                self.repeated = Some(format!(in self.alloc;
-                    "at {owner}: RepeatedName: two fields are called {name}"
-                )?);
+                self.repeated = Some(self.repeated_name(owner, "fields", name)?);
             }
         }
         Ok(())
@@ -136,9 +149,9 @@ impl<'a> Search<'a> {
         format: &Format,
     ) -> Result<(), AllocError> {
         if self.too_nested.is_none() && !has_few_levels(format) {
-            self.too_nested = Some(format!(in self.alloc;
-                "at {owner}{slot}: TooNested: a format has more than 32 levels"
-            )?);
+            let location = owner.location(self.alloc, slot)?;
+            let message = String::from_str(self.alloc, "a format has more than 32 levels")?;
+            self.too_nested = Some(broken("TooNested", location, message));
         }
         if self.unknown.is_some() {
             return Ok(());
@@ -146,9 +159,9 @@ impl<'a> Search<'a> {
         if let Some(name) = first_unknown(format, self.containers) {
             let hint = container_hint(self.alloc, self.containers, name)?;
             let name = Name::of(name);
-            self.unknown = Some(format!(in self.alloc;
-                "at {owner}{slot}: UnknownName: no container is called {name}{hint}"
-            )?);
+            let location = owner.location(self.alloc, slot)?;
+            let message = format!(in self.alloc; "no container is called {name}{hint}")?;
+            self.unknown = Some(broken("UnknownName", location, message));
         }
         Ok(())
     }

@@ -1,44 +1,33 @@
 //! Where the JSON of a registry or a format has a wrong shape or a wrong number.
 
-use crate::pointers::Pointer;
+use crate::locations::location_of;
 use crate::shape_parts::Part;
-use bcs_json::JsonStep;
+use bcs_display_refusal::{Location, Refusal};
+use bcs_json_spec::JsonStep;
 use bcs_num::{Width, parse_unsigned};
 use bcs_registry::RegistryFault;
 use bcs_registry_json::json_text::registry_json;
 use serde_json::{Map, Value};
 use std::alloc::{AllocError, Global};
 
-/// The line for the first wrong shape in a registry's JSON, or if there is none, for the first wrong number: the innermost
+/// The refusal for the first wrong shape in a registry's JSON, or if there is none, for the first wrong number: the innermost
 /// wrong value, and what was expected there. `None`: its shape is right, and its numbers are in range.
-pub fn place_of_registry_shape(
-    alloc: Global,
-    text: &[u8],
-) -> Result<Option<Vec<u8>>, RegistryFault> {
+pub fn registry_misfit(alloc: Global, text: &[u8]) -> Result<Option<Refusal>, RegistryFault> {
     let json = registry_json(alloc, text)?;
     let Some(place) = misshapen(alloc, &json, Part::Registry)? else {
         return Ok(None);
     };
-    let ShapePlace { steps, part, fault } = place;
-    let pointer = Pointer(&steps);
-    let line = format!(in alloc; "at {pointer}: {fault}: wanted {part}")?;
-    Ok(Some(line.into_bytes()))
+    Ok(Some(place.refusal(alloc, Location::WholeText)?))
 }
 
 /// The same for a FORMAT that is JSON.
-pub fn place_of_format_shape(alloc: Global, word: &str) -> Result<Option<Vec<u8>>, RegistryFault> {
+pub fn format_misfit(alloc: Global, word: &str) -> Result<Option<Refusal>, RegistryFault> {
     let json = registry_json(alloc, word.as_bytes())?;
     let Some(place) = misshapen(alloc, &json, Part::Format)? else {
         return Ok(None);
     };
-    let ShapePlace { steps, part, fault } = place;
-    let line = if steps.is_empty() {
-        format!(in alloc; "at FORMAT: {fault}: wanted {part}")?
-    } else {
-        let pointer = Pointer(&steps);
-        format!(in alloc; "at FORMAT, {pointer}: {fault}: wanted {part}")?
-    };
-    Ok(Some(line.into_bytes()))
+    let refusal = place.refusal(alloc, Location::Whole)?;
+    Ok(Some(refusal.in_argument("FORMAT")))
 }
 
 #[derive(Drop)]
@@ -47,6 +36,20 @@ struct ShapePlace {
     steps: Vec<JsonStep>,
     part: Part,
     fault: RegistryFault,
+}
+
+impl ShapePlace {
+    // The refusal, at this location if there are no steps.
+    fn refusal(self, alloc: Global, whole: Location) -> Result<Refusal, AllocError> {
+        let ShapePlace { steps, part, fault } = self;
+        let location = if steps.is_empty() {
+            whole
+        } else {
+            location_of(alloc, &steps)?
+        };
+        let message = format!(in alloc; "wanted {part}")?;
+        Ok(Refusal::of(fault.name(), location, message.into_bytes()))
+    }
 }
 
 // Looks for a wrong shape in all of the JSON before it looks at numbers, like the reader of registries.

@@ -1,7 +1,7 @@
 //! What is expected at the end of steps into the JSON of a value.
 
 use crate::content::Content;
-use bcs_json::JsonStep;
+use bcs_json_spec::JsonStep;
 use bcs_registry::{Format, Named, Registry};
 
 /// What is expected at a place in JSON.

@@ -4,29 +4,29 @@ use crate::content::Content;
 use crate::expectations::Expected;
 use crate::json_outline::{Outline, json_outline};
 use crate::kinds::expectation;
-use crate::pointers::Pointer;
+use crate::locations::location_of;
 use crate::targets::{Location, Target, location_at, opened};
-use bcs_json::{JsonFault, JsonStep};
+use bcs_display_refusal::Refusal;
+use bcs_json_spec::{JsonFault, JsonStep};
 use bcs_registry::{Format, Registry};
 use bcs_value::Limits;
 use std::alloc::{AllocError, Global};
 
-/// The line for a document that is refused with this fault at the end of these steps, and what was expected there.
-pub(crate) fn line_at(
+/// The refusal of a document with this fault at the end of these steps, and what was expected there.
+pub(crate) fn refusal_at(
     alloc: Global,
     registry: &Registry,
     format: &Format,
     limits: &Limits,
     text: &[u8],
     (fault, steps): (JsonFault, &[JsonStep]),
-) -> Option<Vec<u8>> {
+) -> Option<Refusal> {
     let outline = json_outline(alloc, text, steps)?;
-    let pointer = Pointer(steps);
-    let line = match expectation_at(alloc, registry, format, limits, &outline, steps).ok()? {
-        Some(expectation) => format!(in alloc; "at {pointer}: {fault}: {expectation}"),
-        None => format!(in alloc; "at {pointer}: {fault}"),
+    let message = match expectation_at(alloc, registry, format, limits, &outline, steps).ok()? {
+        Some(expectation) => format!(in alloc; "{expectation}").ok()?.into_bytes(),
+        None => Vec::new(alloc),
     };
-    Some(line.ok()?.into_bytes())
+    Some(Refusal::of(fault.name(), location_of(alloc, steps).ok()?, message))
 }
 
 // What is expected at the end of the steps, where this JSON is.

@@ -1,9 +1,9 @@
 //! Hints about the name of a variant that an enum doesn't have, in JSON or after `--variant`.
 
 use crate::hints::Hint;
-use crate::names::Name;
 use crate::nearest::NearestName;
 use crate::variant_list::VariantList;
+use bcs_display_refusal::{Location, Name, Refusal};
 use bcs_registry::{Container, Format, Named, Registry, VariantFormat};
 use std::alloc::{AllocError, Global};
 use std::collections::BTreeMap;
@@ -20,28 +20,25 @@ pub(crate) fn variant_hint<'a>(
     }
 }
 
-/// The line for a name after `--variant` that isn't the name of a variant, where FORMAT is this format. It always lists
+/// The refusal of a name after `--variant` that isn't the name of a variant, where FORMAT is this format. It always lists
 /// the variants, since the command needs nothing but such a name.
-pub fn place_of_variant(
+pub fn variant_refusal(
     alloc: Global,
     registry: &Registry,
     format: &Format,
     word: &str,
-) -> Result<Vec<u8>, AllocError> {
-    let name = Name::of(word);
-    let line = match variants_of(registry, format) {
+) -> Result<Refusal, AllocError> {
+    let message = match variants_of(registry, format) {
         Some(variants) => {
             let nearest = Hint::nearest(nearest_variant(alloc, variants, word)?);
             let list = VariantList(variants);
-            format!(in alloc;
-                "at --variant, {name}: UnknownVariant: no variant has this name{nearest}{list}"
-            )?
+            format!(in alloc; "no variant has this name{nearest}{list}")?
         }
-        None => format!(in alloc;
-            "at --variant, {name}: UnknownVariant: FORMAT isn't the name of an enum"
-        )?,
+        None => String::from_str(alloc, "FORMAT isn't the name of an enum")?,
     };
-    Ok(line.into_bytes())
+    let location = Location::Name(String::from_str(alloc, word)?);
+    let refusal = Refusal::of("UnknownVariant", location, message.into_bytes());
+    Ok(refusal.in_argument("--variant"))
 }
 
 fn nearest_variant<'a>(

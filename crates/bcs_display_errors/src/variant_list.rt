@@ -1,6 +1,6 @@
 //! The names of an enum's variants, in a line.
 
-use crate::names::Name;
+use bcs_display_refusal::Name;
 use bcs_registry::{Named, VariantFormat};
 use std::collections::BTreeMap;
 use std::fmt;

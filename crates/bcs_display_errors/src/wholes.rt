@@ -1,34 +1,33 @@
 //! JSON documents that are refused as a whole.
 
-use crate::no_json::stop_line;
-use bcs_json::JsonFault;
+use crate::no_json::no_json;
+use bcs_display_refusal::{Location, Refusal};
+use bcs_json_spec::JsonFault;
 use bcs_value::Limits;
 use std::alloc::Global;
 
-/// The line for a document that is refused as a whole with this fault. For `NotJson`, it has the line and the column that
-/// `serde_json` reports.
-pub fn whole_line(
+/// The refusal of a document as a whole with this fault. For `NotJson`, it has the line and the column that `serde_json`
+/// reports.
+pub fn whole_refusal(
     alloc: Global,
     limits: &Limits,
     text: &[u8],
     fault: JsonFault,
-) -> Option<Vec<u8>> {
+) -> Option<Refusal> {
     let nodes = limits.nodes();
-    let line = match fault {
-        JsonFault::NotJson => return stop_line(alloc, "at", text),
-        JsonFault::TooNested => format!(in alloc;
-            "at the whole text: TooNested: arrays and objects nest more than 100 deep"
+    let message = match fault {
+        JsonFault::NotJson => return no_json(alloc, text),
+        JsonFault::TooNested => String::from_str(
+            alloc,
+            "arrays and objects nest more than 100 deep",
         ),
         JsonFault::TooManyNodes => format!(in alloc;
-            "at the whole text: TooManyNodes: the value has more nodes than --nodes allows, {nodes}"
+            "the value has more nodes than --nodes allows, {nodes}"
         ),
-        JsonFault::TooLong => format!(in alloc;
-            "at the whole text: TooLong: a length is above 2147483647"
-        ),
-        JsonFault::RepeatedKey => format!(in alloc;
-            "at the whole text: RepeatedKey: two keys of a map are equal"
-        ),
+        JsonFault::TooLong => String::from_str(alloc, "a length is above 2147483647"),
+        JsonFault::RepeatedKey => String::from_str(alloc, "two keys of a map are equal"),
         _ => return None,
     };
-    Some(line.ok()?.into_bytes())
+    let message = message.ok()?.into_bytes();
+    Some(Refusal::of(fault.name(), Location::WholeText, message))
 }

@@ -1,2 +1,1 @@
 pub mod EndsAt
-pub mod PartTexts

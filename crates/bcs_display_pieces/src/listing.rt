@@ -1,46 +1,36 @@
-//! Names in a line: cut if they are long, and only the first ones of many.
+//! Names in a line: only the first ones of many.
 
+use crate::notation::Notation;
+use bcs_display_refusal::put_name;
 use bcs_display_text::columns::put_decimal;
-use bcs_display_text::escaping::put_escaped;
+use bcs_part_names::labels::is_plain;
 use bcs_registry::{Format, Named, VariantFormat};
 use std::alloc::AllocError;
 use std::collections::BTreeMap;
 
-// The number of characters that are printed of a name, with its escapes.
-const LONGEST: usize = 200;
-
 // The number of names that are printed.
 const MOST: usize = 16;
 
-/// Appends the whole characters of the text, escaped, that fit into `LONGEST`, and whether it is cut.
-pub(crate) fn put_cut(text: &str, line: &mut Vec<u8>) -> Result<(), AllocError> {
-    let start = line.len();
-    for (place, sign) in text.char_indices() {
-        let before = line.len();
-        let end = place.saturating_add(sign.len_utf8());
-        put_escaped(text.get(place..end).unwrap_or(""), line)?;
-        if line.len().saturating_sub(start) > LONGEST {
-            line.truncate(before);
-            return line.extend_from_slice(b"...(cut)");
-        }
-    }
-    Ok(())
-}
-
 /// Appends the names of fields.
-pub(crate) fn put_fields(fields: &[Named<Format>], line: &mut Vec<u8>) -> Result<(), AllocError> {
+pub(crate) fn put_fields(
+    notation: Notation,
+    fields: &[Named<Format>],
+    line: &mut Vec<u8>,
+) -> Result<(), AllocError> {
     line.extend_from_slice(b"a struct; fields: ")?;
     for (count, field) in fields.iter().enumerate() {
         if count == MOST {
             return put_more(fields.len() - count, line);
         }
-        put_listed(count, field.name.as_str(), line)?;
+        put_comma(count, line)?;
+        put_listed(notation, field.name.as_str(), line)?;
     }
     Ok(())
 }
 
 /// Appends the names of variants.
 pub(crate) fn put_variants(
+    notation: Notation,
     variants: &BTreeMap<u32, Named<VariantFormat>>,
     line: &mut Vec<u8>,
 ) -> Result<(), AllocError> {
@@ -49,16 +39,33 @@ pub(crate) fn put_variants(
         if count == MOST {
             return put_more(variants.len().saturating_sub(count), line);
         }
-        put_listed(count, variant.name.as_str(), line)?;
+        put_comma(count, line)?;
+        put_listed(notation, variant.name.as_str(), line)?;
     }
     Ok(())
 }
 
-fn put_listed(before: usize, name: &str, line: &mut Vec<u8>) -> Result<(), AllocError> {
-    if before > 0 {
-        line.extend_from_slice(b", ")?;
+/// Appends a name; where parts have names, in quotes if a step has it in quotes.
+pub(crate) fn put_listed(
+    notation: Notation,
+    name: &str,
+    line: &mut Vec<u8>,
+) -> Result<(), AllocError> {
+    match notation {
+        Notation::Name if !is_plain(name.as_bytes()) => {
+            line.push(b'"')?;
+            put_name(name, line)?;
+            Ok(line.push(b'"')?)
+        }
+        _ => put_name(name, line),
     }
-    put_cut(name, line)
+}
+
+fn put_comma(before: usize, line: &mut Vec<u8>) -> Result<(), AllocError> {
+    if before == 0 {
+        return Ok(());
+    }
+    line.extend_from_slice(b", ")
 }
 
 fn put_more(count: usize, line: &mut Vec<u8>) -> Result<(), AllocError> {

@@ -1,21 +1,23 @@
-//! The line about a step that leads nowhere: which one, and what is there.
+//! A step that leads nowhere: which one, and what is there.
 
-use crate::following::{borrowed, value_at_start};
-use crate::listing::{put_cut, put_fields, put_variants};
+use crate::listing::{put_fields, put_listed, put_variants};
 use crate::notation::Notation;
 use bcs_decode_parts::PathStep;
 use bcs_decode_parts::here::{Here, Reached};
 use bcs_decode_parts::inside::{Inside, inside_of};
 use bcs_decode_parts::stepping::take_step;
 use bcs_decode_parts::variants::after_number;
+use bcs_display_refusal::{Location, Refusal, put_name};
 use bcs_display_text::columns::put_decimal;
+use bcs_part_names::DeadEnd;
+use bcs_part_names::following::{borrowed, value_at_start};
 use bcs_registry::{Format, Named, Registry, VariantFormat};
 use bcs_registry_model::Kind;
 use bcs_value::Limits;
 use std::alloc::{AllocError, Global};
 use std::collections::BTreeMap;
 
-/// The line about the first step of PATH that leads nowhere, if the bytes begin with a value of the format: `at PATH, step
+/// About the first step of PATH that leads nowhere, if the bytes begin with a value of the format: `at PATH, step
 /// 2 7: a list of 3`. `None`: each step leads to a part.
 pub fn nowhere_on_path(
     alloc: Global,
@@ -24,25 +26,46 @@ pub fn nowhere_on_path(
     limits: &Limits,
     bytes: &[u8],
     path: &[PathStep],
-) -> Result<Option<Vec<u8>>, AllocError> {
+) -> Result<Option<Refusal>, AllocError> {
     let mut at = value_at_start(format, limits, bytes);
     let mut number: u64 = 0;
     for step in path {
         number = number.saturating_add(1);
         match take_step(registry, &at, &borrowed(step)) {
             Some(next) => at = next,
-            None => return Ok(Some(line_of_step(alloc, number, step, &at)?)),
+            None => return Ok(Some(at_path_step(alloc, number, step, &at)?)),
         }
     }
     Ok(None)
 }
 
-fn line_of_step(
+/// About the first step of a name that leads nowhere: `at --name, step 2 .x: U8 has no parts`.
+pub fn nowhere_on_name(alloc: Global, end: &DeadEnd<'_, '_>) -> Result<Refusal, AllocError> {
+    leads_nowhere(
+        alloc,
+        Notation::Name,
+        end.number,
+        end.step.as_str(),
+        &end.at,
+    )
+}
+
+/// About the first step of a pointer that leads nowhere, or about its last one, if it leads to an entry of a map.
+pub fn nowhere_on_pointer(alloc: Global, end: &DeadEnd<'_, '_>) -> Result<Refusal, AllocError> {
+    let step = end.step.as_str();
+    if end.in_entry {
+        at_entry(alloc, end.number, step)
+    } else {
+        leads_nowhere(alloc, Notation::Pointer, end.number, step, &end.at)
+    }
+}
+
+fn at_path_step(
     alloc: Global,
     number: u64,
     step: &PathStep,
     at: &Reached<'_, '_>,
-) -> Result<Vec<u8>, AllocError> {
+) -> Result<Refusal, AllocError> {
     let text = match step {
         PathStep::Item(index) => format!(in alloc; "{index}")?,
         PathStep::Inner => String::from_str(alloc, "inner")?,
@@ -51,23 +74,23 @@ fn line_of_step(
             hex::encode(alloc, key.as_slice())?.as_str()
         )?,
     };
-    nowhere_line(alloc, Notation::Path, number, text.as_str(), at)
+    leads_nowhere(alloc, Notation::Path, number, text.as_str(), at)
 }
 
-/// The line about a step that leads nowhere from here.
-pub(crate) fn nowhere_line(
+// A step that leads nowhere from here.
+fn leads_nowhere(
     alloc: Global,
     notation: Notation,
     number: u64,
     step: &str,
     at: &Reached<'_, '_>,
-) -> Result<Vec<u8>, AllocError> {
-    let mut line = line_to(alloc, notation, number, step)?;
+) -> Result<Refusal, AllocError> {
+    let mut line = Vec::new(alloc);
     match inside_of(&at.here) {
-        Inside::Fields(fields) => put_fields(fields, &mut line)?,
+        Inside::Fields(fields) => put_fields(notation, fields, &mut line)?,
         Inside::Variants(variants) => {
-            put_variants(variants, &mut line)?;
-            put_chosen(variants, at.ahead.bytes, &mut line)?;
+            put_variants(notation, variants, &mut line)?;
+            put_chosen(notation, variants, at.ahead.bytes, &mut line)?;
         }
         Inside::Option(_) => put_option(notation, at.ahead.bytes, &mut line)?,
         Inside::List(element) => put_list(notation, element, at.ahead.bytes, &mut line)?,
@@ -83,33 +106,33 @@ pub(crate) fn nowhere_line(
         Inside::Container(name) => put_container(name, &mut line)?,
         Inside::Nothing => put_leaf(&at.here, &mut line)?,
     }
-    Ok(line)
+    at_step(alloc, notation, number, step, line)
 }
 
-/// The line about a step from an entry of a map, or about a pointer that ends there.
-pub(crate) fn entry_line(alloc: Global, number: u64, step: &str) -> Result<Vec<u8>, AllocError> {
-    let mut line = line_to(alloc, Notation::Pointer, number, step)?;
-    line.extend_from_slice(b"an entry of a map; 1 leads to its value, and nothing to its key")?;
-    Ok(line)
+// A step from an entry of a map, or a pointer that ends there.
+fn at_entry(alloc: Global, number: u64, step: &str) -> Result<Refusal, AllocError> {
+    let message = Vec::from_slice(
+        alloc,
+        b"an entry of a map; 1 leads to its value, and nothing to its key",
+    )?;
+    at_step(alloc, Notation::Pointer, number, step, message)
 }
 
-/// The line as far as its colon and a blank.
-pub(crate) fn line_to(
+/// This message about a step. Nothing is refused.
+pub(crate) fn at_step(
     alloc: Global,
     notation: Notation,
     number: u64,
     step: &str,
-) -> Result<Vec<u8>, AllocError> {
-    let mut line = Vec::from_slice(alloc, b"at ")?;
-    line.extend_from_slice(notation.argument().as_bytes())?;
-    line.extend_from_slice(b", step ")?;
-    put_decimal(u128::from(number), &mut line)?;
-    if !step.is_empty() {
-        line.push(b' ')?;
-        put_cut(step, &mut line)?;
-    }
-    line.extend_from_slice(b": ")?;
-    Ok(line)
+    message: Vec<u8>,
+) -> Result<Refusal, AllocError> {
+    Ok(Refusal {
+        input: None,
+        argument: Some(notation.argument()),
+        location: Location::Step(number, String::from_str(alloc, step)?),
+        fault: None,
+        message,
+    })
 }
 
 fn put_count(words: &str, count: u64, line: &mut Vec<u8>) -> Result<(), AllocError> {
@@ -119,6 +142,7 @@ fn put_count(words: &str, count: u64, line: &mut Vec<u8>) -> Result<(), AllocErr
 
 // Which variant of an enum is there.
 fn put_chosen(
+    notation: Notation,
     variants: &BTreeMap<u32, Named<VariantFormat>>,
     bytes: &[u8],
     line: &mut Vec<u8>,
@@ -129,7 +153,7 @@ fn put_chosen(
     match variants.get(&number) {
         Some(variant) => {
             line.extend_from_slice(b"; here ")?;
-            put_cut(variant.name.as_str(), line)
+            put_listed(notation, variant.name.as_str(), line)
         }
         None => Ok(()),
     }
@@ -180,14 +204,14 @@ fn put_map(notation: Notation, bytes: &[u8], line: &mut Vec<u8>) -> Result<(), A
     }
     line.extend_from_slice(match notation {
         Notation::Path => b"; key:DIGITS leads to a value",
-        Notation::Name => b"; [key:DIGITS] leads to a value, and nothing to a key",
+        Notation::Name => b"; [key:DIGITS] leads to a value, or [value NUMBER] if its key is long",
         Notation::Pointer => b"; NUMBER/1 leads to a value",
     })
 }
 
 fn put_container(name: &str, line: &mut Vec<u8>) -> Result<(), AllocError> {
     line.extend_from_slice(b"the container ")?;
-    put_cut(name, line)?;
+    put_name(name, line)?;
     line.extend_from_slice(b"; inner leads into it")
 }
 

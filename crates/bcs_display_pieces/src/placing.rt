@@ -1,4 +1,4 @@
-//! One line about where bytes stop being a value.
+//! Where bytes stop being a value.
 ghost use Rattle.std.specs.Prelude.{◌≡◌, ⊤, IfOk, IfSome, None, Some};
 ghost use Rattle.bcs_registry_model.specs.View.{shape_of};
 ghost use Rattle.bcs_registry_model.specs.WellFormed.{Admits};
@@ -9,7 +9,8 @@ use crate::halt::Halt;
 use crate::steps::container_name;
 use crate::stopping::stop_of;
 use crate::variants::put_variants;
-use bcs_explain::{Expected, Listener, Meaning, Reason, Trail};
+use bcs_display_refusal::{Location, Refusal};
+use bcs_explain::{Expected, Listener, Meaning, Reason, Stop, Trail};
 use bcs_registry::{Format, Registry};
 use bcs_value::Limits;
 use std::alloc::{AllocError, Global};
@@ -28,6 +29,31 @@ pub fn stop_place(
     ensures none { IfOk result (λ x. x ≡ None → EndsAt registry.now limits.now (shape_of format.now) bytes.now None) }
     ensures some { IfOk result (λ x. IfSome x (λ _. (stop : declared.Stop) × EndsAt registry.now limits.now (shape_of format.now) bytes.now (Some stop))) }
 {
+    match stop_refusal(alloc, registry, format, limits, bytes)? {
+        Some(stopped) => Ok(Some(stopped.refusal.line(alloc)?)),
+        None => Ok(None),
+    }
+}
+
+/// A stop, and the refusal of the bytes for it. The location is a field path.
+#[derive(Debug, Drop)]
+pub struct Stopped {
+    pub stop: Stop,
+    pub refusal: Refusal,
+}
+
+/// The same as data.
+pub fn stop_refusal(
+    alloc: Global,
+    registry: &Registry,
+    format: &Format,
+    limits: &Limits,
+    bytes: &[u8],
+) -> Result<Option<Stopped>, AllocError>
+    requires admitted { Admits registry.now (shape_of format.now) }
+    ensures none { IfOk result (λ x. x ≡ None → EndsAt registry.now limits.now (shape_of format.now) bytes.now None) }
+    ensures some { IfOk result (λ x. IfSome x (λ stopped. EndsAt registry.now limits.now (shape_of format.now) bytes.now (Some stopped.stop))) }
+{
     let mut keeper = StopKeeper {
         alloc,
         halt: Halt::at_end(alloc)?,
@@ -40,23 +66,23 @@ pub fn stop_place(
     if keeper.has_lost {
         return Err(AllocError);
     }
-    let mut line = place_line(alloc, stop.reason, &keeper.halt)?;
+    let StopKeeper {
+        halt,
+        container,
+        ..
+    } = keeper;
+    let mut refusal = refusal_of(alloc, stop.reason, halt)?;
     if stop.reason == Reason::UnknownVariant {
         let rest = bytes.get(stop.place as usize..).unwrap_or(b"");
-        put_variants(registry, keeper.container.as_str(), rest, &mut line)?;
+        put_variants(registry, container.as_str(), rest, &mut refusal.message)?;
     }
-    Ok(Some(line))
+    Ok(Some(Stopped { stop, refusal }))
 }
 
-// Joins the field path of a stop, its reason and what was expected.
-fn place_line(alloc: Global, reason: Reason, halt: &Halt) -> Result<Vec<u8>, AllocError> {
-    let mut line = Vec::from_slice(alloc, b"at ")?;
-    line.extend_from_slice(&halt.way)?;
-    line.extend_from_slice(b": ")?;
-    line.extend_from_slice(reason.name().as_bytes())?;
-    line.extend_from_slice(b": wanted ")?;
-    line.extend_from_slice(&halt.expected)?;
-    Ok(line)
+fn refusal_of(alloc: Global, reason: Reason, halt: Halt) -> Result<Refusal, AllocError> {
+    let mut message = Vec::from_slice(alloc, b"wanted ")?;
+    message.extend_from_slice(&halt.expected)?;
+    Ok(Refusal::of(reason.name(), Location::Part(halt.way), message))
 }
 
 /// A listener that stores where the bytes stop.

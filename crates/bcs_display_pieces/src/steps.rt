@@ -3,13 +3,10 @@
 
 use crate::meaning::put_quantity;
 use bcs_display_text::columns::{put_blanks, put_decimal, put_hex};
-use bcs_display_text::escaping::put_escaped;
 use bcs_explain::{Step, Trail};
+use bcs_part_names::LONGEST_KEY;
+use bcs_part_names::labels::put_label;
 use std::alloc::AllocError;
-
-// The number of bytes printed of a key in a step. Every piece below a map entry repeats its key, so longer keys are
-// cut.
-const KEY_SIZE: usize = 32;
 
 #[derive(Clone, Copy)]
 enum Spelling {
@@ -125,15 +122,18 @@ fn put_name(step: &Step<'_, '_>, out: &mut Vec<u8>) -> Result<(), AllocError> {
         Step::Key(number) => put_bracketed(b"key ", u64::from(*number), out),
         Step::Field(_, name) => {
             out.push(b'.')?;
-            put_escaped(name, out)
+            put_label(name, out)
         }
         Step::Inner => Ok(out.push(b'?')?),
         Step::Container(_) => Ok(()),
         Step::Variant(_, name) => {
             out.extend_from_slice(b"::")?;
-            put_escaped(name, out)
+            put_label(name, out)
         }
-        Step::Value(key) => {
+        Step::Value(number, key) if key.len() > LONGEST_KEY => {
+            put_bracketed(b"value ", u64::from(*number), out)
+        }
+        Step::Value(_, key) => {
             out.push(b'[')?;
             put_key(key, out)?;
             Ok(out.push(b']')?)
@@ -154,13 +154,13 @@ fn put_word(step: &Step<'_, '_>, out: &mut Vec<u8>) -> Result<(), AllocError> {
         Step::Item(number) | Step::Field(number, _) => put_decimal(u128::from(*number), out),
         Step::Inner | Step::Container(_) | Step::Variant(_, _) => out.extend_from_slice(b"inner"),
         Step::Key(_) => Ok(()),
-        Step::Value(key) => put_key(key, out),
+        Step::Value(_, key) => put_key(key, out),
     }
 }
 
-// Longer keys are cut. The dots and the number of missing bytes make clear that the key isn't complete.
+// Longer keys are cut in PATH. The dots and the number of missing bytes make clear that the key isn't complete.
 fn put_key(key: &[u8], out: &mut Vec<u8>) -> Result<(), AllocError> {
-    let (first, rest) = key.split_at(KEY_SIZE.min(key.len()));
+    let (first, rest) = key.split_at(LONGEST_KEY.min(key.len()));
     out.extend_from_slice(b"key:")?;
     put_hex(first, out)?;
     if rest.is_empty() {

@@ -1,34 +1,75 @@
-//! The lines about texts that aren't names of parts, or aren't JSON Pointers.
+//! Texts that aren't names of parts, or aren't JSON Pointers.
 
-use crate::name_text::first_step;
 use crate::notation::Notation;
-use crate::nowhere::line_to;
+use crate::nowhere::at_step;
+use bcs_display_refusal::{Location, Refusal};
+use bcs_part_names::wrong_step;
 use std::alloc::{AllocError, Global};
+use std::str::from_utf8;
 
-/// The line about a text that can't be a name, whatever the registry: `at --name, step 1 args: BadPath: wanted ..`.
-pub fn wrong_name_line(alloc: Global, name: &str) -> Result<Vec<u8>, AllocError> {
-    let mut line = line_to(alloc, Notation::Name, 1, first_step(name))?;
-    line.extend_from_slice(b"BadPath: wanted ., .NAME, ::NAME, ?, [NUMBER] or [key:DIGITS]")?;
-    Ok(line)
+/// The first invalid step of a text that isn't a name: `at --name, step 1 args: BadPath: wanted ..`.
+pub fn wrong_name(alloc: Global, name: &str) -> Result<Refusal, AllocError> {
+    let (index, rest) = wrong_step(alloc, name)?;
+    let number = (index as u64).saturating_add(1);
+    let wanted = b"wanted ., .NAME, ::NAME, ?, [NUMBER], [key:DIGITS] or [value NUMBER]";
+    bad_step(alloc, Notation::Name, number, first_of(rest), wanted)
 }
 
-/// The line about the first step of a text that isn't a JSON Pointer.
-pub fn wrong_pointer_line(alloc: Global, pointer: &str) -> Result<Vec<u8>, AllocError> {
+// The text before the next step, as far as the signs show it.
+fn first_of(rest: &[u8]) -> &str {
+    let text = from_utf8(rest).unwrap_or("");
+    if text.starts_with('[') {
+        return match text.find(']') {
+            Some(end) => text.get(..=end).unwrap_or(text),
+            None => text,
+        };
+    }
+    let mut is_inside = false;
+    for (place, sign) in text.char_indices() {
+        let is_mark = matches!(sign, '.' | ':' | '?' | '[');
+        if is_mark && is_inside {
+            return text.get(..place).unwrap_or(text);
+        }
+        is_inside = !is_mark;
+    }
+    text
+}
+
+/// The first step of a text that isn't a JSON Pointer.
+pub fn wrong_pointer(alloc: Global, pointer: &str) -> Result<Refusal, AllocError> {
+    let notation = Notation::Pointer;
     let mut number: u64 = 0;
     for step in pointer.split('/') {
         if number == 0 && !step.is_empty() {
-            let mut line = line_to(alloc, Notation::Pointer, 1, step)?;
-            line.extend_from_slice(b"BadPath: wanted / before each step")?;
-            return Ok(line);
+            return bad_step(alloc, notation, 1, step, b"wanted / before each step");
         }
         if has_lone_tilde(step) {
-            let mut line = line_to(alloc, Notation::Pointer, number, step)?;
-            line.extend_from_slice(b"BadPath: wanted ~0 for ~, or ~1 for /")?;
-            return Ok(line);
+            return bad_step(
+                alloc,
+                notation,
+                number,
+                step,
+                b"wanted ~0 for ~, or ~1 for /",
+            );
         }
         number = number.saturating_add(1);
     }
-    Ok(Vec::from_slice(alloc, b"at --pointer: BadPath")?)
+    let whole = Refusal::of("BadPath", Location::Whole, Vec::new(alloc));
+    Ok(whole.in_argument(notation.argument()))
+}
+
+fn bad_step(
+    alloc: Global,
+    notation: Notation,
+    number: u64,
+    step: &str,
+    wanted: &[u8],
+) -> Result<Refusal, AllocError> {
+    let message = Vec::from_slice(alloc, wanted)?;
+    Ok(Refusal {
+        fault: Some("BadPath"),
+        ..at_step(alloc, notation, number, step, message)?
+    })
 }
 
 // Whether neither 0 nor 1 follows a tilde.

@@ -79,7 +79,7 @@ fn entries<'r, 'a, T: Listener>(
         value(registry, run.key, depth, cursor, &at, out)?;
         let (found, _) = from.split_at((cursor.place - start) as usize);
         follows(last, found, start, &at, out)?;
-        at = below(&*trail, Step::Value(found));
+        at = below(&*trail, Step::Value(i, found));
         value(registry, run.content, depth, cursor, &at, out)?;
         last = Some(found);
     }

@@ -17,8 +17,8 @@ pub enum Step<'r, 'a> {
     Variant(u32, &'r str),
     /// To the key of the entry with this index.
     Key(u32),
-    /// To the value of the entry whose encoded key is these bytes.
-    Value(&'a [u8]),
+    /// To the value of the entry with this index, whose encoded key is these bytes.
+    Value(u32, &'a [u8]),
 }
 
 /// The steps from the whole value to a part of it, linked from the last step up.

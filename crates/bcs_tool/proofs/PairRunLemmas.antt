@@ -1,9 +1,9 @@
 -- The outcome of a comparison of two files, from the results of its steps.
-use Rattle.bcs_tool.proofs.Prelude.{◌≡◌, ◌++◌, ◌∙◌, ℕ, Bool, List, [], Option, Err, Ok, Result, ap, arith, refl, subst, sym, lines_of, ReadsInput, summary, tally_text, lacking_text, pairs_summary, IsAnswer, Places, Answer, status_below, greatest_pair_below, ReportsPlace, OutOfMemory, Outcome, Work, AllPaired, AreCompared, BothGaveFew, EndsPairs, PutPairs, RespondsPairs, compared, refused, refused_alone, PutsAnswer, Interruption, Second, Compared, Take}
+use Rattle.bcs_tool.proofs.Prelude.{run_below, tally_status, ◌≡◌, ◌++◌, ◌∙◌, ℕ, Bool, List, [], Option, Err, Ok, Result, ap, arith, refl, subst, sym, lines_of, ReadsInput, summary, tally_text, lacking_text, pairs_summary, IsAnswer, Places, Answer, status_below, greatest_pair_below, ReportsPlace, OutOfMemory, Outcome, Work, AllPaired, AreCompared, BothGaveFew, EndsPairs, PutPairs, RespondsPairs, compared, refused, refused_alone, PutsAnswer, Interruption, Second, Compared, Take}
 use Rattle.bcs_io.proofs.TakingLemmas as taking
 use Rattle.bcs_tool_answers.specs.PairAnswers as pairs
 use Rattle.bcs_tool.proofs.ReadLemmas.{few_read, none_read}
-use Rattle.bcs_tool.proofs.RunLemmas.{none_first, some_content, told_counts}
+use Rattle.bcs_tool.proofs.RunLemmas.{none_first, some_content, told_counts, told_status}
 
 module _ {F S K : Type 0} (former : F → Option (List ℕ)) (former_stopped : F → Bool) (former_allowance : F → ℕ)
     (content : S → Option (List ℕ)) (has_stopped : S → Bool) (allowance : S → ℕ) (taken : K → Option (List ℕ)) (is_failed : K → Bool) (work : Work) where
@@ -74,24 +74,25 @@ module _ {F S K : Type 0} (former : F → Option (List ℕ)) (former_stopped : F
   -- all pairs were answered, and the number of pairs by status is reported
   pub told_pairs : (first : F) (second : S) (out out' : K) (all : Compared) (outcome : Outcome) → ReadsInput work
       → AllPaired former former_stopped former_allowance content has_stopped allowance taken is_failed work first second out out' all
-      → outcome.status ≡ all.tally.status → outcome.note.now ≡ []
+      → outcome.status ≡ tally_status work.options.json_refusals all.tally → outcome.note.now ≡ []
       → ReportsPlace work.options.quiet (tally_text all.tally.done all.tally.negative all.tally.refused ++ lacking_text all.ending all.tally.answered) outcome.place.items
       → AreCompared former former_stopped former_allowance content has_stopped allowance taken is_failed work first second out out' outcome
   told_pairs first second out out' all outcome reads paired status note reports =
       let counted = paired.counted in
+      let same = status ∙ told_status work.options.json_refusals all.tally paired.statuses counted in
       let text : (tally_text all.tally.done all.tally.negative all.tally.refused ++ lacking_text all.ending all.tally.answered) ≡ pairs_summary all.ending paired.statuses =
       ap (λ (t : List ℕ). t ++ lacking_text all.ending all.tally.answered) (told_counts all.tally paired.statuses counted)
       ∙ ap (λ (n : ℕ). summary paired.statuses ++ lacking_text all.ending n) counted.answered in
       let P : ℕ → Type 0 = λ s. RespondsPairs work paired.ones paired.others s paired.output outcome.place.items in
       record {
         note = note;
-        below = omega (arith, status, counted.status, greatest_pair_below work (lines_of paired.ones) (lines_of paired.others) all.ending paired.statuses paired.output paired.answers);
+        below = omega (arith, same, run_below work.options.json_refusals paired.statuses (greatest_pair_below work (lines_of paired.ones) (lines_of paired.others) all.ending paired.statuses paired.output paired.answers));
         ones = paired.ones;
         others = paired.others;
         first_known = paired.first_known;
         second_known = paired.second_known;
         output = paired.output;
         put = paired.put;
-        responds = subst P (sym (status ∙ counted.status)) (compared all.ending paired.statuses paired.output outcome.place.items reads paired.answers
+        responds = subst P (sym same) (compared all.ending paired.statuses paired.output outcome.place.items reads paired.answers
             (subst (λ (t : List ℕ). ReportsPlace work.options.quiet t outcome.place.items) text reports));
       }

@@ -35,11 +35,11 @@ pub use Rattle.bcs_registry_model.specs.Container.{Entries}
 pub use Rattle.bcs_registry_model.specs.Shape.{Shape}
 pub use Rattle.bcs_registry_model.specs.View.{shape_of}
 pub use Rattle.bcs_tool_answers.proofs.AnswerLemmas.{if_some_holds, status_below}
-pub use Rattle.bcs_tool_answers.proofs.LineAnswerLemmas.{answers_snoc, as_many, count_of-snoc, count_of_within, greatest-snoc, greatest_below, line_below}
+pub use Rattle.bcs_tool_answers.proofs.LineAnswerLemmas.{answers_snoc, as_many, count_of-snoc, count_of_within, greatest-snoc, greatest_below, run_below, line_below}
 pub use Rattle.bcs_tool_answers.proofs.PairAnswerLemmas.{as_many_pairs, greatest_pair_below, one_alone, pair_line_below, pairs_then}
 pub use Rattle.bcs_tool_answers.specs.Answers.{Answers, count_line, IsAsked, line_of, scan_stopped, scanned, stop_line}
 pub use Rattle.bcs_tool_answers.specs.Input.{GivesBytes}
-pub use Rattle.bcs_tool_answers.specs.LineAnswers.{AnswersAll, AnswersLine, count_of, none, summary, tally_text}
+pub use Rattle.bcs_tool_answers.specs.LineAnswers.{AnswersAll, AnswersLine, count_of, none, run_status, summary, tally_text}
 pub use Rattle.bcs_tool_answers.specs.PairAnswers.{AnswersLinePair, AnswersPairs, lacking_text, pairs_summary}
 pub use Rattle.bcs_tool_answers.specs.Places.{IsAnswer, Places, PrintsWithoutPlace}
 pub use Rattle.bcs_tool_answers.specs.Preparing.{IsAskedBy, IsPrepared}
@@ -66,7 +66,7 @@ pub use Rattle.bcs_tool_command_line.specs.declared.work.Outcome.{Outcome}
 pub use Rattle.bcs_tool_command_line.specs.declared.work.Work.{Work}
 pub use mir.Val.{bool_byte}
 pub use Rattle.bcs_tool.specs.Endings.{first_unopened, IsUnopened, IsUnread, lacks_file, no_room, over_file, over_input, over_one, over_pairs, pairs_over_file, pairs_over_input, Performs, PerformsOne, PerformsPairs, Put, ReportsFault, second_unopened, unopened}
-pub use Rattle.bcs_tool.specs.Lines.{AllAnswered, AreRead, broken_at, EndsLines, FailsNext, IsSoFar, IsTally, ReadsOn, StandBefore}
+pub use Rattle.bcs_tool.specs.Lines.{AllAnswered, AreRead, broken_at, EndsLines, FailsNext, IsSoFar, IsTally, ReadsOn, StandBefore, tally_status}
 pub use Rattle.bcs_tool.specs.PairLines.{AllPaired, ArePairsSoFar, ending_of, EndsBy, EndsPaired, HasEnded, last_output, last_statuses, PutsPair, ReadsBoth}
 pub use Rattle.bcs_tool.specs.Pairs.{AnswersBehind, AreAll, AreCompared, BothGaveFew, BrokeInLine, compared, EndsPairs, FailsPairsAt, GaveFew, GaveLine, IsPast, PairRuns, PutPairPart, PutPairs, refused, refused_alone, RespondsPairs, StopsAt}
 pub use Rattle.bcs_tool.specs.Running.{AreFirst, by_line, Ends, FailsAt, HasLines, IfTold, IsAnswered, IsLongBehind, IsOutcomeOf, IsTooLarge, IsUnhurt, of_next, once, PutBefore, PutFront, PutPart, PutsAnswer, PutsLine, ReadsNoFurther, Responds, Runs, StopsInLine, Streams, take_of}

@@ -1,5 +1,5 @@
 -- The outcome of a run, from the results of its steps.
-use Rattle.bcs_tool.proofs.Prelude.{◌≡◌, ◌≤◌, ◌+◌, ◌++◌, ◌∙◌, ℕ, Bool, false, List, [], Option, Some, None, Result, Ok, Err, ap, append-nil, arith, inl, inr, length, refl, subst, sym, true≢false, IsErrAnd, Consumes, IsAtEnd, lines_of, ReadsInput, none, summary, tally_text, IsAnswer, Places, IsAskedBy, Answer, Asked, status_below, greatest_below, ReportsPlace, IsContent, size_limit, TakeFault, Outcome, Work, Second, AllAnswered, IsTally, AreFirst, Ends, FailsAt, HasLines, IsAnswered, IsUnhurt, PutBefore, PutsAnswer, ReadsNoFurther, Responds, by_line, once, Interruption, Take, Tally}
+use Rattle.bcs_tool.proofs.Prelude.{run_below, tally_status, ◌≡◌, ◌≤◌, ◌+◌, ◌++◌, ◌∙◌, ℕ, Bool, false, List, [], Option, Some, None, Result, Ok, Err, ap, append-nil, arith, inl, inr, length, refl, subst, sym, true≢false, IsErrAnd, Consumes, IsAtEnd, lines_of, ReadsInput, none, summary, tally_text, IsAnswer, Places, IsAskedBy, Answer, Asked, status_below, greatest_below, ReportsPlace, IsContent, size_limit, TakeFault, Outcome, Work, Second, AllAnswered, IsTally, AreFirst, Ends, FailsAt, HasLines, IsAnswered, IsUnhurt, PutBefore, PutsAnswer, ReadsNoFurther, Responds, by_line, once, Interruption, Take, Tally, ◌==◌, if◌then◌else◌, true, run_status}
 use Rattle.bcs_io.specs.Giving as source
 use Rattle.bcs_io.proofs.GivingLemmas as giving
 use Rattle.bcs_io.proofs.TakingLemmas as taking
@@ -38,6 +38,11 @@ none_first (Some all) = (lines_of all, refl)
 -- the text of a tally is the summary of its statuses
 pub told_counts : (tally : Tally) (statuses : List ℕ) → IsTally tally statuses → tally_text tally.done tally.negative tally.refused ≡ summary statuses
 told_counts tally statuses counted = rw counted.done (rw counted.negative (rw counted.refused refl))
+
+-- the status of a run, from the counts
+pub told_status : (json : Bool) (tally : Tally) (statuses : List ℕ) → IsTally tally statuses → tally_status json tally ≡ run_status json statuses
+told_status false tally statuses counted = counted.status
+told_status true tally statuses counted = ap (λ (n : ℕ). if n == 0 then 0 else 1) counted.negative
 
 module _ {S K : Type 0} (content : S → Option (List ℕ)) (has_stopped : S → Bool) (allowance : S → ℕ)
     (taken : K → Option (List ℕ)) (is_failed : K → Bool) (work : Work) where
@@ -121,21 +126,22 @@ module _ {S K : Type 0} (content : S → Option (List ℕ)) (has_stopped : S →
 
   -- all lines were answered, and the number of lines by status is reported
   pub tallied : (input : S) (out out' : K) (tally : Tally) (outcome : Outcome) → HasLines work → AllAnswered content has_stopped allowance taken is_failed work input out out' tally
-      → outcome.status ≡ tally.status → outcome.note.now ≡ [] → ReportsPlace work.options.quiet (tally_text tally.done tally.negative tally.refused) outcome.place.items
+      → outcome.status ≡ tally_status work.options.json_refusals tally → outcome.note.now ≡ [] → ReportsPlace work.options.quiet (tally_text tally.done tally.negative tally.refused) outcome.place.items
       → IsAnswered content has_stopped allowance taken is_failed work input out out' outcome
   tallied input out out' tally outcome lines all status note reports =
       let counted = all.counted in
+      let same = status ∙ told_status work.options.json_refusals tally all.statuses counted in
       let text : tally_text tally.done tally.negative tally.refused ≡ summary all.statuses = told_counts tally all.statuses counted in
       let P : ℕ → Type 0 = λ status. Responds work all.bytes status all.output outcome.place.items in
       record {
         note = note;
-        below = omega (arith, status, counted.status, greatest_below work (lines_of all.bytes) all.statuses all.output all.answers);
+        below = omega (arith, same, run_below work.options.json_refusals all.statuses (greatest_below work (lines_of all.bytes) all.statuses all.output all.answers));
         output = all.output;
         put = all.put;
         responds = inl (
           all.bytes,
           all.known,
-          subst P (sym (status ∙ counted.status)) (by_line all.statuses all.output outcome.place.items lines all.answers
+          subst P (sym same) (by_line all.statuses all.output outcome.place.items lines all.answers
               (subst (λ (t : List ℕ). ReportsPlace work.options.quiet t outcome.place.items) text reports)),
         );
       }

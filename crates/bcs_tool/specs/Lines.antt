@@ -1,5 +1,5 @@
 -- What is known about a run over lines, between two of them.
-use Rattle.std.specs.Prelude.{◌≡◌, ◌+◌, ◌<◌, ◌≤◌, ◌++◌, ℕ, List, Bool, true, false, All, Option, Some, None, Result, Ok, Err, length}
+use Rattle.std.specs.Prelude.{◌≡◌, ◌==◌, ◌+◌, ◌<◌, ◌≤◌, ◌++◌, if◌then◌else◌, ℕ, List, Bool, true, false, All, Option, Some, None, Result, Ok, Err, length}
 use Rattle.bcs_io.specs.Giving as source
 use Rattle.bcs_io.specs.Taking as sink
 use Rattle.bcs_io.specs.Advancing.{FailsInLine, HasNoLine, IsTooLong, RunsOut, TakesLine}
@@ -46,6 +46,10 @@ pub record IsTally (tally : Tally) (statuses : List ℕ) : Type 0 where
   pub negative : tally.negative ≡ count_of 1 statuses
   pub refused : tally.refused ≡ count_of 2 statuses
   pub status : tally.status ≡ greatest statuses
+
+-- the status of a run with these counts. With refusals as JSON, refused lines don't count
+abbrev pub tally_status : Bool → Tally → ℕ
+tally_status json tally = if json then (if tally.negative == 0 then 0 else 1) else tally.status
 
 -- after these lines, the content consists of what was already read and what is left, if that is known
 abbrev pub StandBefore : Option (List ℕ) → Option (List ℕ) → List (List ℕ) → List ℕ → Type 0

@@ -5,7 +5,7 @@ use Rattle.bcs_io.specs.Taking as sink
 use Rattle.bcs_io.specs.Lines.{before_block, line_feeds, lines_of}
 use Rattle.bcs_tool_answers.specs.Answers.{Answers, line_of}
 use Rattle.bcs_tool_answers.specs.Validating.{ReadsInput}
-use Rattle.bcs_tool_answers.specs.LineAnswers.{greatest}
+use Rattle.bcs_tool_answers.specs.LineAnswers.{run_status}
 use Rattle.bcs_tool_answers.specs.PairAnswers.{AnswersLinePair, AnswersPairs, pairs_summary}
 use Rattle.bcs_tool_answers.specs.Places.{Places}
 use Rattle.bcs_tool_answers.specs.declared.ending.Ending.{Ending}
@@ -31,7 +31,7 @@ pub data RespondsPairs (work : Work) (first second : List ℕ) : ℕ → List �
   refused : (status : ℕ) (output place : List ℕ) → ¬ ReadsInput work → Answers work [] status output → Places work [] place → RespondsPairs work first second status output place
   -- one answer to each pair of lines; the place reports the number of pairs by status, and which file ends before the other
   compared : (ending : Ending) (statuses output place : List ℕ) → ReadsInput work → AnswersPairs work (lines_of first) (lines_of second) ending statuses output → ReportsPlace work.options.quiet (pairs_summary ending statuses) place
-      → RespondsPairs work first second (greatest statuses) output place
+      → RespondsPairs work first second (run_status work.options.json_refusals statuses) output place
 
 -- these are all lines of the content, if it is known
 abbrev pub AreAll : Option (List ℕ) → List (List ℕ) → Type 0

@@ -11,7 +11,7 @@ use Rattle.bcs_io.specs.declared.next_fault.NextFault.{NextFault}
 use Rattle.bcs_io.specs.declared.next_fault.NextFault.TheVariants as next
 use Rattle.bcs_tool_answers.specs.Answers.{Answers}
 use Rattle.bcs_tool_answers.specs.Validating.{ReadsInput, is_unlimited}
-use Rattle.bcs_tool_answers.specs.LineAnswers.{AnswersAll, AnswersLine, greatest, summary}
+use Rattle.bcs_tool_answers.specs.LineAnswers.{AnswersAll, AnswersLine, run_status, summary}
 use Rattle.bcs_tool_answers.specs.Places.{Places}
 use Rattle.bcs_tool_answers.specs.declared.answer.Answer.{Answer}
 use Rattle.bcs_tool_command_line.specs.FaultPlaces.{ReportsPlace, output_text, take_place}
@@ -39,9 +39,9 @@ Streams work = (is_unlimited work ≡ true) × (work.options.lines ≡ false) ×
 -- what is written for these bytes, the status, and what else may be written to standard error: one answer, or one to each line
 pub data Responds (work : Work) (bytes : List ℕ) : ℕ → List ℕ → List ℕ → Type 0 where
   once : (status : ℕ) (output place : List ℕ) → ¬ HasLines work → Answers work bytes status output → Places work bytes place → Responds work bytes status output place
-  -- the status is the greatest one; the place reports the number of lines by status
+  -- the status is that of the run; the place reports the number of lines by status
   by_line : (statuses output place : List ℕ) → HasLines work → AnswersAll work (lines_of bytes) statuses output → ReportsPlace work.options.quiet (summary statuses) place
-      → Responds work bytes (greatest statuses) output place
+      → Responds work bytes (run_status work.options.json_refusals statuses) output place
 
 -- ---- faults
 

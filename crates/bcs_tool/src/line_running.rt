@@ -30,7 +30,7 @@ pub fn run_lines<S: ByteSource, K: ByteSink>(
 {
     let tally = put_lines(alloc, work, asked, input, out)?;
     Ok(Outcome {
-        status: tally.status,
+        status: tally.run_status(work.options.json_refusals),
         note: "",
         place: place_of_tally(alloc, work.options.quiet, tally),
     })

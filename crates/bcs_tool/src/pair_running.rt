@@ -31,7 +31,7 @@ pub fn run_pairs<F: ByteSource, S: ByteSource, K: ByteSink>(
         Ok(asked) => {
             let compared = compare_lines(alloc, work, &asked, first, second, out)?;
             Ok(Outcome {
-                status: compared.tally.status,
+                status: compared.tally.run_status(work.options.json_refusals),
                 note: "",
                 place: place_of_pairs(alloc, work.options.quiet, compared),
             })

@@ -1,6 +1,6 @@
 //! The number of answered lines by status.
-ghost use Rattle.std.specs.Prelude.{◌<◌, ◌+◌, ◌^◌, ◌++◌, ◌∷◌, [], ℕ, List};
-ghost use Rattle.bcs_tool.specs.Lines.{IsTally};
+ghost use Rattle.std.specs.Prelude.{◌≡◌, ◌<◌, ◌+◌, ◌^◌, ◌++◌, ◌∷◌, [], ℕ, List};
+ghost use Rattle.bcs_tool.specs.Lines.{IsTally, tally_status};
 
 /// The number of answered lines, the number with each status, and the greatest status.
 #[derive(Clone, Copy, Debug, Drop)]
@@ -43,6 +43,17 @@ impl Tally {
             negative: self.negative + u64::from(status == 1),
             refused: self.refused + u64::from(status == 2),
             status: self.status.max(status),
+        }
+    }
+
+    /// The status of the run: the greatest one. If refusals are JSON, refused lines don't count.
+    pub fn run_status(self, json_refusals: bool) -> u8
+        ensures { result ≡ tally_status json_refusals self }
+    {
+        if json_refusals {
+            if self.negative == 0 { 0 } else { 1 }
+        } else {
+            self.status
         }
     }
 }

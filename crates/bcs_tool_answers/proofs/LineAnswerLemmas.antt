@@ -1,5 +1,5 @@
 -- The answers to lines in order: appending one more, and their statuses.
-use Rattle.bcs_tool_answers.proofs.Prelude.{◌≡◌, ◌<◌, ◌≤◌, ◌++◌, ◌∷◌, ◌∙◌, ◌==◌, [], ℕ, suc, List, Bool, true, false, max, append_assoc, append-nil, ap, arith, if◌then◌else◌, length, refl, subst, sym, Answers, AnswersAll, AnswersLine, count_of, greatest, Work}
+use Rattle.bcs_tool_answers.proofs.Prelude.{◌≡◌, ◌<◌, ◌≤◌, ◌++◌, ◌∷◌, ◌∙◌, ◌==◌, [], ℕ, suc, List, Bool, true, false, max, append_assoc, append-nil, ap, arith, if◌then◌else◌, length, refl, subst, sym, Answers, AnswersAll, AnswersLine, count_of, greatest, run_status, Work}
 use Rattle.bcs_tool_answers.specs.LineAnswers as all
 use Rattle.bcs_tool_answers.proofs.AnswerLemmas.{status_below}
 use Rattle.bcs_tool_answers.proofs.FormLemmas.{form_below}
@@ -32,6 +32,14 @@ pub greatest_below : (work : Work) (lines : List (List ℕ)) (statuses outputs :
 greatest_below work lines statuses outputs all.none = omega arith
 greatest_below work lines statuses outputs (all.next l ls s ss o os h more) =
     omega (arith, line_below work l s o h, greatest_below work ls ss os more)
+
+pub run_below : (json : Bool) (statuses : List ℕ) → greatest statuses < 3 → run_status json statuses < 3
+run_below false statuses below = below
+run_below true statuses below = at (count_of 1 statuses == 0)
+  where
+    at : (b : Bool) → (if b then 0 else 1) < 3
+    at true = omega arith
+    at false = omega arith
 
 -- two statuses can be counted in either order
 counted_twice : (a b : Bool) (n : ℕ) → (if a then suc (if b then suc n else n) else (if b then suc n else n)) ≡ (if b then suc (if a then suc n else n) else (if a then suc n else n))

@@ -1,5 +1,5 @@
 -- The lines of an input have exactly one answer each.
-use Rattle.bcs_tool_answers.proofs.Prelude.{◌≡◌, ◌<◌, ◌≤◌, ◌++◌, ◌∷◌, ◌∙◌, ◌==◌, [], ℕ, List, false, ap, ap₂, cond, inl, inr, length, refl, subst, sym, All, cases_Bool, All-nil, All-cons, All-head, All-tail, AreBytes, lines_of, onto, IsExact, OneAnswerALine, SomeAnswerALine, Answers, AnswersAll, AnswersLine, greatest, size_limit, Work}
+use Rattle.bcs_tool_answers.proofs.Prelude.{◌≡◌, ◌<◌, ◌≤◌, ◌++◌, ◌∷◌, ◌∙◌, ◌==◌, [], ℕ, List, false, ap, ap₂, cond, inl, inr, length, refl, subst, sym, All, cases_Bool, All-nil, All-cons, All-head, All-tail, AreBytes, lines_of, onto, IsExact, OneAnswerALine, SomeAnswerALine, Answers, AnswersAll, AnswersLine, run_status, size_limit, Work}
 use Rattle.bcs_tool_answers.specs.LineAnswers as all
 use Rattle.bcs_tool_answers.proofs.FormLemmas.{as_answered, some_form}
 use Rattle.bcs_tool_answers.proofs.OneAnswer.{one_answer}
@@ -44,7 +44,7 @@ module _ (work : Work) where
       let answer = some_answer work l (All-head AreBytes l ls are) (λ _. All-head (λ line. length line ≤ size_limit) l ls within) in
       let first = some_form work.options.json_refusals (Answers work l) answer.0 answer.1 answer.2 in
       let behind = some_for_all ls (All-tail AreBytes l ls are) (All-tail (λ line. length line ≤ size_limit) l ls within) in
-      (first.0 ∷ behind.0, first.1 ++ behind.1, all.next l ls first.0 behind.0 first.1 behind.1 first.2 behind.2)
+      (answer.0 ∷ behind.0, first.0 ++ behind.1, all.next l ls answer.0 behind.0 first.0 behind.1 first.1 behind.2)
 
 -- a byte put before lines of bytes gives lines of bytes
 bytes-onto : (c : ℕ) (ls : List (List ℕ)) → c < 256 → All AreBytes ls → All AreBytes (onto c ls)
@@ -69,9 +69,9 @@ bytes_of_lines (c ∷ cs) are =
 pub one_answer_a_line : OneAnswerALine
 one_answer_a_line work content status other output again exact plain (ss, h, is) (tt, k, also) =
     let same = one_for_all work (lines_of content) ss tt output again exact plain h k in
-    (is ∙ ap greatest same.0 ∙ sym also, same.1)
+    (is ∙ ap (run_status work.options.json_refusals) same.0 ∙ sym also, same.1)
 
 pub some_answer_a_line : SomeAnswerALine
 some_answer_a_line work content are within =
     let some = some_for_all work (lines_of content) (bytes_of_lines content are) within in
-    (greatest some.0, some.1, (some.0, some.2, refl))
+    (run_status work.options.json_refusals some.0, some.1, (some.0, some.2, refl))

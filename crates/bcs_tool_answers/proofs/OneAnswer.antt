@@ -67,7 +67,7 @@ module _ (work : Work) (input : List ℕ) where
   told (answer.stopped r f b e o a g h) = by Decode 2 (stop_line e o) a.is_command (valued (Decoded work input) Decode r f 2 (stop_line e o) a (inl (b, g, inr (inl (e, o, h, refl, refl)))))
   told (answer.too_nested r f b c a g h n) = by Decode 2 (refusal_line (codes "TooNested")) a.is_command (valued (Decoded work input) Decode r f 2 (refusal_line (codes "TooNested")) a (inl (b, g, inr (inr (c, h, n, refl, refl)))))
   told (answer.explained r f b t c a g h) = by command.Explain 0 t a.is_command tt
-  told (answer.damaged r f b t e o a g h) = by command.Explain 2 t a.is_command tt
+  told (answer.damaged r f b t e o a g h is) = by command.Explain 2 t a.is_command tt
   told (answer.no_bytes c r f (inl is) a h) = by Decode 2 (refusal_line (given.input_fault_name (coding_of work))) (a.is_command ∙ is) (valued (Decoded work input) c r f 2 (refusal_line (given.input_fault_name (coding_of work))) a (inr (h, refl, refl)))
   told (answer.no_bytes c r f (inr (inr (inl is))) a h) = by command.Explain 2 (refusal_line (given.input_fault_name (coding_of work))) (a.is_command ∙ is) tt
   told (answer.no_bytes c r f (inr (inr (inr is))) a h) =

@@ -1,5 +1,5 @@
 -- The lines of two files have exactly one answer.
-use Rattle.bcs_tool_answers.proofs.Prelude.{◌≡◌, ◌++◌, ◌∷◌, ◌∙◌, [], ℕ, List, false, ap, ap₂, codes, refl, string_bytes, subst, sym, Entries, Shape, same_registry, lines_of, OneComparison, SomeComparison, AnswersTexts, line_of, IsFormatWord, ReadsInput, greatest, AnswersLinePair, AnswersPair, AnswersPairs, Ending, Together, FirstEnds, SecondEnds, Work}
+use Rattle.bcs_tool_answers.proofs.Prelude.{◌≡◌, ◌++◌, ◌∷◌, ◌∙◌, [], ℕ, List, false, ap, ap₂, codes, refl, string_bytes, subst, sym, Entries, Shape, same_registry, lines_of, OneComparison, SomeComparison, AnswersTexts, line_of, IsFormatWord, ReadsInput, run_status, AnswersLinePair, AnswersPair, AnswersPairs, Ending, Together, FirstEnds, SecondEnds, Work}
 use Rattle.bcs_tool_answers.specs.PairAnswers as pairs
 use Rattle.bcs_tool_answers.proofs.FormLemmas.{as_answered, some_form}
 use Rattle.bcs_tool_answers.proofs.OnePair.{Agrees, one_pair}
@@ -74,16 +74,16 @@ module _ (work : Work) where
         let answer = some_pair_answer f g in
         let first = some_form work.options.json_refusals (AnswersPair work f g) answer.0 answer.1 answer.2 in
         let behind = some_for_all fs gs in
-        (behind.0, first.0 ∷ behind.1, first.1 ++ behind.2, pairs.next f g fs gs behind.0 first.0 behind.1 first.1 behind.2 first.2 behind.3)
+        (behind.0, answer.0 ∷ behind.1, first.0 ++ behind.2, pairs.next f g fs gs behind.0 answer.0 behind.1 first.0 behind.2 first.1 behind.3)
 
 -- ---- the laws
 
 pub one_comparison : OneComparison
 one_comparison work first second status other output again plain (e, ss, h, is) (d, tt, k, also) =
     let same = one_for_all work (lines_of first) (lines_of second) e d ss tt output again plain h k in
-    (is ∙ ap greatest same.0 ∙ sym also, same.1)
+    (is ∙ ap (run_status work.options.json_refusals) same.0 ∙ sym also, same.1)
 
 pub some_comparison : SomeComparison
 some_comparison work first second reads =
     let some = some_for_all work reads (lines_of first) (lines_of second) in
-    (greatest some.1, some.2, (some.0, some.1, some.3, refl))
+    (run_status work.options.json_refusals some.1, some.2, (some.0, some.1, some.3, refl))

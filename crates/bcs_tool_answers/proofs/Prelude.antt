@@ -29,7 +29,8 @@ pub use Rattle.bcs_decode_spec.specs.Stopping.{Stops, StopsAll}
 pub use Rattle.bcs_decode_spec.specs.declared.reason.Reason.{Reason}
 pub use Rattle.bcs_decode_spec.specs.declared.stop.Stop.{Stop}
 pub use Rattle.bcs_display_pieces.specs.EndsAt.{EndsAt}
-pub use Rattle.bcs_display_pieces.specs.PartTexts.{is_name, is_pointer}
+pub use Rattle.bcs_part_names.specs.Names.{is_name}
+pub use Rattle.bcs_part_names.specs.Pointers.{is_pointer}
 pub use Rattle.bcs_encode_spec.proofs.FormLaws.{bytes_decide_same, forms_same}
 pub use Rattle.bcs_encode_spec.specs.Encodes.{Encodes, IsForm}
 pub use Rattle.bcs_encode_spec.specs.Plain.{plain}
@@ -84,8 +85,8 @@ pub use Rattle.bcs_tool_answers.specs.AnswerLaws.{IsExact, OneAnswer, OneAnswerA
 pub use Rattle.bcs_tool_answers.specs.Answers.{Answers, AnswersTexts, checked, compared, count_line, damaged, decoded, described, different, encoded, equal, exampled, explained, first_refused, found, front_stopped, grown, IsAsked, IsWithin, line_of, Lists, lists, no_bytes, normalised, nowhere, printed, printed_none, refusal_line, refused, refused_early, scan_stopped, scanned, ScanStops, second_refused, stop_line, stopped, too_nested}
 pub use Rattle.bcs_tool_answers.specs.Input.{GivesBytes, input_fault_name, is_blank, IsBase64Of, without_blanks}
 unfoldable pub use Rattle.bcs_tool_answers.specs.Input.{base64_text}
-pub use Rattle.bcs_tool_answers.specs.JsonRefusals.{HasForm, InForm, IsJsonRefusal, is_of_name, refusal_name}
-pub use Rattle.bcs_tool_answers.specs.LineAnswers.{AnswersAll, AnswersLine, count_of, greatest}
+pub use Rattle.bcs_tool_answers.specs.JsonRefusals.{HasForm, InForm, IsJsonRefusal, is_digit, is_of_name, place_digits, place_member, refusal_name}
+pub use Rattle.bcs_tool_answers.specs.LineAnswers.{AnswersAll, AnswersLine, count_of, greatest, run_status}
 pub use Rattle.bcs_tool_answers.specs.PairAnswers.{AnswersLinePair, AnswersPair, AnswersPairs}
 pub use Rattle.bcs_tool_answers.specs.Notations.{SpellsNoSteps, SpellsSteps}
 pub use Rattle.bcs_tool_answers.specs.Places.{IsAnswer, IsPrintable, MayReport, nothing, Places, PrintsWithoutPlace, told}

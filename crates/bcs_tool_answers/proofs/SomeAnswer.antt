@@ -1,5 +1,5 @@
 -- Each job has an answer to each input within the size limit, with a lemma for each command.
-use Rattle.bcs_tool_answers.proofs.Prelude.{◌≡◌, inl, inr, ℕ, List, true, refl, string_bytes, subst, sym, [], Option, Some, None, cases_lt, depth, Entries, Shape, UnknownName, Tree, some_verdict_is, some_verdict_of_all_is, Accepts, AreBytes, Part, Step, part_at, of, nesting_limit, some_bytes, some_normal_text, some_shown_text, SomeAnswer, Answers, IsAsked, IsWithin, checked, compared, damaged, decoded, described, encoded, exampled, explained, found, front_stopped, grown, no_bytes, normalised, nowhere, refused, refused_early, scan_stopped, scanned, stopped, too_nested, GivesBytes, IsFormatWord, IsPathOf, IsRegistry, RefusesJobOf, name_of, works_on_values, JobFault, BadPath, Growth, Registry, coding_of, Work, SpellsSteps, Command}
+use Rattle.bcs_tool_answers.proofs.Prelude.{◌≡◌, inl, inr, ℕ, List, true, refl, string_bytes, subst, sym, [], Option, Some, None, cases_lt, depth, Entries, Shape, UnknownName, Tree, some_verdict_is, some_verdict_of_all_is, Accepts, AreBytes, Part, Step, part_at, of, nesting_limit, some_bytes, some_normal_text, some_shown_text, SomeAnswer, Answers, IsAsked, IsWithin, checked, compared, damaged, decoded, described, encoded, exampled, explained, found, front_stopped, grown, no_bytes, normalised, nowhere, refused, refused_early, scan_stopped, scanned, stop_line, stopped, too_nested, GivesBytes, IsFormatWord, IsPathOf, IsRegistry, RefusesJobOf, name_of, works_on_values, JobFault, BadPath, Growth, Registry, coding_of, Work, SpellsSteps, Command}
 use Rattle.bcs_registry_model.specs.Container as container
 use Rattle.bcs_json_spec.specs.Shown as value
 use Rattle.bcs_tool_answers.specs.Answers.{shown}
@@ -103,7 +103,7 @@ module _ (work : Work) (input : List ℕ) where
     explain_answered : IsAsked work input command.Explain r s → (bytes : List ℕ) → AreBytes bytes → GivesBytes (coding_of work) input bytes → Answered
     explain_answered asked bytes are given = elim (some_verdict_of_all_is r work.limits s bytes are) [
       | inl h ↦ (_, _, explained r s bytes [] h.0 asked given h.1)
-      | inr h ↦ (_, _, damaged r s bytes [] h.0 h.1 asked given h.2)
+      | inr h ↦ (_, _, damaged r s bytes (stop_line h.0 h.1) h.0 h.1 asked given h.2 (λ _. refl))
     ]
 
     some_explain : AreBytes input → IsAsked work input command.Explain r s → Answered

@@ -142,8 +142,8 @@ pub data Answers (work : Work) (input : List ℕ) : ℕ → List ℕ → Type 0 
   too_nested : (registry : Entries) (s : Shape) (bytes : List ℕ) (c : Tree) → IsAsked work input command.Decode registry s → given.GivesBytes (coding_of work) input bytes → Accepts registry work.limits s bytes (length bytes) c → nesting_limit < depth (value.shown registry c (of s)) → Answers work input 2 (refusal_line (codes "TooNested"))
   -- `explain`: a text for display, if the input gives the bytes of exactly one value
   explained : (registry : Entries) (s : Shape) (bytes text : List ℕ) (c : Tree) → IsAsked work input command.Explain registry s → given.GivesBytes (coding_of work) input bytes → Accepts registry work.limits s bytes (length bytes) c → Answers work input 0 text
-  -- `explain`: a text for display, if the bytes stop being a value
-  damaged : (registry : Entries) (s : Shape) (bytes text : List ℕ) (reason : Reason) (place : ℕ) → IsAsked work input command.Explain registry s → given.GivesBytes (coding_of work) input bytes → StopsAll registry work.limits s bytes reason place → Answers work input 2 text
+  -- `explain`: the bytes stop being a value: a text for display, or if refusals are JSON, the line of the stop
+  damaged : (registry : Entries) (s : Shape) (bytes text : List ℕ) (reason : Reason) (place : ℕ) → IsAsked work input command.Explain registry s → given.GivesBytes (coding_of work) input bytes → StopsAll registry work.limits s bytes reason place → (work.options.json_refusals ≡ true → text ≡ stop_line reason place) → Answers work input 2 text
   -- `decode`, `explain`, `part` and `scan`: the input gives no bytes
   no_bytes : (asked : Command) (registry : Entries) (s : Shape) → TakesBytes asked → IsAsked work input asked registry s → ((bytes : List ℕ) → given.GivesBytes (coding_of work) input bytes → ⊥) → Answers work input 2 (refusal_line (given.input_fault_name (coding_of work)))
   -- `part`: a value is at the front of the bytes, and the steps of PATH lead to a part of it: the bytes of that part

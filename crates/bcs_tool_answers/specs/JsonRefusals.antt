@@ -1,5 +1,5 @@
 -- Refusals of lines as JSON objects, for `--refusals json`.
-use Rattle.std.specs.Prelude.{◌≡◌, ◌≢◌, ◌⊎◌, ◌==◌, ◌||◌, ◌++◌, ℕ, List, Bool, true, not, codes, drop, take}
+use Rattle.std.specs.Prelude.{◌≡◌, ◌≢◌, ◌⊎◌, ◌==◌, ◌&&◌, ◌||◌, ◌++◌, ◌∷◌, [], ℕ, List, Bool, true, nat_le, not, codes, drop, length, take}
 use Rattle.std.specs.List.{All, prefix_len}
 use Rattle.bcs_tool_answers.specs.Places.{IsPrintable}
 
@@ -11,18 +11,29 @@ is_of_name byte = not (byte == 32 || byte == 10)
 abbrev pub refusal_name : List ℕ → List ℕ
 refusal_name line = take (prefix_len is_of_name (drop 9 line)) (drop 9 line)
 
--- the output is an object for the refusal in this line, and its first member is the name. The other members are for display:
--- they are only known to be printable, so they don't end the line
+abbrev pub is_digit : ℕ → Bool
+is_digit byte = nat_le 48 byte && nat_le byte 57
+
+-- the digits of PLACE, if the line has one
+abbrev pub place_digits : List ℕ → List ℕ
+place_digits line = let rest : List ℕ = drop 4 (drop (length (refusal_name line)) (drop 9 line)) in take (prefix_len is_digit rest) rest
+
+-- the member for a place with these digits
+abbrev pub place_member : List ℕ → List ℕ
+place_member [] = []
+place_member (d ∷ ds) = codes ",\"place\":" ++ d ∷ ds
+
+-- the output is an object for the refusal in this line. Its first members are the name, and the place if the line has one. The
+-- other members are for display: they are only known to be printable, so they don't end the line
 abbrev pub IsJsonRefusal : List ℕ → List ℕ → Type 0
 IsJsonRefusal line output = (members : List ℕ) × All IsPrintable members
-    × (output ≡ codes "{\"refused\":\"" ++ (refusal_name line ++ (codes "\"" ++ (members ++ codes "}\n"))))
+    × (output ≡ codes "{\"refused\":\"" ++ (refusal_name line ++ (codes "\"" ++ (place_member (place_digits line) ++ (members ++ codes "}\n")))))
 
--- the status and output made from these, with refusals as JSON or not
-abbrev pub HasForm : Bool → ℕ → List ℕ → ℕ → List ℕ → Type 0
-HasForm json status output status' output' = ((json ≡ true → status ≢ 2) × (status' ≡ status) × (output' ≡ output))
-    ⊎ ((json ≡ true) × (status ≡ 2) × (status' ≡ 0) × IsJsonRefusal output output')
+-- the output for an answer with this status and this text, with refusals as JSON or not
+abbrev pub HasForm : Bool → ℕ → List ℕ → List ℕ → Type 0
+HasForm json status text output = ((json ≡ true → status ≢ 2) × (output ≡ text))
+    ⊎ ((json ≡ true) × (status ≡ 2) × IsJsonRefusal text output)
 
--- the status and output made from an answer of this kind. Only a JSON refusal differs from the answer, and its status is 0
+-- the status and output for an answer of this kind. Only the output of a JSON refusal differs from the answer
 abbrev pub InForm : Bool → (ℕ → List ℕ → Type 0) → ℕ → List ℕ → Type 0
-InForm json Answer status output = ((json ≡ true → status ≢ 2) × Answer status output)
-    ⊎ ((json ≡ true) × (status ≡ 0) × ((refusal : List ℕ) × Answer 2 refusal × IsJsonRefusal refusal output))
+InForm json Answer status output = (text : List ℕ) × Answer status text × HasForm json status text output

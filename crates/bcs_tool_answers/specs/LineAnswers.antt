@@ -1,5 +1,5 @@
 -- The program's answer to an input if each of its lines is an input of its own.
-use Rattle.std.specs.Prelude.{◌≡◌, ◌==◌, ◌++◌, ◌∷◌, [], ℕ, suc, List, codes, if◌then◌else◌, max}
+use Rattle.std.specs.Prelude.{◌≡◌, ◌==◌, ◌++◌, ◌∷◌, [], ℕ, suc, List, Bool, true, false, codes, if◌then◌else◌, max}
 use Rattle.std.specs.Fmt.{decimal}
 use Rattle.bcs_io.specs.Lines.{lines_of}
 use Rattle.bcs_tool_answers.specs.Answers.{Answers}
@@ -25,6 +25,12 @@ abbrev pub count_of : ℕ → List ℕ → ℕ
 count_of n [] = 0
 count_of n (s ∷ ss) = if s == n then suc (count_of n ss) else count_of n ss
 
+-- the status of a run over lines: the greatest one. With refusals as JSON, refused lines don't count, so it is 1 if a line has
+-- status 1, and otherwise 0
+abbrev pub run_status : Bool → List ℕ → ℕ
+run_status false statuses = greatest statuses
+run_status true statuses = if count_of 1 statuses == 0 then 0 else 1
+
 -- the number of lines with each status
 abbrev pub tally_text : ℕ → ℕ → ℕ → List ℕ
 tally_text done denied refused = codes "lines with status 0: " ++ decimal done
@@ -34,6 +40,6 @@ tally_text done denied refused = codes "lines with status 0: " ++ decimal done
 abbrev pub summary : List ℕ → List ℕ
 summary statuses = tally_text (count_of 0 statuses) (count_of 1 statuses) (count_of 2 statuses)
 
--- the answers to the lines of this content, with the greatest of their statuses
+-- the answers to the lines of this content, with the status of the run
 abbrev pub AnswersLines : Work → List ℕ → ℕ → List ℕ → Type 0
-AnswersLines work content status output = (statuses : List ℕ) × AnswersAll work (lines_of content) statuses output × (status ≡ greatest statuses)
+AnswersLines work content status output = (statuses : List ℕ) × AnswersAll work (lines_of content) statuses output × (status ≡ run_status work.options.json_refusals statuses)

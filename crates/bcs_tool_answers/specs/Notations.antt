@@ -2,7 +2,8 @@
 use Rattle.std.specs.Prelude.{◌≡◌, ℕ, List, true, false}
 use Rattle.bcs_decode_parts.specs.Parts.{Step}
 use Rattle.bcs_decode_parts.specs.Path.{SpellsNoPath, SpellsPath}
-use Rattle.bcs_display_pieces.specs.PartTexts.{is_name, is_pointer}
+use Rattle.bcs_part_names.specs.Names.{is_name}
+use Rattle.bcs_part_names.specs.Pointers.{is_pointer}
 use Rattle.bcs_tool_command_line.specs.declared.notation.Notation.{Notation}
 use Rattle.bcs_tool_command_line.specs.declared.notation.Notation.TheVariants.{Path, Names, Pointer}
 

@@ -7,7 +7,7 @@ use Rattle.bcs_io.specs.Lines.{lines_of}
 use Rattle.bcs_tool_answers.specs.Answers.{AnswersTexts, line_of}
 use Rattle.bcs_tool_answers.specs.Validating.{Asks}
 use Rattle.bcs_tool_answers.specs.JsonRefusals.{InForm}
-use Rattle.bcs_tool_answers.specs.LineAnswers.{greatest, summary}
+use Rattle.bcs_tool_answers.specs.LineAnswers.{run_status, summary}
 use Rattle.bcs_tool_answers.specs.declared.ending.Ending.{Ending}
 use Rattle.bcs_tool_answers.specs.declared.ending.Ending.TheVariants.{Together, FirstEnds, SecondEnds}
 use Rattle.bcs_tool_command_line.specs.declared.work.Work.{Work}
@@ -40,7 +40,7 @@ lacking_text SecondEnds number = codes "; B has no line " ++ decimal number
 abbrev pub pairs_summary : Ending → List ℕ → List ℕ
 pairs_summary ending statuses = summary statuses ++ lacking_text ending (length statuses)
 
--- the answers to the lines of these contents, with the greatest of their statuses
+-- the answers to the lines of these contents, with the status of the run
 abbrev pub AnswersFiles : Work → List ℕ → List ℕ → ℕ → List ℕ → Type 0
 AnswersFiles work first second status output = (ending : Ending) × (statuses : List ℕ)
-    × AnswersPairs work (lines_of first) (lines_of second) ending statuses output × (status ≡ greatest statuses)
+    × AnswersPairs work (lines_of first) (lines_of second) ending statuses output × (status ≡ run_status work.options.json_refusals statuses)

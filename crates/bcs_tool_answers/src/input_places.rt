@@ -2,9 +2,9 @@
 ghost use Rattle.bcs_tool_answers.specs.Places.{MayReport};
 
 use crate::blanks::{blanks_before, without_blanks};
-use crate::places::{place_of_line, reports_place};
+use crate::places::{place_in_input, reports_place};
 use base64::DecodeError;
-use bcs_display_errors::{WrongText, input_line, wrong_digits};
+use bcs_display_errors::{WrongText, input_refusal, wrong_digits};
 use bcs_tool_command_line::Work;
 use std::alloc::Global;
 
@@ -51,7 +51,7 @@ fn place_of_input(
     alloc: Global,
     work: &Work,
     input: &[u8],
-    fault: &str,
+    fault: &'static str,
     wrong: WrongText,
 ) -> Vec<u8>
     ensures { MayReport work.now result.items }
@@ -60,5 +60,6 @@ fn place_of_input(
         return Vec::new(alloc);
     }
     let blanks = blanks_before(input);
-    place_of_line(alloc, input_line(alloc, blanks, fault, wrong).ok())
+    let refusal = input_refusal(alloc, blanks, fault, wrong).ok();
+    place_in_input(alloc, work, refusal)
 }

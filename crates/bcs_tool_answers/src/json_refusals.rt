@@ -1,65 +1,81 @@
 //! Refusals of lines as JSON objects, for `--refusals json`.
-ghost use Rattle.std.specs.Prelude.{◌≡◌, IfOk, drop, take};
-ghost use Rattle.std.specs.List.{prefix_len};
-ghost use Rattle.bcs_tool_answers.specs.JsonRefusals.{HasForm, IsJsonRefusal, is_of_name, refusal_name};
+ghost use Rattle.std.specs.Prelude.{◌≡◌, ◌++◌, IfOk, OnOk, drop, take};
+ghost use Rattle.std.specs.List.{All, prefix_len};
+ghost use Rattle.bcs_tool_answers.specs.JsonRefusals.{HasForm, IsJsonRefusal, is_digit, is_of_name, place_digits, place_member, refusal_name};
+ghost use Rattle.bcs_tool_answers.specs.Places.{IsPrintable};
 
 use crate::answer::{Answer, unplaced};
 use crate::places::place_of_line;
-use serde::Serialize;
 use std::alloc::{AllocError, Global};
-use std::str::from_utf8;
 
-/// The known members of a refusal, in order.
-#[derive(Drop, Serialize)]
-struct Members<'a> {
-    /// The offset of the byte where decoding stopped.
-    #[serde(skip_serializing_if = "Option::is_none")]
-    place: Option<u64>,
-    /// The name of the part, or a JSON pointer.
-    #[serde(skip_serializing_if = "Option::is_none")]
-    at: Option<&'a str>,
-    #[serde(skip_serializing_if = "Option::is_none")]
-    expected: Option<&'a str>,
-}
-
-/// The answer to a line. If refusals are requested as JSON, a refusal is an object. It doesn't count as a failure then: its
-/// status is 0, so only other lines determine the program's status.
+/// The answer to a line. If refusals are requested as JSON, a refusal is an object, and has no place besides.
 pub fn formed(alloc: Global, json_refusals: bool, answer: Answer) -> Result<Answer, AllocError>
-    ensures { IfOk result (λ a. HasForm json_refusals answer.status answer.output.items a.status a.output.items) }
+    ensures status { IfOk result (λ a. a.status ≡ answer.status) }
+    ensures form { IfOk result (λ a. HasForm json_refusals answer.status answer.output.items a.output.items) }
 {
     if !json_refusals || answer.status != 2 {
         return Ok(answer);
     }
     let line = object_line(alloc, &answer)?;
-    Ok(unplaced(alloc, 0, line))
+    Ok(unplaced(alloc, 2, line))
 }
 
-// The object begins with the name of the refusal. Other members follow unless an allocation fails.
+// The object begins with the name of the refusal, and its place. Other members follow unless an allocation fails.
 fn object_line(alloc: Global, answer: &Answer) -> Result<Vec<u8>, AllocError>
     ensures { IfOk result (λ line. IsJsonRefusal answer.now.output.items line.items) }
 {
     let name = name_in(answer.output.as_slice());
-    let members = place_of_line(alloc, members_text(alloc, answer, name));
+    let members = members_of(alloc, answer.place.as_slice());
     let mut line = Vec::from_slice(alloc, b"{\"refused\":\"")?;
     line.extend_from_slice(name)?;
     line.extend_from_slice(b"\"")?;
+    put_place(digits_in(answer.output.as_slice()), &mut line)?;
     line.extend_from_slice(members.as_slice())?;
     line.extend_from_slice(b"}\n")?;
     Ok(line)
+}
+
+// The members in a place, each after a comma.
+fn members_of(alloc: Global, place: &[u8]) -> Vec<u8>
+    ensures { All IsPrintable result.items }
+{
+    place_of_line(alloc, Vec::from_slice(alloc, place).ok())
+}
+
+fn put_place(digits: &[u8], line: &mut Vec<u8>) -> Result<(), AllocError>
+    ensures { OnOk result (line.new.items ≡ line.old.items ++ place_member digits.now) }
+{
+    if digits.is_empty() {
+        return Ok(());
+    }
+    line.extend_from_slice(b",\"place\":")?;
+    line.extend_from_slice(digits)
 }
 
 // The name in the line of a refusal.
 fn name_in(line: &[u8]) -> &[u8]
     ensures { result.now ≡ refusal_name line.now }
 {
-    front_of_name(behind_prefix(line))
+    front_of_name(behind(line, 9))
 }
 
-// What follows `refused: `.
-fn behind_prefix(line: &[u8]) -> &[u8]
-    ensures { result.now ≡ drop 9 line.now }
+// The digits of the place in the line of a refusal, if it has one.
+fn digits_in(line: &[u8]) -> &[u8]
+    ensures { result.now ≡ place_digits line.now }
 {
-    if line.len() > 9 { &line[9..] } else { b"" }
+    let name = name_in(line);
+    leading_digits(behind(behind(behind(line, 9), name.len()), 4))
+}
+
+// What follows the first `count` bytes.
+fn behind(line: &[u8], count: usize) -> &[u8]
+    ensures { result.now ≡ drop count line.now }
+{
+    if line.len() > count {
+        &line[count..]
+    } else {
+        b""
+    }
 }
 
 fn front_of_name(text: &[u8]) -> &[u8]
@@ -78,47 +94,18 @@ fn is_of_name(byte: u8) -> bool
     !matches!(byte, b' ' | b'\n')
 }
 
-// The other members of the object, after a comma, if there are any.
-fn members_text(alloc: Global, answer: &Answer, name: &[u8]) -> Option<Vec<u8>> {
-    let name = from_utf8(name).ok()?;
-    let (at, expected) = halves(alloc, &answer.place, name);
-    let members = Members {
-        place: offset_in(&answer.output),
-        at,
-        expected,
-    };
-    let object = serde_json::to_vec(alloc, &members).ok()?;
-    let members = object.strip_prefix(b"{")?.strip_suffix(b"}")?;
-    if members.is_empty() {
-        return None;
+fn leading_digits(text: &[u8]) -> &[u8]
+    ensures { result.now ≡ take (prefix_len is_digit text.now) text.now }
+{
+    let mut end = 0;
+    while end < text.len() && is_digit(text[end]) {
+        end += 1;
     }
-    let mut text = Vec::from_slice(alloc, b",").ok()?;
-    text.extend_from_slice(members).ok()?;
-    Some(text)
+    &text[..end]
 }
 
-// The number in `refused: NAME at NUMBER`.
-fn offset_in(line: &[u8]) -> Option<u64> {
-    let (_, offset) = from_utf8(line).ok()?.split_once(" at ")?;
-    offset.trim_end().parse().ok()
-}
-
-// WHERE and EXPECTED of `at WHERE: NAME: EXPECTED`.
-fn halves<'a>(alloc: Global, line: &'a [u8], name: &str) -> (Option<&'a str>, Option<&'a str>) {
-    let Some((at, expected)) = split_at_name(alloc, line, name) else {
-        return (None, None);
-    };
-    let expected = expected.strip_prefix(": ");
-    (
-        Some(at),
-        expected.map(|text| text.strip_prefix("wanted ").unwrap_or(text)),
-    )
-}
-
-fn split_at_name<'a>(alloc: Global, line: &'a [u8], name: &str) -> Option<(&'a str, &'a str)> {
-    let mark = format!(in alloc; ": {name}").ok()?;
-    from_utf8(line)
-        .ok()?
-        .strip_prefix("at ")?
-        .split_once(mark.as_str())
+fn is_digit(byte: u8) -> bool
+    ensures { result ≡ is_digit byte }
+{
+    byte >= b'0' && byte <= b'9'
 }

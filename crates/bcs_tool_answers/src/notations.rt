@@ -4,7 +4,7 @@ ghost use Rattle.bcs_decode_parts.specs.PathSteps.{all_spelled};
 ghost use Rattle.bcs_tool_answers.specs.Notations.{SpellsNoSteps, SpellsSteps};
 
 use bcs_decode_parts::{PathFault, PathStep, read_path};
-use bcs_display_pieces::{is_name, is_pointer};
+use bcs_part_names::{is_pointer, read_name};
 use bcs_tool_command_line::Notation;
 use std::alloc::Global;
 
@@ -19,8 +19,11 @@ pub(crate) fn read_steps(
 {
     match notation {
         Notation::Path => read_path(alloc, word),
-        Notation::Names if is_name(word) => Ok(Vec::new(alloc)),
+        Notation::Names => match read_name(alloc, word) {
+            Ok(_) => Ok(Vec::new(alloc)),
+            Err(fault) => Err(fault),
+        },
         Notation::Pointer if is_pointer(word) => Ok(Vec::new(alloc)),
-        Notation::Names | Notation::Pointer => Err(PathFault::BadPath),
+        Notation::Pointer => Err(PathFault::BadPath),
     }
 }

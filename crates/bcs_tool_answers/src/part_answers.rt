@@ -1,5 +1,8 @@
 //! The answers of `part`: the part of a value that steps lead to.
-ghost use Rattle.std.specs.Prelude.{◌≡◌, ◌≢◌, IfOk, string_bytes};
+ghost use Rattle.std.specs.Prelude.{◌≡◌, ◌≢◌, ℕ, IfOk, string_bytes};
+ghost use Rattle.bcs_registry_model.specs.View.{shape_of};
+ghost use Rattle.bcs_value_model.specs.Tree.{Tree};
+ghost use Rattle.bcs_decode_spec.specs.Accepting.{Accepts};
 ghost use Rattle.bcs_decode_parts.specs.PathSteps.{all_spelled};
 ghost use Rattle.bcs_tool_command_line.specs.Jobs.{coding_of};
 ghost use Rattle.bcs_tool_answers.specs.Answers.{printed_none};
@@ -11,13 +14,14 @@ use crate::answer::{Answer, found, nowhere, placed};
 use crate::nowhere_places::place_of_nowhere;
 use crate::stop_answers::answer_stop;
 use crate::validating::Asked;
-use bcs_decode::{part, scan};
+use bcs_decode::scan;
 use bcs_decode_parts::{PathStep, steps_of};
-use bcs_display_pieces::{Led, path_of_name, path_of_pointer};
+use bcs_part_names::{DeadEnd, Led, part_of_scanned, path_of_name, path_of_pointer};
 use bcs_tool_command_line::{Command, Notation, Work};
 use std::alloc::{AllocError, Global};
 
-/// The bytes of the part that the steps lead to, in the value at the front of these bytes.
+/// The bytes of the part that the steps lead to, in the value at the front of these bytes. They are scanned first: steps
+/// are useless in bytes that aren't a value, and a map in such bytes may claim billions of entries.
 pub fn answer_part(
     alloc: Global,
     work: &Work,
@@ -28,6 +32,24 @@ pub fn answer_part(
     requires asked { IsAskedBy work.now asked.now }
     ensures { IfOk result (λ a. AnswersBytes work.now bytes.now a) }
 {
+    match scan(&asked.registry, &asked.format, &work.limits, bytes) {
+        Ok(_) => answer_scanned(alloc, work, asked, bytes),
+        Err(stop) => answer_stop(alloc, work, asked, bytes, stop),
+    }
+}
+
+// Similarly for bytes that begin with a value.
+fn answer_scanned(
+    alloc: Global,
+    work: &Work,
+    asked: &Asked,
+    bytes: &[u8],
+) -> Result<Answer, AllocError>
+    requires command { work.now.command ≡ Command.Part }
+    requires asked { IsAskedBy work.now asked.now }
+    requires scanned { (n : ℕ) × (c : Tree) × Accepts asked.now.registry work.now.limits (shape_of asked.now.format) bytes.now n c }
+    ensures { IfOk result (λ a. AnswersBytes work.now bytes.now a) }
+{
     match work.options.notation {
         Notation::Path => answer_steps(alloc, work, asked, bytes, asked.path.as_slice(), None),
         Notation::Names => answer_named(alloc, work, asked, bytes),
@@ -35,8 +57,7 @@ pub fn answer_part(
     }
 }
 
-// Similarly for names and pointers. The bytes are scanned first: steps are useless in bytes that aren't a value, and a map
-// in such bytes may claim billions of entries.
+// Similarly for names and pointers.
 fn answer_named(
     alloc: Global,
     work: &Work,
@@ -46,19 +67,20 @@ fn answer_named(
     requires command { work.now.command ≡ Command.Part }
     requires asked { IsAskedBy work.now asked.now }
     requires named { work.now.options.notation ≢ Notation.Path }
+    requires scanned { (n : ℕ) × (c : Tree) × Accepts asked.now.registry work.now.limits (shape_of asked.now.format) bytes.now n c }
     ensures { IfOk result (λ a. AnswersBytes work.now bytes.now a) }
 {
-    match scan(&asked.registry, &asked.format, &work.limits, bytes) {
-        Ok(_) => {
-            let Led { path, nowhere } = led_by_names(alloc, work, asked, bytes)?;
-            answer_steps(alloc, work, asked, bytes, path.as_slice(), nowhere)
-        }
-        Err(stop) => answer_stop(alloc, work, asked, bytes, stop),
-    }
+    let Led { path, nowhere } = led_by_names(alloc, work, asked, bytes)?;
+    answer_steps(alloc, work, asked, bytes, path.as_slice(), nowhere)
 }
 
 // Where the names lead. The contract allows any steps, since which part the names mean is only for display.
-fn led_by_names(alloc: Global, work: &Work, asked: &Asked, bytes: &[u8]) -> Result<Led, AllocError>
+fn led_by_names<'r, 'a>(
+    alloc: Global,
+    work: &Work,
+    asked: &'r Asked,
+    bytes: &'a [u8],
+) -> Result<Led<'r, 'a>, AllocError>
     requires named { work.now.options.notation ≢ Notation.Path }
 {
     let Asked {
@@ -74,17 +96,18 @@ fn led_by_names(alloc: Global, work: &Work, asked: &Asked, bytes: &[u8]) -> Resu
     }
 }
 
-// The bytes of the part that these steps lead to. If the steps came from names that lead nowhere, `line` says where.
+// The bytes of the part that these steps lead to. If they came from names that lead nowhere, `end` says where those end.
 fn answer_steps(
     alloc: Global,
     work: &Work,
     asked: &Asked,
     bytes: &[u8],
     path: &[PathStep],
-    line: Option<Vec<u8>>,
+    end: Option<DeadEnd<'_, '_>>,
 ) -> Result<Answer, AllocError>
     requires command { work.now.command ≡ Command.Part }
     requires asked { IsAskedBy work.now asked.now }
+    requires scanned { (n : ℕ) × (c : Tree) × Accepts asked.now.registry work.now.limits (shape_of asked.now.format) bytes.now n c }
     requires spelled { SpellsSteps work.now.options.notation (string_bytes work.now.path) (all_spelled path.now) }
     ensures { IfOk result (λ a. AnswersBytes work.now bytes.now a) }
 {
@@ -94,13 +117,12 @@ fn answer_steps(
         ..
     } = asked;
     let steps = steps_of(alloc, path)?;
-    match part(registry, format, &work.limits, bytes, steps.as_slice()) {
-        Ok(Some(part)) => found(alloc, part.bytes, work.coding()),
-        Ok(None) => {
-            let place = place_of_nowhere(alloc, work, asked, bytes, path, line);
+    match part_of_scanned(registry, format, &work.limits, bytes, steps.as_slice()) {
+        Some(part) => found(alloc, part.bytes, work.coding()),
+        None => {
+            let place = place_of_nowhere(alloc, work, asked, bytes, end);
             answer_nowhere(alloc, work, place)
         }
-        Err(stop) => answer_stop(alloc, work, asked, bytes, stop),
     }
 }
 

@@ -3,6 +3,7 @@ ghost use Rattle.std.specs.Prelude.{◌≡◌, true, false};
 ghost use Rattle.std.specs.List.{All};
 ghost use Rattle.bcs_tool_answers.specs.Places.{IsPrintable};
 
+use bcs_display_refusal::Refusal;
 use bcs_tool_command_line::Work;
 use std::alloc::Global;
 
@@ -11,6 +12,28 @@ pub fn reports_place(work: &Work) -> bool
     ensures { result ≡ true → work.now.options.quiet ≡ false }
 {
     !work.options.quiet && (!work.options.lines || work.options.json_refusals)
+}
+
+/// The line of this refusal, for people.
+pub fn place_of(alloc: Global, refusal: Option<Refusal>) -> Vec<u8>
+    ensures { All IsPrintable result.items }
+{
+    match refusal {
+        Some(refusal) => place_of_line(alloc, refusal.line(alloc).ok()),
+        None => Vec::new(alloc),
+    }
+}
+
+/// The same of an input; if refusals are requested as JSON, the members of its object.
+pub fn place_in_input(alloc: Global, work: &Work, refusal: Option<Refusal>) -> Vec<u8>
+    ensures { All IsPrintable result.items }
+{
+    match refusal {
+        Some(refusal) if work.options.json_refusals => {
+            place_of_line(alloc, refusal.members(alloc).ok())
+        }
+        refusal => place_of(alloc, refusal),
+    }
 }
 
 /// Returns this line as a place if all its bytes are printable ASCII, and an empty place otherwise. Every place is made

@@ -5,11 +5,12 @@ ghost use Rattle.bcs_tool_answers.specs.Places.{MayReport};
 ghost use Rattle.bcs_tool_answers.specs.Preparing.{IsAskedBy};
 
 use crate::answer::{Answer, placed, stopped};
-use crate::places::{place_of_line, reports_place};
+use crate::places::{place_in_input, reports_place};
 use crate::validating::Asked;
 use bcs_decode::Stop;
 use bcs_display_errors::put_limit;
-use bcs_display_pieces::stop_place;
+use bcs_display_pieces::{Stopped, stop_refusal};
+use bcs_display_refusal::Refusal;
 use bcs_tool_command_line::Work;
 use std::alloc::{AllocError, Global};
 
@@ -38,25 +39,25 @@ fn place_of_stop(alloc: Global, work: &Work, asked: &Asked, bytes: &[u8], stop: 
     if !reports_place(work) {
         return Vec::new(alloc);
     }
-    match halt_line(alloc, work, asked, bytes, stop) {
-        Ok(line) => place_of_line(alloc, line),
+    match halt_refusal(alloc, work, asked, bytes, stop) {
+        Ok(refusal) => place_in_input(alloc, work, refusal),
         Err(AllocError) => Vec::new(alloc),
     }
 }
 
-fn halt_line(
+fn halt_refusal(
     alloc: Global,
     work: &Work,
     asked: &Asked,
     bytes: &[u8],
     stop: Stop,
-) -> Result<Option<Vec<u8>>, AllocError>
+) -> Result<Option<Refusal>, AllocError>
     requires { IsAskedBy work.now asked.now }
 {
-    match stop_place(alloc, &asked.registry, &asked.format, &work.limits, bytes)? {
-        Some(mut line) => {
-            put_limit(&work.limits, stop.reason, &mut line)?;
-            Ok(Some(line))
+    match stop_refusal(alloc, &asked.registry, &asked.format, &work.limits, bytes)? {
+        Some(Stopped { mut refusal, .. }) => {
+            put_limit(&work.limits, stop.reason, &mut refusal.message)?;
+            Ok(Some(refusal))
         }
         None => Ok(None),
     }

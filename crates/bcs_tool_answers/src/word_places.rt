@@ -2,13 +2,14 @@
 ghost use Rattle.bcs_tool_answers.specs.Places.{MayReport};
 
 use crate::job_fault::JobFault;
-use crate::places::place_of_line;
+use crate::places::place_of;
 use bcs_display_errors::{
-    format_line, line_in, place_of_container, place_of_growth, place_of_path, place_of_variant,
-    registry_line,
+    container_refusal, format_refusal, growth_refusal, path_refusal, registry_refusal,
+    variant_refusal,
 };
 use bcs_display_example::{ExampleOptionsFault, ExampleTextFault};
-use bcs_display_pieces::{wrong_name_line, wrong_pointer_line};
+use bcs_display_pieces::{wrong_name, wrong_pointer};
+use bcs_display_refusal::Refusal;
 use bcs_registry::{Format, Registry, RegistryFault};
 use bcs_tool_command_line::{Command, Notation, Work};
 use std::alloc::{AllocError, Global};
@@ -21,8 +22,8 @@ pub fn place_of_words(alloc: Global, work: &Work, fault: JobFault) -> Vec<u8>
     if work.options.quiet {
         return Vec::new(alloc);
     }
-    match words_line(alloc, work, fault) {
-        Ok(line) => place_of_line(alloc, line),
+    match words_refusal(alloc, work, fault) {
+        Ok(refusal) => place_of(alloc, refusal),
         Err(_) => Vec::new(alloc),
     }
 }
@@ -39,8 +40,8 @@ pub fn place_of_difference(
     if work.options.quiet {
         return Vec::new(alloc);
     }
-    match place_of_growth(alloc, older.containers(), newer.containers()) {
-        Ok(line) => place_of_line(alloc, line),
+    match growth_refusal(alloc, older.containers(), newer.containers()) {
+        Ok(refusal) => place_of(alloc, refusal),
         Err(AllocError) => Vec::new(alloc),
     }
 }
@@ -61,57 +62,57 @@ pub fn place_of_wish(
     }
     match (fault, work.options.name.as_deref()) {
         (ExampleTextFault::Options(ExampleOptionsFault::UnknownVariant), Some(name)) => {
-            place_of_line(alloc, place_of_variant(alloc, registry, format, name).ok())
+            place_of(alloc, variant_refusal(alloc, registry, format, name).ok())
         }
         _ => Vec::new(alloc),
     }
 }
 
-fn words_line(
+fn words_refusal(
     alloc: Global,
     work: &Work,
     fault: JobFault,
-) -> Result<Option<Vec<u8>>, RegistryFault> {
+) -> Result<Option<Refusal>, RegistryFault> {
     match fault {
-        JobFault::Registry(fault) => registries_line(alloc, work, fault),
+        JobFault::Registry(fault) => registries_refusal(alloc, work, fault),
         JobFault::Growth(_) => Ok(None),
-        JobFault::BadPath => Ok(steps_line(alloc, work)?),
+        JobFault::BadPath => Ok(steps_refusal(alloc, work)?),
     }
 }
 
 // The first invalid step.
-fn steps_line(alloc: Global, work: &Work) -> Result<Option<Vec<u8>>, AllocError> {
+fn steps_refusal(alloc: Global, work: &Work) -> Result<Option<Refusal>, AllocError> {
     let word = work.path.as_str();
     match work.options.notation {
-        Notation::Path => place_of_path(alloc, word),
-        Notation::Names => Ok(Some(wrong_name_line(alloc, word)?)),
-        Notation::Pointer => Ok(Some(wrong_pointer_line(alloc, word)?)),
+        Notation::Path => path_refusal(alloc, word),
+        Notation::Names => Ok(Some(wrong_name(alloc, word)?)),
+        Notation::Pointer => Ok(Some(wrong_pointer(alloc, word)?)),
     }
 }
 
-// The line for this fault, which is in the registry or in the argument that is validated next. No argument after the one
+// The refusal for this fault, which is in the registry or in the argument that is validated next. No argument after the one
 // with the fault is examined.
-fn registries_line(
+fn registries_refusal(
     alloc: Global,
     work: &Work,
     fault: RegistryFault,
-) -> Result<Option<Vec<u8>>, RegistryFault> {
+) -> Result<Option<Refusal>, RegistryFault> {
     let is_grows = work.command == Command::Grows;
     if Registry::read(alloc, work.registry.as_slice()).is_err() {
-        let line = registry_line(alloc, work.registry.as_slice(), fault)?;
-        return if is_grows {
-            named(alloc, "OLD", line)
+        let refusal = registry_refusal(alloc, work.registry.as_slice(), fault)?;
+        return Ok(if is_grows {
+            named("OLD", refusal)
         } else {
-            Ok(line)
-        };
+            refusal
+        });
     }
     match work.command {
         Command::Check => Ok(None),
         Command::Grows => {
-            let line = registry_line(alloc, work.second.as_slice(), fault)?;
-            named(alloc, "NEW", line)
+            let refusal = registry_refusal(alloc, work.second.as_slice(), fault)?;
+            Ok(named("NEW", refusal))
         }
-        Command::Show => name_line(alloc, work),
+        Command::Show => name_refusal(alloc, work),
         Command::Example
         | Command::Schema
         | Command::Encode
@@ -121,27 +122,20 @@ fn registries_line(
         | Command::Same
         | Command::Part
         | Command::Scan => {
-            format_line(alloc, work.registry.as_slice(), work.format.as_str(), fault)
+            format_refusal(alloc, work.registry.as_slice(), work.format.as_str(), fault)
         }
     }
 }
 
-// The line, if there is one, marked with the name that the help text gives this registry.
-fn named(
-    alloc: Global,
-    name: &str,
-    line: Option<Vec<u8>>,
-) -> Result<Option<Vec<u8>>, RegistryFault> {
-    match line {
-        Some(line) => Ok(Some(line_in(alloc, name, &line)?)),
-        None => Ok(None),
-    }
+// The refusal, if there is one, in the registry that the help calls by this name.
+fn named(name: &'static str, refusal: Option<Refusal>) -> Option<Refusal> {
+    Some(refusal?.in_input(name))
 }
 
 // The name that no container has.
-fn name_line(alloc: Global, work: &Work) -> Result<Option<Vec<u8>>, RegistryFault> {
+fn name_refusal(alloc: Global, work: &Work) -> Result<Option<Refusal>, RegistryFault> {
     match work.options.name.as_deref() {
-        Some(name) => place_of_container(alloc, work.registry.as_slice(), name),
+        Some(name) => container_refusal(alloc, work.registry.as_slice(), name),
         None => Ok(None),
     }
 }

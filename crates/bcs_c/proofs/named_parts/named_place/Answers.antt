@@ -3,8 +3,8 @@ use Rattle.bcs_c.proofs.Prelude.{map, step_of, stopped}
 use Rattle.bcs_c.specs.NamedParts.{stepped}
 use Rattle.bcs_c.proofs.named_parts.named_place.Goals as goal
 
-pub returns-in-Err : goal.returns-in-Err
-returns-in-Err c = stepped c.in-Some.ensures.some [] (stopped c.in-Err.stop.reason c.in-Err.stop.place c.in-Err.ensures.stops c.stopped.ensures)
+pub returns-in-Err-scan : goal.returns-in-Err-scan
+returns-in-Err-scan c = stepped c.in-Ok-Some.ensures.some [] (stopped c.in-Err-scan.stop.reason c.in-Err-scan.stop.place c.in-Err-scan.ensures.stops c.stopped.ensures)
 
 pub returns-in-Ok-steps_of : goal.returns-in-Ok-steps_of
-returns-in-Ok-steps_of c = stepped c.in-Some.ensures.some (map step_of c.as_slice-in-Ok-steps_of.result.now) c.step_place.ensures
+returns-in-Ok-steps_of c = stepped c.in-Ok-Some.ensures.some (map step_of c.as_slice-in-Ok-steps_of.result.now) c.scanned_place.ensures

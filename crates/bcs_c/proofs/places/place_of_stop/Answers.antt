@@ -1,10 +1,11 @@
-use Rattle.bcs_c.proofs.Prelude.{no_memory, stands, told}
+use Rattle.bcs_c.proofs.Prelude.{List, subst, ℕ, Puts, no_memory, stands, told}
 use Rattle.bcs_c.proofs.places.place_of_stop.Goals as goal
 
-pub returns-in-Ok-Some-clause-answers : goal.returns-in-Ok-Some-clause-answers
-returns-in-Ok-Some-clause-answers c =
+pub returns-in-Ok-Some-in-Ok-clause-answers : goal.returns-in-Ok-Some-in-Ok-clause-answers
+returns-in-Ok-Some-in-Ok-clause-answers c =
     let ends = rw c.in-Ok-Some.field-0-is at c.in-Ok-Some.ensures.some in
-    told ends.0 c.half_of_stop.result.now ends.1 c.put.ensures.puts
+    told c.in-Ok-Some.stopped.stop c.in-Ok-Some-in-Ok.half.items ends
+    (subst (λ (b : List ℕ). Puts b c.args.out.now c.put.new.out c.put.result) c.deref.ensures.value c.put.ensures.puts)
 
 pub returns-in-Ok-None-clause-answers : goal.returns-in-Ok-None-clause-answers
 returns-in-Ok-None-clause-answers c = stands (c.in-Ok-None.ensures.none c.in-Ok-None.field-0-is) c.plain.ensures

@@ -7,11 +7,11 @@ some_of_ok (Ok x) h f = f x h
 some_of_ok (Err e) h f = tt
 
 pub returns-then-has_no_way : goal.returns-then-has_no_way
-returns-then-has_no_way c what other refused = whole c.args.refusal.now.fault (refused.0 other) (sym c.has_no_way.ensures ∙ c.if-has_no_way.true) c.new.ensures.items
+returns-then-has_no_way c what other refused = whole (refused.0 other) (sym c.has_no_way.ensures ∙ c.if-has_no_way.true) c.new.ensures.items
 
 pub returns-in-Some : goal.returns-in-Some
 returns-in-Some c =
     rw c.ok.ensures.value (some_of_ok c.pointer_of.result c.pointer_of.ensures (λ x is what other refused.
-    placed (map pointer_step_of c.in-Some.steps.items) c.args.refusal.now.fault
+    placed (map pointer_step_of c.in-Some.steps.items)
     (subst (λ o. IfSome o (λ v. MisspellsAt c.args.asked.now.registry.now c.args.asked.now.limits (shape_of c.args.asked.now.format.now) c.args.text.now (map pointer_step_of v.items) c.args.refusal.now.fault)) c.in-Some.is refused.1)
     (is ∙ ap (λ (steps : List JsonStep). pointer (map pointer_step_of steps)) c.deref.ensures.value)))

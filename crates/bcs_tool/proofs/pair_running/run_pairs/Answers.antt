@@ -22,4 +22,4 @@ returns-in_ok-compared-in-Ok-clause-ends g c =
     let work = c.args.work.now in
     let is = subst (λ (p : Result Asked Answer). IsPrepared work p) c.in-Ok.is c.in_ok-answer.ensures in
     told_pairs g.F.ByteSource.content g.F.ByteSource.is_failed g.F.ByteSource.allowance g.S.ByteSource.content g.S.ByteSource.is_failed g.S.ByteSource.allowance g.K.ByteSink.taken g.K.ByteSink.is_failed work c.args.first.now c.args.second.now c.args.out.now c.compare_lines.new.out
-    c.in_ok-compared-in-Ok.compared _ (reads_input work c.in-Ok.asked is) c.in_ok-compared-in-Ok.ensures refl refl c.place_of_pairs.ensures
+    c.in_ok-compared-in-Ok.compared _ (reads_input work c.in-Ok.asked is) c.in_ok-compared-in-Ok.ensures c.run_status.ensures refl c.place_of_pairs.ensures

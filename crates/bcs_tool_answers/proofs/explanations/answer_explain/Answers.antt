@@ -1,4 +1,4 @@
-use Rattle.bcs_tool_answers.proofs.Prelude.{Option, subst, IfOk-weaker, shape_of, Stop, EndsAt, damaged, explained, Explain}
+use Rattle.bcs_tool_answers.proofs.Prelude.{◌∙◌, Option, refl, subst, sym, true≢false, IfOk-weaker, shape_of, Stop, EndsAt, damaged, explained, Explain}
 use Rattle.bcs_tool_answers.proofs.AnswerLemmas.{is_asked, placed_answer, same_answer}
 use Rattle.bcs_tool_answers.proofs.explanations.answer_explain.Goals as goal
 
@@ -17,7 +17,7 @@ returns-then-work c =
     let P : Option Stop → Type 0 = EndsAt asked.registry c.args.work.now.limits (shape_of asked.format) c.args.bytes.now in
     let stops = subst P c.in-Some.is c.in_ok-explained.ensures in
     IfOk-weaker c.answer_stop.result _ _ (λ a is input within gives. placed_answer _ input 2 _ a is.0 is.1 is.2
-    (damaged _ _ c.args.bytes.now _ stop.reason stop.place (is_asked input Explain c.requires.command c.requires.asked within) gives stops)) c.answer_stop.ensures
+    (damaged _ _ c.args.bytes.now _ stop.reason stop.place (is_asked input Explain c.requires.command c.requires.asked within) gives stops (λ _. refl))) c.answer_stop.ensures
 
 pub returns-in_ok-damaged-in-Some : goal.returns-in_ok-damaged-in-Some
 returns-in_ok-damaged-in-Some c =
@@ -26,4 +26,5 @@ returns-in_ok-damaged-in-Some c =
     let P : Option Stop → Type 0 = EndsAt asked.registry c.args.work.now.limits (shape_of asked.format) c.args.bytes.now in
     let stops = subst P c.in-Some.is c.in_ok-explained.ensures in
     IfOk-weaker c.with_pieces-else-work.result _ _ (λ a is input within gives. same_answer _ input a 2 a.output.items is
-    (damaged _ _ c.args.bytes.now a.output.items stop.reason stop.place (is_asked input Explain c.requires.command c.requires.asked within) gives stops)) c.with_pieces-else-work.ensures
+    (damaged _ _ c.args.bytes.now a.output.items stop.reason stop.place (is_asked input Explain c.requires.command c.requires.asked within) gives stops
+    (λ json. absurd (true≢false (sym json ∙ c.if-work.false))))) c.with_pieces-else-work.ensures

@@ -1,0 +1,24 @@
+-- The appended part of a list, followed by the rest of it.
+use Rattle.std.proofs.Common.{◌≡◌, ◌∙◌, ℕ, ◌+◌, ◌<◌, ◌≤◌, List, ◌∷◌, ◌++◌, ap, sym, drop, drop_of_length-le, get_or, length, append_assoc, append-nil, flat_map, map}
+use Rattle.std.proofs.lemmas.List.{drop_more}
+use Rattle.bcs_json_spec.specs.Place.{pointer_step_of}
+use Rattle.bcs_json_spec.specs.declared.json_step.JsonStep.{JsonStep}
+use Rattle.bcs_display_errors.specs.Pointers.{marked, marked_sign, pointer, pointer_step}
+
+-- one more byte is appended
+pub sign_more : (put name : List ℕ) (i d : ℕ) → i < length name
+    → (put ++ marked_sign (get_or name i d)) ++ marked (drop (i + 1) name) ≡ put ++ marked (drop i name)
+sign_more put name i d within = append_assoc put _ _ ∙ ap (λ (left : List ℕ). put ++ marked left) (sym (drop_more name i d within))
+
+pub signs_all : (put name : List ℕ) (i : ℕ) → length name ≤ i → put ++ marked (drop i name) ≡ put
+signs_all put name i past = ap (λ (left : List ℕ). put ++ marked left) (drop_of_length-le name past) ∙ append-nil put
+
+-- one more step is appended
+pub step_more : (put : List ℕ) (steps : List JsonStep) (i : ℕ) (x : JsonStep) → i < length steps → x ≡ get_or steps i x
+    → (put ++ pointer_step (pointer_step_of x)) ++ pointer (map pointer_step_of (drop (i + 1) steps)) ≡ put ++ pointer (map pointer_step_of (drop i steps))
+step_more put steps i x within is =
+    append_assoc put _ _
+    ∙ ap (λ (left : List JsonStep). put ++ pointer (map pointer_step_of left)) (ap (λ (y : JsonStep). y ∷ drop (i + 1) steps) is ∙ sym (drop_more steps i x within))
+
+pub steps_all : (put : List ℕ) (steps : List JsonStep) (i : ℕ) → length steps ≤ i → put ++ pointer (map pointer_step_of (drop i steps)) ≡ put
+steps_all put steps i past = ap (λ (left : List JsonStep). put ++ pointer (map pointer_step_of left)) (drop_of_length-le steps past) ∙ append-nil put

@@ -1,0 +1,5 @@
+pub mod Names
+pub mod NameSteps
+pub mod NameLaws
+pub mod Labels
+pub mod Pointers
