@@ -7,16 +7,6 @@
 
 #include "include/bcs.h"
 
-/* What a call over the text of a registry is asked for, besides its input. */
-typedef struct bcs_c_ask {
-    const uint8_t *registry;
-    size_t registry_length;
-    const uint8_t *format;
-    size_t format_length;
-    uint32_t depth;
-    uint32_t nodes;
-} bcs_c_ask;
-
 /* A place for a registry that stays open between calls. It is {0} before the first bcs_c_open. */
 typedef struct bcs_c_handle {
     void *registry; /* null if no registry is open */
@@ -30,24 +20,7 @@ typedef struct bcs_c_handle_ask {
     uint32_t nodes;
 } bcs_c_handle_ask;
 
-bcs_answer bcs_c_check(const bcs_c_ask *ask);
 bcs_answer bcs_c_grows(const uint8_t *older, size_t older_length, const uint8_t *newer, size_t newer_length);
-bcs_answer bcs_c_to_bcs(const bcs_c_ask *ask, const uint8_t *text, size_t text_length, uint8_t *out, size_t out_length);
-bcs_answer bcs_c_from_bcs(const bcs_c_ask *ask, const uint8_t *bytes, size_t bytes_length, uint8_t *out,
-                          size_t out_length);
-bcs_answer bcs_c_normalise(const bcs_c_ask *ask, const uint8_t *text, size_t text_length, uint8_t *out,
-                           size_t out_length);
-bcs_answer bcs_c_compare(const bcs_c_ask *ask, const uint8_t *first, size_t first_length, const uint8_t *second,
-                         size_t second_length);
-bcs_answer bcs_c_scan(const bcs_c_ask *ask, const uint8_t *bytes, size_t bytes_length);
-bcs_answer bcs_c_part(const bcs_c_ask *ask, const uint8_t *bytes, size_t bytes_length, const uint8_t *path,
-                      size_t path_length);
-bcs_answer bcs_c_explain(const bcs_c_ask *ask, uint32_t form, const uint8_t *bytes, size_t bytes_length, uint8_t *out,
-                         size_t out_length);
-bcs_answer bcs_c_text_place(const bcs_c_ask *ask, uint32_t what, const uint8_t *text, size_t text_length, uint8_t *out,
-                            size_t out_length);
-bcs_answer bcs_c_stop_place(const bcs_c_ask *ask, uint32_t what, const uint8_t *bytes, size_t bytes_length,
-                            uint8_t *out, size_t out_length);
 bcs_answer bcs_c_registry_place(uint32_t what, const uint8_t *registry, size_t registry_length, uint8_t *out,
                                 size_t out_length);
 bcs_answer bcs_c_open(bcs_c_handle *handle, const uint8_t *registry, size_t registry_length);

@@ -18,7 +18,7 @@ ROOT = HERE.parent.parent.parent
 # How a number's type is written in C.
 NUMBERS = {"u32": "uint32_t", "u64": "uint64_t", "usize": "size_t"}
 # Structs that calls are handed.
-STRUCTS = {"&Ask": "bcs_c_ask", "&HandleAsk": "bcs_c_handle_ask"}
+STRUCTS = {"&HandleAsk": "bcs_c_handle_ask"}
 # What a call gives back.
 RESULTS = {"Answer": "bcs_answer", "": "void"}
 # The header says what the crate's pointer in a handle points to.

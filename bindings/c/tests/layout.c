@@ -4,14 +4,6 @@
 #define STANDS(type, field, place, its_size) \
     _Static_assert(offsetof(type, field) == (place) && sizeof(((type *)0)->field) == (its_size), #type "." #field)
 
-_Static_assert(sizeof(bcs_c_ask) == 40, "bcs_c_ask has 40 bytes");
-STANDS(bcs_c_ask, registry, 0, 8);
-STANDS(bcs_c_ask, registry_length, 8, 8);
-STANDS(bcs_c_ask, format, 16, 8);
-STANDS(bcs_c_ask, format_length, 24, 8);
-STANDS(bcs_c_ask, depth, 32, 4);
-STANDS(bcs_c_ask, nodes, 36, 4);
-
 _Static_assert(sizeof(bcs_answer) == 24, "bcs_answer has 24 bytes");
 STANDS(bcs_answer, status, 0, 4);
 STANDS(bcs_answer, fault, 4, 4);

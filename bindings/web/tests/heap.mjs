@@ -63,14 +63,14 @@ class Heap {
     return [place, BigInt(bytes.length)];
   }
 
-  /** What a call is asked, as bcs.h lays it out. */
-  putAsk(registry, format) {
-    const words = [...this.put(registry), ...this.put(format)];
-    const place = this.exports.take_memory(40n);
-    const view = new DataView(this.exports.memory.buffer, Number(place), 40);
+  /** What a call on a handle is asked, as proved.h lays it out. */
+  putAsk(format) {
+    const words = this.put(format);
+    const place = this.exports.take_memory(24n);
+    const view = new DataView(this.exports.memory.buffer, Number(place), 24);
     words.forEach((word, i) => view.setBigUint64(8 * i, word, true));
-    view.setUint32(32, 500, true);
-    view.setUint32(36, 0xffffffff, true);
+    view.setUint32(16, 500, true);
+    view.setUint32(20, 0xffffffff, true);
     return place;
   }
 
@@ -122,11 +122,14 @@ test('all the memory is given out, in blocks apart from one another, and then no
 
 test('a call in a full memory answers that, and before and behind it the bytes', () => {
   const heap = new Heap();
-  const ask = heap.putAsk('{}', '{"SEQ":"U16"}');
+  const ask = heap.putAsk('{"SEQ":"U16"}');
   const [text, answer, out] = [heap.put('[1,2,3]'), heap.put(' '.repeat(24)), heap.put(' '.repeat(9))];
+  const [handle] = heap.put('\0'.repeat(8));
   const [DONE, MEMORY] = [0, 6];
+  heap.exports.bcs_c_open(answer[0], handle, ...heap.put('{}'));
+  assert.equal(new DataView(heap.exports.memory.buffer).getUint32(Number(answer[0]), true), DONE);
   const isAnswered = (status) => {
-    heap.exports.bcs_c_to_bcs(answer[0], ask, ...text, ...out);
+    heap.exports.bcs_c_handle_to_bcs(answer[0], handle, ask, ...text, ...out);
     assert.equal(new DataView(heap.exports.memory.buffer).getUint32(Number(answer[0]), true), status);
     if (status === DONE) assert.deepEqual([...heap.bytes({ place: Number(out[0]), length: 7 })], [3, 1, 0, 2, 0, 3, 0]);
   };

@@ -1,5 +1,5 @@
 -- The arguments have at most one meaning, and then they aren't refused. What holds of the parsed arguments holds of the call.
-use Rattle.bcs_c.proofs.Prelude.{◌≡◌, ◌∙◌, ℕ, List, Option, Some, None, ap, arith, refl, subst, sym, Entries, Shape, one_fault, one_format_fault, same_format, same_registry, Bounds, plain, AnswersIfAsked, AsksFor, Has, RefusesAsk, RefusesSource, Request, Source, Whatever, by_texts, given, kept, no_format, no_limits, no_registry, on_handle, refused, rest, written, IsFormat, IsRegistry, RefusesFormat, RefusesRegistry, has_fault, Answer, Ask, HandleAsk, Status, Memory, Registry}
+use Rattle.bcs_c.proofs.Prelude.{◌≡◌, ◌∙◌, ℕ, List, Option, Some, None, ap, arith, refl, subst, sym, Entries, Shape, one_fault, one_format_fault, same_format, same_registry, Bounds, plain, AnswersIfAsked, AsksFor, RefusesAsk, Request, Whatever, given, no_format, no_limits, no_registry, refused, IsFormat, IsRegistry, RefusesFormat, RefusesRegistry, has_fault, Answer, Status, Memory}
 use Rattle.bcs_c.specs.Registries.{no_memory}
 use Rattle.bcs_c.specs.Asking.{On}
 use Rattle.bcs_c.specs.declared.asked.Asked.{Asked}
@@ -27,50 +27,28 @@ same_bounds l m depth nodes =
     let Same : ℕ → ℕ → Type 0 = λ d n. l ≡ record { depth = d; nodes = n } in
     subst (λ (n : ℕ). Same m.depth n) nodes (subst (λ (d : ℕ). Same d l.nodes) depth refl)
 
--- a source has one registry, which is refused only if memory runs out
-one_source : (from : Source) (r q : Entries) → Has from r → Has from q → r ≡ q
-one_source (written text) r q h k = one_registry text r q h k
-one_source (kept registry) r q h k = let same : Some r ≡ Some q = sym h ∙ k in cc
-
-source_stands : (from : Source) (r : Entries) (a : Answer) → Has from r → RefusesSource from a → a ≡ plain Memory
-source_stands (written text) r a h why = registry_stands text r Registry a h why
-source_stands (kept registry) r a h why = let none : Some r ≡ None = sym h ∙ why.0 in cc
+-- at most one registry is open
+one_open : (opened : Option Entries) (r q : Entries) → opened ≡ Some r → opened ≡ Some q → r ≡ q
+one_open opened r q h k = let same : Some r ≡ Some q = sym h ∙ k in cc
 
 module _ (q : Request) where
   -- arguments that can be read are refused only if memory runs out
   pub ask_stands : (r : Entries) (l : Bounds) (s : Shape) (a : Answer) → AsksFor q r l s → RefusesAsk q a → a ≡ plain Memory
-  ask_stands r l s a h (no_registry why) = source_stands q.source r a h.has why
+  ask_stands r l s a h (no_registry none is) = let no : Some r ≡ None = sym h.has ∙ none in cc
   ask_stands r l s a h (no_format x is why) =
-      let same = one_source q.source x r is h.has in
+      let same = one_open q.opened x r is h.has in
       format_stands r q.format s a h.is_format (subst (λ (y : Entries). RefusesFormat y q.format a) same why)
   ask_stands r l s a h (no_limits x t is form over same) = absurd (omega (arith, h.allowed, over))
 
   -- what holds of the parsed arguments holds of every meaning of the arguments
   pub whatever : (P : Entries → Bounds → Shape → Type 0) (r : Entries) (l : Bounds) (s : Shape) → AsksFor q r l s → P r l s → Whatever q P
   whatever P r l s h p x m t k =
-      let registry : r ≡ x = one_source q.source r x h.has k.has in
+      let registry : r ≡ x = one_open q.opened r x h.has k.has in
       let shape : s ≡ t = same_format q.format s t h.is_format.0 k.is_format.0 in
       let depth : l.depth ≡ m.depth = cc (h.depth, k.depth) in
       let nodes : l.nodes ≡ m.nodes = cc (h.nodes, k.nodes) in
       let limits = same_bounds l m depth nodes in
       subst (λ (y : Shape). P x m y) shape (subst (λ (y : Bounds). P x y s) limits (subst (λ (y : Entries). P y l s) registry p))
-
--- ---- a registry, once it is parsed
-
-module _ (ask : Ask) (r : Entries) (is : IsRegistry ask.registry.now r) where
-  pub by_text : (x : Entries) (l : Bounds) (s : Shape) → AsksFor (on_handle (Some r) (rest ask)) x l s → AsksFor (by_texts ask) x l s
-  by_text x l s h =
-      let same : r ≡ x = let k : Some r ≡ Some x = h.has in cc in
-      record { has = subst (λ (y : Entries). IsRegistry ask.registry.now y) same is; is_format = h.is_format; depth = h.depth; nodes = h.nodes; allowed = h.allowed }
-
-  pub refuses : (a : Answer) → RefusesAsk (on_handle (Some r) (rest ask)) a → RefusesAsk (by_texts ask) a
-  refuses a (no_registry why) = let none : Some r ≡ None = why.0 in cc
-  refuses a (no_format x has why) =
-      let same : r ≡ x = let k : Some r ≡ Some x = has in cc in
-      no_format x (subst (λ (y : Entries). IsRegistry ask.registry.now y) same is) why
-  refuses a (no_limits x s has form over same) =
-      let same_registry : r ≡ x = let k : Some r ≡ Some x = has in cc in
-      no_limits x s (subst (λ (y : Entries). IsRegistry ask.registry.now y) same_registry is) form over same
 
 -- ---- parsed arguments
 

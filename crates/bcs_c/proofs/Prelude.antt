@@ -46,7 +46,7 @@ pub use denote.Param.Send.{AllSend, enum_send, IsSend, owning_send, part_keyless
 pub use denote.Struct.Owning.{fields}
 pub use denote.Struct.Struct.{exits_of}
 pub use Rattle.bcs_c.specs.Answers.{placed, plain, refusal, sized, stop_at}
-pub use Rattle.bcs_c.specs.Asking.{AnswersIfAsked, AsksFor, by_texts, given, Has, IsUnlessMemory, kept, no_format, no_limits, no_registry, on_handle, refused, RefusesAsk, RefusesSource, Request, rest, Source, Whatever, written}
+pub use Rattle.bcs_c.specs.Asking.{AnswersIfAsked, AsksFor, given, IsUnlessMemory, no_format, no_limits, no_registry, on_handle, refused, RefusesAsk, Request, Whatever}
 pub use Rattle.bcs_c.specs.Compared.{AnswersComparing, different, equal, RefusesOne}
 pub use Rattle.bcs_c.specs.Denoted.{AnswersText, put}
 pub use Rattle.bcs_c.specs.Holding.{holds}
@@ -61,7 +61,6 @@ pub use Rattle.bcs_c.specs.Shown.{too_nested}
 pub use Rattle.bcs_c.specs.contracts.handle.Handle.{the_row, the_type}
 pub use Rattle.bcs_c.specs.contracts.raw_box.RawBox.into_box.{clauses, ended}
 pub use Rattle.bcs_c.specs.declared.answer.Answer.{Answer}
-pub use Rattle.bcs_c.specs.declared.ask.Ask.{Ask}
 pub use Rattle.bcs_c.specs.declared.ask.HandleAsk.{HandleAsk}
 pub use Rattle.bcs_c.specs.declared.fault.Fault.TheVariants.{Text}
 pub use Rattle.bcs_c.specs.declared.handle.Handle.{Handle}

@@ -1,64 +1,40 @@
--- The arguments of a call, with a registry that is given as JSON or open, and when they are refused.
+-- The arguments of a call on a handle, and when they are refused.
 use Rattle.std.specs.Prelude.{◌≡◌, ◌≢◌, ◌<◌, ◌≤◌, ℕ, List, Option, Some, None}
 use Rattle.bcs_registry_model.specs.Container.{Entries}
 use Rattle.bcs_registry_model.specs.Shape.{Shape}
 use Rattle.bcs_registry_model.specs.View.{shape_of}
 use Rattle.bcs_value_model.specs.Limits.{Bounds}
 use Rattle.bcs_c.specs.Answers.{plain}
-use Rattle.bcs_c.specs.Registries.{IsFormat, IsRegistry, RefusesFormat, RefusesRegistry}
+use Rattle.bcs_c.specs.Registries.{IsFormat, RefusesFormat}
 use Rattle.bcs_c.specs.declared.answer.Answer.{Answer}
-use Rattle.bcs_c.specs.declared.ask.Ask.{Ask}
 use Rattle.bcs_c.specs.declared.ask.HandleAsk.{HandleAsk}
 use Rattle.bcs_c.specs.declared.asked.Asked.{Asked}
-use Rattle.bcs_c.specs.declared.status.Status.TheVariants.{Closed, Limits, Memory, Registry}
+use Rattle.bcs_c.specs.declared.status.Status.TheVariants.{Closed, Limits, Memory}
 
--- the source of a registry: JSON that represents it, or a handle, in which it may be open
-pub data Source : Type 0 where
-  written : List ℕ → Source
-  kept : Option Entries → Source
-
--- the JSON represents this registry, or this registry is open
-abbrev pub Has : Source → Entries → Type 0
-Has (written text) r = IsRegistry text r
-Has (kept registry) r = registry ≡ Some r
-
--- the JSON is refused, or no registry is open
-abbrev pub RefusesSource : Source → Answer → Type 0
-RefusesSource (written text) a = RefusesRegistry text Registry a
-RefusesSource (kept registry) a = (registry ≡ None) × (a ≡ plain Closed)
-
--- the arguments of a call besides its input
+-- the arguments of a call besides its input: the registry that is open in the handle, or none, and the rest
 pub record Request : Type 0 where
-  pub source : Source
+  pub opened : Option Entries
   pub format : List ℕ
   pub depth : ℕ
   pub nodes : ℕ
 
--- those of a call that receives the registry as JSON
-abbrev pub by_texts : Ask → Request
-by_texts ask = record { source = written ask.registry.now; format = ask.format.now; depth = ask.depth; nodes = ask.nodes }
-
 -- those of a call on a handle, in which this registry is open, or none
 abbrev pub on_handle : Option Entries → HandleAsk → Request
-on_handle registry ask = record { source = kept registry; format = ask.format.now; depth = ask.depth; nodes = ask.nodes }
-
--- the arguments besides the registry
-abbrev pub rest : Ask → HandleAsk
-rest ask = record { format = ask.format; depth = ask.depth; nodes = ask.nodes }
+on_handle registry ask = record { opened = registry; format = ask.format.now; depth = ask.depth; nodes = ask.nodes }
 
 -- the arguments mean this registry, this format and these limits, which are allowed
 pub record AsksFor (q : Request) (registry : Entries) (limits : Bounds) (s : Shape) : Type 0 where
-  pub has : Has q.source registry
+  pub has : q.opened ≡ Some registry
   pub is_format : IsFormat registry q.format s
   pub depth : limits.depth ≡ q.depth
   pub nodes : limits.nodes ≡ q.nodes
   pub allowed : q.depth ≤ 500
 
--- the arguments are refused: the registry, or else the format, or else the depth
+-- the arguments are refused: no registry is open, or else the format, or else the depth
 pub data RefusesAsk (q : Request) (a : Answer) : Type 0 where
-  no_registry : RefusesSource q.source a → RefusesAsk q a
-  no_format : (r : Entries) → Has q.source r → RefusesFormat r q.format a → RefusesAsk q a
-  no_limits : (r : Entries) (s : Shape) → Has q.source r → IsFormat r q.format s → 500 < q.depth → a ≡ plain Limits → RefusesAsk q a
+  no_registry : q.opened ≡ None → a ≡ plain Closed → RefusesAsk q a
+  no_format : (r : Entries) → q.opened ≡ Some r → RefusesFormat r q.format a → RefusesAsk q a
+  no_limits : (r : Entries) (s : Shape) → q.opened ≡ Some r → IsFormat r q.format s → 500 < q.depth → a ≡ plain Limits → RefusesAsk q a
 
 -- the arguments are valid, and this holds of what they mean; or they are refused with this answer
 pub data AnswersIfAsked (q : Request) (a : Answer) (P : Entries → Bounds → Shape → Type 0) : Type 0 where

@@ -2,32 +2,18 @@
 ghost use Rattle.std.specs.Prelude.{◌≡◌, IfErr, IfOk};
 ghost use Rattle.std.specs.declared.option.Option.TheVariants.{Some};
 ghost use Rattle.bcs_registry_model.specs.View.{shape_of};
-ghost use Rattle.bcs_c.specs.Asking.{AsksFor, RefusesAsk, by_texts, on_handle, rest};
+ghost use Rattle.bcs_c.specs.Asking.{AsksFor, RefusesAsk, on_handle};
 ghost use Rattle.bcs_c.specs.Keeping.{Knows};
 
 use crate::answer::Answer;
 use crate::asked::Lent;
 use crate::handle::Handle;
-use crate::open_registry::{OpenRegistry, open_registry};
+use crate::open_registry::OpenRegistry;
 use crate::status::Status;
 use bcs_value::Limits;
 use std::alloc::Global;
 
-/// The JSON of the registry and of the format, and the limits.
-#[repr(C)]
-#[derive(Clone, Copy)]
-pub struct Ask<'a> {
-    /// The JSON of the registry.
-    pub registry: &'a [u8],
-    /// The JSON of the format.
-    pub format: &'a [u8],
-    /// The number of containers that may be open at once, at most 500.
-    pub depth: u32,
-    /// The number of nodes that a value may have.
-    pub nodes: u32,
-}
-
-/// The same arguments for an open registry.
+/// The format and the limits, for an open registry.
 #[repr(C)]
 #[derive(Clone, Copy)]
 pub struct HandleAsk<'a> {
@@ -37,35 +23,6 @@ pub struct HandleAsk<'a> {
     pub depth: u32,
     /// The number of nodes that a value may have.
     pub nodes: u32,
-}
-
-impl<'a> Ask<'a> {
-    /// The arguments besides the registry.
-    pub(crate) fn rest(&self) -> HandleAsk<'a>
-        ensures { result ≡ rest self.now }
-    {
-        HandleAsk {
-            format: self.format,
-            depth: self.depth,
-            nodes: self.nodes,
-        }
-    }
-}
-
-/// Parses the arguments: the registry, the format, then the limits.
-pub(crate) fn read_ask(alloc: Global, ask: &Ask) -> Result<Lent, Answer>
-    ensures ok { IfOk result (λ lent. AsksFor (by_texts ask.now) lent.opened.value lent.limits (shape_of lent.known.format)) }
-    ensures knows { IfOk result (λ lent. Knows lent.opened.value lent.known) }
-    ensures err { IfErr result (λ a. RefusesAsk (by_texts ask.now) a) }
-{
-    let opened = match open_registry(alloc, ask.registry) {
-        Ok(opened) => opened,
-        Err(fault) => return Err(Answer::registry_refusal(Status::Registry, fault)),
-    };
-    match lend(alloc, opened, &ask.rest()) {
-        Ok(lent) => Ok(lent),
-        Err(refused) => Err(refused.1),
-    }
 }
 
 /// Parses the arguments for an open registry: the format, then the limits. If one is refused, returns the registry.

@@ -1,37 +1,17 @@
 //! Bytes piece by piece, for C.
 ghost use Rattle.std.specs.Prelude.{◌≡◌, ◌≢◌};
-ghost use Rattle.bcs_c.specs.Asking.{AnswersIfAsked, On, by_texts};
+ghost use Rattle.bcs_c.specs.Asking.{On};
 ghost use Rattle.bcs_c.specs.Explained.{AnswersExplained, form_numbered};
 ghost use Rattle.bcs_c.specs.Statuses.{status_number};
 ghost use Rattle.bcs_c.specs.declared.status.Status.TheVariants.{Done};
 
 use crate::answer::Answer;
-use crate::ask::{Ask, read_ask};
 use crate::asked::Asked;
 use crate::output::put;
 use crate::status::Status;
 use bcs_display_pieces::explain_text;
 use bcs_display_text::style::{Form, Paint, Style};
 use std::alloc::Global;
-
-/// Writes the pieces of the input to the start of the output. The answer also reports where it stops being a value.
-#[unsafe(no_mangle)]
-pub extern "C" fn bcs_c_explain(
-    alloc: Global,
-    ask: &Ask,
-    form: u32,
-    bytes: &[u8],
-    out: &mut [u8],
-) -> Answer
-    ensures answers { AnswersIfAsked (by_texts ask.now) result (λ r l s. AnswersExplained r l s bytes.now out.old out.new result) }
-    ensures untouched { result.status ≢ status_number Done → out.new ≡ out.old }
-{
-    let lent = match read_ask(alloc, ask) {
-        Ok(lent) => lent,
-        Err(answer) => return answer,
-    };
-    explanation(alloc, &lent.asked(), form, bytes, out)
-}
 
 /// Writes the pieces of the input to the start of the output.
 pub(crate) fn explanation(

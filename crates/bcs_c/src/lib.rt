@@ -4,7 +4,6 @@
 mod answer;
 mod ask;
 mod asked;
-mod checking;
 mod documents;
 mod explaining;
 mod fault;

@@ -10,34 +10,17 @@ ghost use Rattle.bcs_decode_parts.specs.Parts.{part_at};
 ghost use Rattle.bcs_decode_parts.specs.Steps.{step_of};
 ghost use Rattle.bcs_decode_parts.specs.PathSteps.{all_spelled};
 ghost use Rattle.bcs_c.specs.Answers.{plain, stop_at};
-ghost use Rattle.bcs_c.specs.Asking.{AnswersIfAsked, IsUnlessMemory, On, Whatever, by_texts};
+ghost use Rattle.bcs_c.specs.Asking.{IsUnlessMemory, On};
 ghost use Rattle.bcs_c.specs.Parts.{AnswersPart, AnswersSteps, Finds, IsPath, RefusesPath, Steps};
 ghost use Rattle.bcs_c.specs.declared.status.Status.TheVariants.{Memory};
 
 use crate::answer::Answer;
-use crate::ask::{Ask, read_ask};
 use crate::asked::Asked;
 use crate::fault::Fault;
 use crate::status::Status;
 use bcs_decode::{Step, part};
 use bcs_decode_parts::{PathFault, PathStep, read_path, steps_of};
 use std::alloc::Global;
-
-/// Finds the part that the path leads to, within the value at the start of the input.
-#[unsafe(no_mangle)]
-pub extern "C" fn bcs_c_part(alloc: Global, ask: &Ask, bytes: &[u8], path: &[u8]) -> Answer
-    ensures answers { AnswersIfAsked (by_texts ask.now) result (λ r l s. AnswersPart r l s bytes.now path.now result) }
-    ensures only { Whatever (by_texts ask.now) (λ r l s. (steps : Steps) (n : ℕ) (c : Tree) → IsPath path.now steps → Accepts r l s bytes.now n c
-        → result ≢ plain Memory → Finds r bytes.now (part_at r steps (of s) c) result) }
-    ensures stopped { Whatever (by_texts ask.now) (λ r l s. (steps : Steps) (e : Reason) (o : ℕ) → IsPath path.now steps → Stops r l s bytes.now e o
-        → IsUnlessMemory result (stop_at e o)) }
-{
-    let lent = match read_ask(alloc, ask) {
-        Ok(lent) => lent,
-        Err(answer) => return answer,
-    };
-    path_place(alloc, &lent.asked(), bytes, path)
-}
 
 /// Finds the part that the path leads to, within the value at the start of the input.
 pub(crate) fn path_place(alloc: Global, asked: &Asked, bytes: &[u8], path: &[u8]) -> Answer

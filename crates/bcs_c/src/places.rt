@@ -4,13 +4,12 @@ ghost use Rattle.std.specs.declared.option.Option.TheVariants.{Some};
 ghost use Rattle.bcs_json_spec.specs.declared.json_fault.JsonFault.TheVariants.{OutOfMemory};
 ghost use Rattle.bcs_json.specs.Refusing.{IsRefusedAs};
 ghost use Rattle.bcs_registry_model.specs.View.{shape_of};
-ghost use Rattle.bcs_c.specs.Asking.{AnswersIfAsked, On, by_texts};
+ghost use Rattle.bcs_c.specs.Asking.{On};
 ghost use Rattle.bcs_c.specs.Places.{AnswersRegistryPlace, AnswersStopPlace, AnswersTextPlace, IsWhere, is_of_whole};
 ghost use Rattle.bcs_c.specs.Statuses.{status_number};
 ghost use Rattle.bcs_c.specs.declared.status.Status.TheVariants.{Done};
 
 use crate::answer::Answer;
-use crate::ask::{Ask, read_ask};
 use crate::asked::Asked;
 use crate::output::put;
 use crate::status::Status;
@@ -25,25 +24,6 @@ use std::alloc::{AllocError, Global};
 pub(crate) const WHERE: u32 = 0;
 /// Requests the message.
 pub(crate) const WANTED: u32 = 1;
-
-/// Writes where a document is refused, or what was expected there, to the start of the output.
-#[unsafe(no_mangle)]
-pub extern "C" fn bcs_c_text_place(
-    alloc: Global,
-    ask: &Ask,
-    what: u32,
-    text: &[u8],
-    out: &mut [u8],
-) -> Answer
-    ensures answers { AnswersIfAsked (by_texts ask.now) result (λ r l s. AnswersTextPlace r l s what text.now out.old out.new result) }
-    ensures untouched { result.status ≢ status_number Done → out.new ≡ out.old }
-{
-    let lent = match read_ask(alloc, ask) {
-        Ok(lent) => lent,
-        Err(answer) => return answer,
-    };
-    text_place(alloc, &lent.asked(), what, text, out)
-}
 
 /// Writes where a document is refused, or what was expected there, to the start of the output.
 pub(crate) fn text_place(
@@ -130,25 +110,6 @@ fn words_of_text(
     words.extend_from_slice(b": ").ok()?;
     words.extend_from_slice(&told.message).ok()?;
     Some(words)
-}
-
-/// Writes the field path to where bytes stop being a value, or what was expected there, to the start of the output.
-#[unsafe(no_mangle)]
-pub extern "C" fn bcs_c_stop_place(
-    alloc: Global,
-    ask: &Ask,
-    what: u32,
-    bytes: &[u8],
-    out: &mut [u8],
-) -> Answer
-    ensures answers { AnswersIfAsked (by_texts ask.now) result (λ r l s. AnswersStopPlace r l s bytes.now out.old out.new result) }
-    ensures untouched { result.status ≢ status_number Done → out.new ≡ out.old }
-{
-    let lent = match read_ask(alloc, ask) {
-        Ok(lent) => lent,
-        Err(answer) => return answer,
-    };
-    place_of_stop(alloc, &lent.asked(), what, bytes, out)
 }
 
 /// Writes the field path to where bytes stop being a value, or what was expected there, to the start of the output.

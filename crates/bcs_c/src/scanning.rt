@@ -5,30 +5,15 @@ ghost use Rattle.bcs_decode_spec.specs.Accepting.{Accepts};
 ghost use Rattle.bcs_decode_spec.specs.Stopping.{Stops};
 ghost use Rattle.bcs_decode_spec.specs.declared.reason.Reason.{Reason};
 ghost use Rattle.bcs_c.specs.Answers.{sized, stop_at};
-ghost use Rattle.bcs_c.specs.Asking.{AnswersIfAsked, IsUnlessMemory, On, Whatever, by_texts};
+ghost use Rattle.bcs_c.specs.Asking.{IsUnlessMemory, On};
 ghost use Rattle.bcs_c.specs.Scanned.{AnswersScan};
 ghost use Rattle.bcs_c.specs.declared.status.Status.TheVariants.{Done};
 
 use crate::answer::Answer;
-use crate::ask::{Ask, read_ask};
 use crate::asked::Asked;
 use crate::status::Status;
 use bcs_decode::scan;
 use std::alloc::Global;
-
-/// Returns the length of the value at the start of the input.
-#[unsafe(no_mangle)]
-pub extern "C" fn bcs_c_scan(alloc: Global, ask: &Ask, bytes: &[u8]) -> Answer
-    ensures answers { AnswersIfAsked (by_texts ask.now) result (λ r l s. AnswersScan r l s bytes.now result) }
-    ensures only { Whatever (by_texts ask.now) (λ r l s. (n : ℕ) (c : Tree) → Accepts r l s bytes.now n c → IsUnlessMemory result (sized Done n)) }
-    ensures stopped { Whatever (by_texts ask.now) (λ r l s. (e : Reason) (o : ℕ) → Stops r l s bytes.now e o → IsUnlessMemory result (stop_at e o)) }
-{
-    let lent = match read_ask(alloc, ask) {
-        Ok(lent) => lent,
-        Err(answer) => return answer,
-    };
-    value_length(&lent.asked(), bytes)
-}
 
 /// Returns the length of the value at the start of the input.
 pub(crate) fn value_length(asked: &Asked, bytes: &[u8]) -> Answer
