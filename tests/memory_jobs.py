@@ -56,7 +56,7 @@ WORDS_AND_ANSWERS = [
         hints=3,
     ),
     Job(0, "\xcc\xed", ["part", "--raw", "@registry", "S", "inner", "@bytes"]),
-    Job(0, "cced", ["encode", "{}", I16, "@number", "-o", "/dev/stdout"], unwritten=20),
+    Job(0, "cced", ["encode", "{}", I16, "@number", "-o", "/dev/stdout"]),
     Job(0, "zO0=", ["encode", "--base64", "{}", I16, "@number"]),
     Job(0, "zO0=", ["part", "--base64", "@registry", "S", "inner", "@base64"]),
     Job(

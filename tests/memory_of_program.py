@@ -20,7 +20,7 @@ class Job(NamedTuple):
 
     The text is that of both streams, in which * represents any text. If `place` isn't empty, it is the line on standard
     error that follows `text`. At most `hints` runs may answer though a request was refused, and at most `left_out` runs
-    may leave out the place, and at most `unwritten` runs may report that the file of `-o` can't be written.
+    may leave out the place.
     """
 
     status: int
@@ -29,7 +29,6 @@ class Job(NamedTuple):
     place: str = ""
     hints: int = 1
     left_out: int = 0
-    unwritten: int = 0
 
     def name(self) -> str:
         return f"bcs {' '.join(self.words)}"
@@ -43,7 +42,6 @@ class Ending(NamedTuple):
     note: str
 
 
-UNWRITTEN = Ending(4, "", "fault: write\nin the file /dev/stdout")
 
 
 class Runs(NamedTuple):
@@ -111,11 +109,8 @@ class Program:
             raise Failed(
                 f"{job.name()}: {left} runs leave out their line on standard error, and at most {job.left_out} may"
             )
-        unwritten = sum(ending == UNWRITTEN for _, ending in refused)
-        if unwritten > job.unwritten:
-            raise Failed(f"{job.name()}: {unwritten} runs can't write, and at most {job.unwritten} may report that")
         for number, ending in refused:
-            if ending not in (bare, UNWRITTEN) and not is_out_of_memory(job, wanted, ending):
+            if ending != bare and not is_out_of_memory(job, wanted, ending):
                 raise Failed(f"{job.name()} with request {number} refused: {told(ending)}")
         return len(again), left
 

@@ -4,12 +4,14 @@ use Rattle.bcs_tool.specs.Delivering.{Delivers, FailsToStore, Finishes, failed, 
 use Rattle.bcs_tool.specs.HeldOutput.{held_bytes, ran_out}
 use Rattle.bcs_tool.specs.OutputFile.{Stage}
 use Rattle.bcs_tool.specs.declared.held_output.HeldOutput.{HeldOutput}
+use Rattle.bcs_tool.specs.declared.output_file.OpenFailed.TheVariants.{Refused, OutOfMemory}
 use Rattle.bcs_tool.proofs.EndingLemmas.{report_status}
 
 module _ {F S O T E : Type 0} (remaining : F → Option (List ℕ)) (content : S → Option (List ℕ)) (has_stopped : S → Bool) (allowance : S → ℕ)
     (taken : O → Option (List ℕ)) (is_failed : O → Bool) (stage : T → Stage) (received : T → Option (List ℕ)) (told : E → Option (List ℕ)) (has_failed : E → Bool) where
   fails_status : (quiet : Bool) (name bytes : List ℕ) (file file' : T) (outcome : Outcome) → FailsToStore stage received quiet name bytes file file' outcome → outcome.status ≡ 4
-  fails_status quiet name bytes file file' outcome (unopened keeps cause is) = is.fault.status
+  fails_status quiet name bytes file file' outcome (unopened keeps (Refused cause) is) = is.fault.status
+  fails_status quiet name bytes file file' outcome (unopened keeps OutOfMemory is) = is.fault.status
   fails_status quiet name bytes file file' outcome (unstored part is) = is.fault.status
 
   delivered_status : (job : Job) (quiet : Bool) (name : List ℕ) (input input' : S) (empty held : HeldOutput) (run : Outcome) (file file' : T) (errors errors' : E) (status : ℕ)

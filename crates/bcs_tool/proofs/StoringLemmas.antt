@@ -1,6 +1,9 @@
 -- What became of FILE.
-use Rattle.std.proofs.Common.{◌≡◌, ◌⊎◌, ◌∙◌, ℕ, Bool, List, ap, false, inl, inr, true}
-use Rattle.bcs_tool.specs.OutputFile.{Stage, beside, emptied, renamed, replaced, synced, unsynced}
+use Rattle.std.specs.Prelude.{IfErr, IfOk, Option, Result, Ok, Err}
+use Rattle.std.proofs.Common.{◌≡◌, ◌⊎◌, ◌∙◌, ℕ, Bool, List, ap, false, inl, inr, length, subst, sym, take, true}
+use Rattle.std.proofs.Math.Seq.{take-length}
+use Rattle.std.specs.Io.KnownBytes.{Appends}
+use Rattle.bcs_tool.specs.OutputFile.{IsCommitted, IsCommittedInPart, IsPut, IsPutInPart, Receives, Stage, beside, emptied, renamed, replaced, synced, unsynced}
 
 -- all calls succeeded
 pub stored_stage : (empty last : Stage) (name : List ℕ) → (empty ≡ beside false name) ⊎ (empty ≡ emptied name)
@@ -15,3 +18,28 @@ unstored_stage empty last name (inl h) (inl next) = inl (false, next ∙ ap unsy
 unstored_stage empty last name (inl h) (inr next) = inl (true, next ∙ ap (λ (at : Stage). synced (unsynced at)) h)
 unstored_stage empty last name (inr h) (inl next) = inr (next ∙ ap unsynced h)
 unstored_stage empty last name (inr h) (inr next) = inr (next ∙ ap (λ (at : Stage). synced (unsynced at)) h)
+
+module _ {T : Type 0} (stage : T → Stage) (received : T → Option (List ℕ)) {A E : Type 0} (bytes : List ℕ) (old mid new : T) (got : Receives stage received bytes old mid) where
+  -- all bytes were written, and then the file got its name
+  pub put_all : (r : Result A E) → IfOk r (λ (x : A). IsCommitted stage received mid new) → IfOk r (λ (x : A). IsPut stage received bytes old new)
+  put_all (Ok x) is = record {
+    appended = subst (λ (known : Option (List ℕ)). Appends (received old) known bytes) (sym is.1) got.appended;
+    next = is.0 ∙ ap (λ (at : Stage). renamed (synced at)) got.next;
+  }
+  put_all (Err e) is = tt
+
+  part_stage : (stage new ≡ stage mid) ⊎ (stage new ≡ synced (stage mid)) → (stage new ≡ unsynced (stage old)) ⊎ (stage new ≡ synced (unsynced (stage old)))
+  part_stage (inl h) = inl (h ∙ got.next)
+  part_stage (inr h) = inr (h ∙ ap synced got.next)
+
+  -- all bytes were written, and then a call failed
+  pub put_part : (r : Result A E) → IfErr r (λ (e : E). IsCommittedInPart stage received mid new) → IfErr r (λ (e : E). IsPutInPart stage received bytes old new)
+  put_part (Ok x) is = tt
+  put_part (Err e) is =
+      let all : Appends (received old) (received mid) (take (length bytes) bytes) =
+      subst (λ (text : List ℕ). Appends (received old) (received mid) text) (sym (take-length bytes)) got.appended in
+      record {
+        n = length bytes;
+        appended = subst (λ (known : Option (List ℕ)). Appends (received old) known (take (length bytes) bytes)) (sym is.1) all;
+        next = part_stage is.0;
+      }

@@ -11,6 +11,8 @@ use Rattle.bcs_tool.specs.HeldOutput.{held_bytes, ran_out}
 use Rattle.bcs_tool.specs.OutputFile.{IsStored, IsUnstored, Keeps, Stage}
 use Rattle.bcs_tool.specs.Running.{PutFront}
 use Rattle.bcs_tool.specs.declared.held_output.HeldOutput.{HeldOutput}
+use Rattle.bcs_tool.specs.declared.output_file.OpenFailed.{OpenFailed}
+use Rattle.bcs_tool.specs.declared.output_file.OpenFailed.TheVariants.{Refused, OutOfMemory}
 
 -- a job that has no answer, with this note
 pub record HasFailed (text : List ℕ) (outcome : Outcome) : Type 0 where
@@ -22,15 +24,20 @@ pub record IsUnwritten (quiet : Bool) (name : List ℕ) (cause : List ℕ) (outc
   pub fault : HasFailed (codes "fault: write") outcome
   pub place : ReportsPlace quiet (file_text name ++ cause) outcome.place.items
 
--- memory ran out before the whole answer was held
+-- memory ran out before a file was opened
 pub record RanOut (outcome : Outcome) : Type 0 where
   pub fault : HasFailed (codes "fault: memory") outcome
   pub place : outcome.place.items ≡ []
 
+-- the file of `--output` couldn't be opened
+abbrev pub IsUnopenedFile : Bool → List ℕ → OpenFailed → Outcome → Type 0
+IsUnopenedFile quiet name (Refused cause) outcome = IsUnwritten quiet name (cause_text cause) outcome
+IsUnopenedFile quiet name OutOfMemory outcome = RanOut outcome
+
 module _ {T : Type 0} (stage : T → Stage) (received : T → Option (List ℕ)) where
   -- FILE couldn't be opened; or it couldn't be written or replaced
   pub data FailsToStore (quiet : Bool) (name bytes : List ℕ) (old new : T) (outcome : Outcome) : Type 0 where
-    unopened : Keeps stage received old new → (cause : OpenCause) → IsUnwritten quiet name (cause_text cause) outcome
+    unopened : Keeps stage received old new → (why : OpenFailed) → IsUnopenedFile quiet name why outcome
         → FailsToStore quiet name bytes old new outcome
     unstored : IsUnstored stage received name bytes old new → IsUnwritten quiet name [] outcome → FailsToStore quiet name bytes old new outcome
 

@@ -71,6 +71,14 @@ module _ {T : Type 0} (stage : T → Stage) (received : T → Option (List ℕ))
     Replaces old new (Ok a) = (stage new ≡ renamed (stage old)) × (received new ≡ received old)
     Replaces old new (Err e) = Keeps old new
 
+  -- the open file is on the disk, and then got FILE's name
+  abbrev pub IsCommitted : T → T → Type 0
+  IsCommitted old new = (stage new ≡ renamed (synced (stage old))) × (received new ≡ received old)
+
+  -- one of these calls failed: it has not got FILE's name
+  abbrev pub IsCommittedInPart : T → T → Type 0
+  IsCommittedInPart old new = ((stage new ≡ stage old) ⊎ (stage new ≡ synced (stage old))) × (received new ≡ received old)
+
   -- these calls were made, one after the other: the open file has all bytes, is on the disk, and has FILE's name
   pub record IsPut (bytes : List ℕ) (old new : T) : Type 0 where
     pub appended : Appends (received old) (received new) bytes

@@ -1,12 +1,12 @@
 //! Where the answer of a job goes: to standard output, or with `--output` to a file.
 ghost use Rattle.std.specs.Prelude.{IfErr, IfOk};
-ghost use Rattle.bcs_tool.specs.Delivering.{Delivers, FailsToStore, Finishes, IsUnwritten, PrintsAnswer, RanOut};
+ghost use Rattle.bcs_tool.specs.Delivering.{Delivers, FailsToStore, Finishes, IsUnopenedFile, IsUnwritten, PrintsAnswer, RanOut};
 ghost use Rattle.bcs_tool.specs.OutputFile.{IsStored};
 ghost use Rattle.bcs_tool_command_line.specs.FaultPlaces.{cause_text};
 
 use crate::held_output::HeldOutput;
 use crate::input_files::InputFiles;
-use crate::output_file::OutputFile;
+use crate::output_file::{OpenFailed, OutputFile};
 use crate::performing::perform;
 use crate::reporting::print_report;
 use crate::running::failed;
@@ -91,12 +91,22 @@ fn store<T: OutputFile>(
     ensures whole { IfOk result (λ _. IsStored T.stage T.received name.now bytes.now file.old file.new) }
     ensures fault { IfErr result (FailsToStore T.stage T.received quiet name.now bytes.now file.old file.new) }
 {
-    if let Err(cause) = file.open(name) {
-        return Err(unwritten(alloc, quiet, name, cause));
+    if let Err(why) = file.open(name) {
+        return Err(unopened(alloc, quiet, name, why));
     }
     match put_in_place(bytes, file) {
         Ok(()) => Ok(()),
         Err(SinkFailed) => Err(unwritten(alloc, quiet, name, OpenCause::Other)),
+    }
+}
+
+// The outcome of a job whose file couldn't be opened.
+fn unopened(alloc: Global, quiet: bool, name: &str, why: OpenFailed) -> Outcome
+    ensures { IsUnopenedFile quiet name.now why result }
+{
+    match why {
+        OpenFailed::Refused(cause) => unwritten(alloc, quiet, name, cause),
+        OpenFailed::OutOfMemory => out_of_memory(alloc),
     }
 }
 
@@ -108,7 +118,7 @@ fn unwritten(alloc: Global, quiet: bool, name: &str, cause: OpenCause) -> Outcom
     failed("fault: write", place)
 }
 
-// The outcome of a job whose answer couldn't be held.
+// The outcome of a job for which memory ran out before a file was opened.
 fn out_of_memory(alloc: Global) -> Outcome
     ensures { RanOut result }
 {

@@ -40,7 +40,7 @@ pub use entry::{args_of, program, start};
 pub use files::{read_named, read_opened, read_work};
 pub use input_files::InputFiles;
 pub use interruption::{Interruption, Side};
-pub use output_file::OutputFile;
+pub use output_file::{OpenFailed, OutputFile};
 pub use pair_running::run_pairs;
 pub use reporting::{print_report, report_fault};
 pub use responding::respond;

@@ -5,6 +5,14 @@ ghost use Rattle.bcs_tool.specs.OutputFile.{Opens, Replaces, Stage, Syncs, Write
 use bcs_io::SinkFailed;
 use bcs_tool_command_line::OpenCause;
 
+/// Why FILE couldn't be opened.
+#[derive(Clone, Copy, Debug, Drop, PartialEq, Eq)]
+pub enum OpenFailed {
+    /// The system doesn't open it, for this cause.
+    Refused(OpenCause),
+    OutOfMemory,
+}
+
 /// The one file that the program may open for writing. It is replaced by a new file once that has the whole answer, so it is
 /// never lost. If it can't be replaced, it is written directly.
 pub trait OutputFile {
@@ -15,7 +23,7 @@ pub trait OutputFile {
     ghost received: { Self → Option (List ℕ) };
 
     /// Opens a new file beside the file of this name; or that file itself, if it can't be replaced.
-    fn open(&mut self, name: &str) -> Result<(), OpenCause>
+    fn open(&mut self, name: &str) -> Result<(), OpenFailed>
         ensures { Opens stage received name.now self.old self.new result };
 
     /// Writes all of `bytes`.

@@ -1,6 +1,6 @@
 //! Fills an open file, and gives it its name.
 ghost use Rattle.std.specs.Prelude.{IfErr, IfOk};
-ghost use Rattle.bcs_tool.specs.OutputFile.{IsPut, IsPutInPart};
+ghost use Rattle.bcs_tool.specs.OutputFile.{IsCommitted, IsCommittedInPart, IsPut, IsPutInPart};
 
 use crate::output_file::OutputFile;
 use bcs_io::SinkFailed;
@@ -10,14 +10,19 @@ pub(crate) fn put_in_place<T: OutputFile>(bytes: &[u8], file: &mut T) -> Result<
     ensures all { IfOk result (λ _. IsPut T.stage T.received bytes.now file.old file.new) }
     ensures part { IfErr result (λ _. IsPutInPart T.stage T.received bytes.now file.old file.new) }
 {
-    if let Err(failed) = file.write(bytes) {
-        return Err(failed);
+    match file.write(bytes) {
+        Ok(()) => commit(file),
+        Err(failed) => Err(failed),
     }
-    if let Err(failed) = file.sync() {
-        return Err(failed);
+}
+
+// Waits until the file is on the disk, and gives it its name.
+fn commit<T: OutputFile>(file: &mut T) -> Result<(), SinkFailed>
+    ensures all { IfOk result (λ _. IsCommitted T.stage T.received file.old file.new) }
+    ensures part { IfErr result (λ _. IsCommittedInPart T.stage T.received file.old file.new) }
+{
+    match file.sync() {
+        Ok(()) => file.replace(),
+        Err(failed) => Err(failed),
     }
-    if let Err(failed) = file.replace() {
-        return Err(failed);
-    }
-    Ok(())
 }

@@ -3,11 +3,11 @@ ghost use Rattle.std.specs.Prelude.{IfOk};
 ghost use Rattle.bcs_tool.specs.SystemFile.{IsFresh};
 
 use crate::new_file::{NewFile, new_file};
-use crate::output_file::OutputFile;
+use crate::output_file::{OpenFailed, OutputFile};
 use bcs_io::SinkFailed;
 use bcs_tool_command_line::OpenCause;
 use std::fs::File;
-use std::io::Write;
+use std::io::{ErrorKind, Write};
 use std::path::PathBuf;
 use std::{fs, io};
 
@@ -60,16 +60,19 @@ impl OutputFile for SystemFile<'_> {
 
     ghost received = { unknown };
 
-    fn open(&mut self, name: &str) -> Result<(), OpenCause> {
+    fn open(&mut self, name: &str) -> Result<(), OpenFailed> {
         if self.opened.is_some() {
-            return Err(OpenCause::Other);
+            return Err(OpenFailed::Refused(OpenCause::Other));
         }
         match opened_file(self.rt, name) {
             Ok(file) => {
                 self.opened = Some(file);
                 Ok(())
             }
-            Err(error) => Err(OpenCause::of(error.kind())),
+            Err(error) => Err(match error.kind() {
+                ErrorKind::OutOfMemory => OpenFailed::OutOfMemory,
+                kind => OpenFailed::Refused(OpenCause::of(kind)),
+            }),
         }
     }
 

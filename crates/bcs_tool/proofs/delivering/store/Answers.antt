@@ -4,7 +4,7 @@ use Rattle.bcs_tool.proofs.delivering.store.Goals as goal
 
 -- FILE couldn't be opened
 pub returns-in-Err-clause-fault : goal.returns-in-Err-clause-fault
-returns-in-Err-clause-fault g c = unopened c.in-Err.ensures c.in-Err.cause c.unwritten.ensures
+returns-in-Err-clause-fault g c = unopened c.in-Err.ensures c.in-Err.why c.unopened.ensures
 
 -- it was written
 pub returns-in-Ok-clause-whole : goal.returns-in-Ok-clause-whole
