@@ -1,5 +1,6 @@
 """Compares proved.h with the proved crate's sources: the names of the calls and their parameters, and the fields of the
-structs; and the numbers of statuses, faults, forms and notations in include/bcs.h, and the fields of an answer.
+structs; and the numbers of statuses, faults, forms and notations in include/bcs.h, and the fields of an answer. Every
+call has a caller in library.c.
 
 layout.c checks the offsets of the fields. The compiler checks that library.c defines calls as bcs.h declares them, and
 test.sh that it defines all of them.
@@ -183,10 +184,16 @@ def differences(header: Interface, crate: Interface) -> list[str]:
     return found
 
 
+def without_callers(calls: dict[str, list[str]]) -> list[str]:
+    """Exports that nothing calls: library.c has the only callers."""
+    library = code_of(HERE.parent / "library.c")
+    return [f"calls: {name}: library.c doesn't call it" for name in calls if not re.search(rf"\b{name}\(", library)]
+
+
 def main(words: list[str]) -> int:
     crate = of_crate(pathlib.Path(words[0]) if words else ROOT / "crates/bcs_c")
     header = of_headers(HERE.parent / "proved.h", HERE.parent / "include/bcs.h")
-    found = differences(header, crate)
+    found = differences(header, crate) + without_callers(crate.calls)
     for difference in found:
         print(f"header: FAILED: {difference}")
     if not found:
