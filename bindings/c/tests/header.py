@@ -42,7 +42,9 @@ OTHER_FAULTS = {
     "ExampleTooNested": "BCS_EXAMPLE_TOO_NESTED",
 }
 FORMS = {"Form": "BCS_"}
-NOTATION = re.compile(r"(\d+) if \w+\(text\) => Some\(PartName::(\w+)")
+NOTATION = re.compile(
+    r"\b(\d+) (?:if \w+\(text\) )?=> (?:match \w+\(alloc, text\) \{\s*Ok\(_\) => )?Ok\(Some\(PartName::(\w+)"
+)
 
 
 class Interface(NamedTuple):
