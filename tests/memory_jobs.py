@@ -38,6 +38,8 @@ FILES = {
     "members": b'{"nmae":7}\n',
     "variant": b"\t",
     "yaml": b"S: UNITSTRUCT\n",
+    "long": b'"' + 40_000 * b"00" + b'"\n',
+    "many": b"[" + b",".join(70_000 * [b"1"]) + b"]\n",
 }
 
 # The program's words, its files, its input and its answer.
@@ -57,6 +59,9 @@ WORDS_AND_ANSWERS = [
     ),
     Job(0, "\xcc\xed", ["part", "--raw", "@registry", "S", "inner", "@bytes"]),
     Job(0, "cced", ["encode", "{}", I16, "@number", "-o", "/dev/stdout"]),
+    # An answer above 64 KiB, which is held before FILE is opened; and a list of more than 65,536 numbers.
+    Job(0, "c0b80200*", ["encode", "{}", '"BYTES"', "@long", "-o", "/dev/stdout"]),
+    Job(0, "f0a2040100*", ["encode", "{}", LIST, "@many"]),
     Job(0, "zO0=", ["encode", "--base64", "{}", I16, "@number"]),
     Job(0, "zO0=", ["part", "--base64", "@registry", "S", "inner", "@base64"]),
     Job(
