@@ -213,14 +213,11 @@ def main(folder: str) -> None:
         check_file([program, *DECODE, str(rows)], "a file for DuckDB")
         parallel = ["parallel", "--will-cite", "--pipepart", "--keep-order", "--block", "100k", "-a", str(rows)]
         check_file([*parallel, program, *DECODE], "GNU parallel")
-        pairs = pathlib.Path(room) / "pairs"
-        pairs.write_text("7\n7\n7\n", encoding="utf-8")
         check_cut_output(program, pathlib.Path(room) / "limited")
-        jobs = LINE_BY_LINE | {"same": (["{}", '"U8"', str(pairs)], ["7", "x", "8"])}
-        for command, (arguments, lines) in jobs.items():
+        for command, (arguments, lines) in LINE_BY_LINE.items():
             for refusals in NO_REFUSALS, REFUSALS:
                 check_line_by_line(program, [command, "--quiet", "--lines", *refusals, *arguments], lines)
-    passed(f"line by line: {len(jobs)} commands")
+    passed(f"line by line: {len(LINE_BY_LINE)} commands")
 
 
 if __name__ == "__main__":

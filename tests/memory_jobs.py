@@ -31,7 +31,6 @@ FILES = {
     "nested": 499 * b"\1" + b"\0",
     "digits": b"cced\ncc\nzz",
     "lines": b"7\n[\n-4660",
-    "fewer": b"7\n[\n",
     "list": b"[1,32767]\n",
     "large": b"[1,32768]\n",
     "open": b"[\n",
@@ -147,15 +146,6 @@ LINES = [
         place=TALLY(1, 0, 2),
         left_out=6,
     ),
-    Job(
-        2,
-        "equal\nrefused: NotJson\ndifferent",
-        ["same", "--lines", "{}", I16, "@lines", "@fewer"],
-        place=TALLY(1, 1, 1) + "; B has no line 3",
-        left_out=7,
-    ),
-    Job(1, "different\ndifferent", ["same", "--quiet", "--lines", "@registry", "S", "@number", "@lines"]),
-    Job(4, "", ["same", "--lines", "{}", I16, "no.file"], place=f"{OPENED}\n{NO_FILE}", left_out=3),
 ]
 # What is refused, and where.
 REFUSALS = [

@@ -81,14 +81,6 @@ class Program:
         self.expect(["decode", *job, self.file("digits", digits)], 2, back)
         passed(f"{COUNT} lines, and back")
 
-    def check_pairs(self) -> None:
-        """Numbers beside others, of which every seventh is greater by one."""
-        ones = self.file("ones", [str(number) for number in range(1, COUNT + 1)])
-        others = self.file("others", [str(number + (number % 7 == 0)) for number in range(1, COUNT + 1)])
-        verdicts = ["equal" if number % 7 else "different" for number in range(1, COUNT + 1)]
-        self.expect(["same", "--quiet", "--lines", "{}", '"U16"', ones, others], 1, verdicts)
-        passed(f"{COUNT} pairs of lines")
-
     def check_output(self) -> None:
         """A file is created, or emptied and written, even the input, and left alone if the status isn't 0."""
         given, answer = self.file("given", ["-4660"]), self.room / "answer"
@@ -190,7 +182,6 @@ def main(folder: str) -> None:
         program = Program(path, pathlib.Path(room))
         program.check_version()
         program.check_lines()
-        program.check_pairs()
         program.check_output()
         program.check_costs()
         program.check_many_containers()

@@ -1,6 +1,5 @@
 -- What was written to a stream: a text in one piece or in two, or a prefix of it.
-use Rattle.bcs_tool.proofs.Prelude.{◌≡◌, ◌<◌, ◌+◌, ◌++◌, ◌⊎◌, Ok, Err, Result, arith, inl, inr, ℕ, List, Bool, Option, length, length-append, sym, subst, take, IfErr, OnOk, String, Global, take-append-add, take-append-le, Took, TookThenFailed, TookThenFailed-then, Took-then, Job, LineFault, Usage, Help, Outcome, Work, EndsPairs, PairRuns, Ends, IsOutcomeOf, PutFront, Runs, Interruption, Performs, PerformsOne, PerformsPairs, ReportsFault, Put, first_unopened, lacks_file, no_room, over_file, over_input, over_one, over_pairs, pairs_over_file, pairs_over_input, second_unopened, unopened}
-use Rattle.std.specs.Prelude.{string_bytes}
+use Rattle.bcs_tool.proofs.Prelude.{◌≡◌, ◌<◌, ◌+◌, ◌++◌, Ok, Err, Result, arith, inl, inr, ℕ, List, Bool, Option, length, length-append, sym, subst, take, IfErr, OnOk, String, Global, take-append-add, take-append-le, Took, TookThenFailed, TookThenFailed-then, Took-then, Job, LineFault, Usage, Help, Outcome, Work, Ends, IsOutcomeOf, PutFront, Runs, Interruption, Performs, PerformsWork, ReportsFault, Put, has_files, lacks_file, no_room, over_file, over_input, unopened}
 use Rattle.bcs_tool_command_line.specs.declared.line_fault.LineFault.TheVariants.{OutOfMemory}
 
 module _ {K : Type 0} (taken : K → Option (List ℕ)) (is_failed : K → Bool) where
@@ -39,43 +38,20 @@ module _ {S K : Type 0} (content : S → Option (List ℕ)) (has_stopped : S →
   run_status runs = go runs.result runs.ends runs.is
     where
       go : (result : Result Outcome Interruption) → Ends content has_stopped allowance taken is_failed work input input' out out' result
-          → IsOutcomeOf work name name result outcome → outcome.status < 5
+          → IsOutcomeOf work name result outcome → outcome.status < 5
       go (Ok done) answered is = subst (λ (r : Outcome). r.status < 5) (sym is) (omega (arith, answered.below))
-      go (Err e) fails is = omega (arith, is.status)
-
--- and similarly for a run over two files
-module _ {F S K : Type 0} (former : F → Option (List ℕ)) (former_stopped : F → Bool) (former_allowance : F → ℕ)
-    (content : S → Option (List ℕ)) (has_stopped : S → Bool) (allowance : S → ℕ) (taken : K → Option (List ℕ)) (is_failed : K → Bool)
-    (work : Work) (name other : List ℕ) (first first' : F) (second second' : S) (out out' : K) (outcome : Outcome) where
-  pairs_status : PairRuns former former_stopped former_allowance content has_stopped allowance taken is_failed work name other first first' second second' out out' outcome → outcome.status < 5
-  pairs_status runs = go runs.result runs.ends runs.is
-    where
-      go : (result : Result Outcome Interruption) → EndsPairs former former_stopped former_allowance content has_stopped allowance taken is_failed work first first' second second' out out' result
-          → IsOutcomeOf work name other result outcome → outcome.status < 5
-      go (Ok done) compared is = subst (λ (r : Outcome). r.status < 5) (sym is) (omega (arith, compared.below))
       go (Err e) fails is = omega (arith, is.status)
 
 module _ {S O F : Type 0} (content : S → Option (List ℕ)) (has_stopped : S → Bool) (allowance : S → ℕ)
     (taken : O → Option (List ℕ)) (is_failed : O → Bool) (remaining : F → Option (List ℕ)) where
-  one_status : (work : Work) (file : Option (String Global)) (input input' : S) (out out' : O) (outcome : Outcome)
-      → PerformsOne content has_stopped allowance taken is_failed remaining work file input input' out out' outcome → outcome.status < 5
-  one_status work file input input' out out' outcome (unopened name some is a b) = omega (arith, is.1.status)
-  one_status work file input input' out out' outcome (no_room name some is a b) = omega (arith, is.status)
-  one_status work file input input' out out' outcome (over_input none runs) = run_status _ _ _ taken is_failed work _ input input' out out' outcome runs
-  one_status work file input input' out out' outcome (over_file name source source' some runs a) = run_status _ _ _ taken is_failed work _ source source' out out' outcome runs
-
-  files_status : (work : Work) (first : List ℕ) (file : Option (String Global)) (input input' : S) (out out' : O) (outcome : Outcome)
-      → PerformsPairs content has_stopped allowance taken is_failed remaining work first file input input' out out' outcome → outcome.status < 5
-  files_status work first file input input' out out' outcome (first_unopened is a b) = omega (arith, is.1.status)
-  files_status work first file input input' out out' outcome (second_unopened name lines some is a b) = omega (arith, is.1.status)
-  files_status work first file input input' out out' outcome (pairs_over_input lines lines' none runs) =
-      pairs_status _ _ _ _ _ _ taken is_failed work _ _ lines lines' input input' out out' outcome runs
-  files_status work first file input input' out out' outcome (pairs_over_file name lines lines' source source' some runs a) =
-      pairs_status _ _ _ _ _ _ taken is_failed work _ _ lines lines' source source' out out' outcome runs
+  work_status : (work : Work) (file : Option (String Global)) (input input' : S) (out out' : O) (outcome : Outcome)
+      → PerformsWork content has_stopped allowance taken is_failed remaining work file input input' out out' outcome → outcome.status < 5
+  work_status work file input input' out out' outcome (unopened name some is a b) = omega (arith, is.1.status)
+  work_status work file input input' out out' outcome (no_room name some is a b) = omega (arith, is.status)
+  work_status work file input input' out out' outcome (over_input none runs) = run_status _ _ _ taken is_failed work _ input input' out out' outcome runs
+  work_status work file input input' out out' outcome (over_file name source source' some runs a) = run_status _ _ _ taken is_failed work _ source source' out out' outcome runs
 
   pub report_status : (job : Job) (input input' : S) (out out' : O) (outcome : Outcome) (status : ℕ)
       → Performs content has_stopped allowance taken is_failed remaining job input input' out out' outcome → status ≡ outcome.status → status < 5
   report_status job input input' out out' outcome status (lacks_file lacks a b) is = omega (arith, lacks.status, is)
-  report_status job input input' out out' outcome status (over_one work a b performs) is = omega (arith, one_status work job.file input input' out out' outcome performs, is)
-  report_status job input input' out out' outcome status (over_pairs work a b performs) is =
-      omega (arith, files_status work (string_bytes job.second) job.file input input' out out' outcome performs, is)
+  report_status job input input' out out' outcome status (has_files work a performs) is = omega (arith, work_status work job.file input input' out out' outcome performs, is)

@@ -9,5 +9,3 @@ pub mod EndingLemmas
 pub mod StoringLemmas
 pub mod DeliveringLemmas
 pub mod Showing
-pub mod PairLemmas
-pub mod PairRunLemmas

@@ -1,5 +1,5 @@
 -- Lines of a content, of which the first ones were read.
-use Rattle.bcs_tool.proofs.Prelude.{◌≡◌, ◌≢◌, ◌⊎◌, ◌≤◌, ◌<◌, ◌+◌, ◌++◌, ◌∙◌, ◌==◌, inl, inr, Bool, true, false, ℕ, zero, suc, cond, List, [], ◌∷◌, Option, Some, None, ap, append_assoc, append-nil, arith, length, length-append, refl, subst, sym, take, IfSome, All, Consumes, IsAtEnd, All-head, All-tail, take-append-le, ended, HasNoLineFeed, lines_of, onto, lines_of-last, lines_of-line, no_feed_first, no_feed_rest, IsContent, size_limit, StandBefore, AreAll, IsPast, AreFirst, IsLongBehind}
+use Rattle.bcs_tool.proofs.Prelude.{◌≡◌, ◌≢◌, ◌⊎◌, ◌≤◌, ◌<◌, ◌+◌, ◌++◌, ◌∙◌, inl, inr, ℕ, zero, suc, cond, List, [], ◌∷◌, Option, Some, None, ap, append_assoc, append-nil, arith, length, length-append, refl, subst, sym, take, IfSome, All, Consumes, IsAtEnd, All-head, All-tail, take-append-le, ended, HasNoLineFeed, lines_of, onto, lines_of-last, lines_of-line, no_feed_first, no_feed_rest, IsContent, size_limit, StandBefore, AreFirst, IsLongBehind}
 
 -- if lines contain no line feeds, they are the lines of the text that ends each of them with one
 ended_lines : (lines : List (List ℕ)) → All HasNoLineFeed lines → lines_of (ended lines) ≡ lines
@@ -66,21 +66,6 @@ stand_end (Some all) (Some left) (Some more) lines rest taken none ends plain h 
     let text : rest ++ left ≡ [] = ap (λ (t : List ℕ). t ++ left) none ∙ (taken ∙ ends) in
     (all, refl, h ∙ ap (λ (t : List ℕ). lines ++ lines_of t) text ∙ append-nil lines)
 
-pub stand_all : (c b d : Option (List ℕ)) (lines : List (List ℕ)) (rest : List ℕ) → Consumes b d [] → rest ≡ [] → IsAtEnd d → StandBefore c b lines rest → AreAll c lines
-stand_all None b d lines rest taken none ends h = tt
-stand_all (Some all) None d lines rest taken none ends h = absurd h
-stand_all (Some all) (Some left) None lines rest taken none ends h = absurd taken
-stand_all (Some all) (Some left) (Some more) lines rest taken none ends h =
-    let text : rest ++ left ≡ [] = ap (λ (t : List ℕ). t ++ left) none ∙ (taken ∙ ends) in
-    h ∙ ap (λ (t : List ℕ). lines ++ lines_of t) text ∙ append-nil lines
-
--- lines that were read are the first ones of some content
-pub stand_some : (c b : Option (List ℕ)) (lines : List (List ℕ)) (rest : List ℕ) → All HasNoLineFeed lines → StandBefore c b lines rest
-    → (bytes : List ℕ) × IsContent c bytes × ((more : List (List ℕ)) × (lines_of bytes ≡ lines ++ more))
-stand_some None b lines rest plain h = (ended lines, tt, ([], ended_lines lines plain ∙ sym (append-nil lines)))
-stand_some (Some all) None lines rest plain h = absurd h
-stand_some (Some all) (Some left) lines rest plain h = (all, refl, (lines_of (rest ++ left), h))
-
 -- lines that were read are the first ones
 pub stand_first : (c b : Option (List ℕ)) (lines : List (List ℕ)) (rest : List ℕ) → StandBefore c b lines rest → AreFirst c lines
 stand_first None b lines rest h = tt
@@ -107,53 +92,3 @@ stand_long (Some all) (Some left) (Some more) lines rest given taken longer plai
       many = refl;
       longer = omega (arith, found.3);
     }
-
--- ---- the line after those that were read
-
--- the element after a given number of others is unique
-same_place : {A : Type 0} (xs ys : List A) (x y : A) (ls ms : List A) → xs ++ x ∷ ls ≡ ys ++ y ∷ ms → length xs ≡ length ys → x ≡ y
-same_place [] [] x y ls ms same many = cc
-same_place [] (o ∷ os) x y ls ms same many = absurd (omega (arith, many))
-same_place (o ∷ os) [] x y ls ms same many = absurd (omega (arith, many))
-same_place (o ∷ os) (p ∷ ps) x y ls ms same many =
-    let rest : os ++ x ∷ ls ≡ ps ++ y ∷ ms = cc in
-    same_place os ps x y ls ms rest (omega (arith, many))
-
--- a line that was read isn't too long
-pub stand_within : (c b : Option (List ℕ)) (lines : List (List ℕ)) (line rest : List ℕ) → length line ≤ size_limit → StandBefore c b (lines ++ line ∷ []) rest
-    → IfSome c (λ all. ¬ IsLongBehind (length lines) all)
-stand_within None b lines line rest within h = tt
-stand_within (Some all) None lines line rest within h = absurd h
-stand_within (Some all) (Some left) lines line rest within h = λ behind.
-    let parts : lines ++ line ∷ lines_of (rest ++ left) ≡ behind.lines ++ behind.long ∷ behind.more =
-    sym (append_assoc lines (line ∷ []) (lines_of (rest ++ left))) ∙ sym h ∙ behind.parts in
-    let same = same_place lines behind.lines line behind.long (lines_of (rest ++ left)) behind.more parts (sym behind.many) in
-    omega (arith, within, behind.longer, ap (λ (l : List ℕ). length l) same)
-
--- and none comes after all of them
-pub all_within : (c : Option (List ℕ)) (lines : List (List ℕ)) → AreAll c lines → IfSome c (λ all. ¬ IsLongBehind (length lines) all)
-all_within None lines is = tt
-all_within (Some all) lines is = λ behind.
-    omega (arith, behind.many, ap (λ (ls : List (List ℕ)). length ls) (sym is ∙ behind.parts), length-append behind.lines (behind.long ∷ behind.more))
-
--- a text doesn't have fewer lines with more bytes before it
-onto_more : (b : Bool) (c : ℕ) (ls : List (List ℕ)) → length ls ≤ length (cond b ([] ∷ ls) (onto c ls))
-onto_more true c ls = omega arith
-onto_more false c [] = omega arith
-onto_more false c (l ∷ ls) = omega arith
-
-lines_behind : (xs ys : List ℕ) → length (lines_of ys) ≤ length (lines_of (xs ++ ys))
-lines_behind [] ys = omega arith
-lines_behind (c ∷ cs) ys = omega (arith, lines_behind cs ys, onto_more (c == 10) c (lines_of (cs ++ ys)))
-
-pub stand_past : (c b : Option (List ℕ)) (lines : List (List ℕ)) (line rest : List ℕ) → StandBefore c b (lines ++ line ∷ []) rest
-    → IfSome c (λ all. IfSome b (IsPast (length lines) all))
-stand_past None b lines line rest h = tt
-stand_past (Some all) None lines line rest h = tt
-stand_past (Some all) (Some left) lines line rest h =
-    inl (omega (arith, ap (λ (ls : List (List ℕ)). length ls) h, length-append (lines ++ line ∷ []) (lines_of (rest ++ left)), length-append lines (line ∷ []), lines_behind rest left))
-
-pub end_past : (c b : Option (List ℕ)) (count : ℕ) → IsAtEnd b → IfSome c (λ all. IfSome b (IsPast count all))
-end_past None b count ends = tt
-end_past (Some all) None count ends = tt
-end_past (Some all) (Some left) count ends = inr ends

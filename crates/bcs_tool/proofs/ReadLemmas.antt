@@ -1,18 +1,13 @@
 -- The lines of one input, from one to the next.
-use Rattle.bcs_tool.proofs.Prelude.{◌≡◌, ◌⊎◌, ◌≤◌, ◌<◌, ◌+◌, ◌^◌, ◌++◌, ◌∙◌, inl, inr, ℕ, Bool, true, false, List, [], ◌∷◌, Option, ap, append_assoc, append-nil, arith, length, length-append, refl, subst, sym, IfSome, All-nil, All-push, FailsInLine, HasNoLine, IsLastLine, IsTooLong, TakesLine, HeldLine, HasNoLineFeed, before_block, line_feeds, lines_of, block_behind, short_ahead, feeds_append, feeds_before_block, feeds_none, NextFault, IsContent, size_limit, AreRead, FailsNext, ReadsOn, StandBefore, AreAll, BrokeInLine, GaveFew, GaveLine, StopsAt, AreFirst, IsLongBehind, take_of}
+use Rattle.bcs_tool.proofs.Prelude.{◌≡◌, ◌⊎◌, ◌≤◌, ◌<◌, ◌+◌, ◌^◌, ◌++◌, ◌∙◌, inl, inr, ℕ, Bool, List, [], ◌∷◌, Option, ap, append_assoc, append-nil, arith, length, length-append, refl, subst, sym, IfSome, All-nil, All-push, FailsInLine, HasNoLine, IsLastLine, IsTooLong, TakesLine, HeldLine, HasNoLineFeed, before_block, line_feeds, lines_of, block_behind, short_ahead, feeds_append, feeds_before_block, feeds_none, IsContent, size_limit, AreRead, StandBefore, BrokeInLine, GaveFew, AreFirst, IsLongBehind}
 use Rattle.bcs_io.specs.Giving as source
 use Rattle.bcs_io.proofs.GivingLemmas as giving
-use Rattle.bcs_io.specs.declared.next_fault.NextFault.TheVariants as next_fault
-use Rattle.bcs_tool.proofs.LineLemmas.{all_within, end_past, stand_all, stand_end, stand_first, stand_last, stand_line, stand_long, stand_nothing, stand_past, stand_some, stand_within}
+use Rattle.bcs_tool.proofs.LineLemmas.{stand_end, stand_first, stand_last, stand_line, stand_long, stand_nothing}
 
 -- a list that isn't empty has at least one element
 some_long : (xs : List ℕ) → (xs ≡ [] → ⊥) → 1 ≤ length xs
 some_long [] some = absurd (some refl)
 some_long (x ∷ xs) some = omega arith
-
--- some bytes may be the content and have exactly these lines
-abbrev pub MayHave : Option (List ℕ) → List (List ℕ) → Type 0
-MayHave content lines = (bytes : List ℕ) × IsContent content bytes × (lines_of bytes ≡ lines)
 
 module _ {S : Type 0} (content : S → Option (List ℕ)) (has_stopped : S → Bool) (allowance : S → ℕ) where
   pub none_read : (input : S) → AreRead content has_stopped allowance input input [] []
@@ -30,13 +25,6 @@ module _ {S : Type 0} (content : S → Option (List ℕ)) (has_stopped : S → B
 
   pub first_read : (input now : S) (lines : List (List ℕ)) (rest : List ℕ) → AreRead content has_stopped allowance input now lines rest → AreFirst (content input) lines
   first_read input now lines rest read = stand_first (content input) (content now) lines rest read.stand
-
-  pub few_read : (input now : S) (lines : List (List ℕ)) (rest : List ℕ) → AreRead content has_stopped allowance input now lines rest → GaveFew content has_stopped allowance input now (length lines)
-  few_read input now lines rest read = (
-    read.given,
-    read.took,
-    omega (arith, ap (λ (t : List ℕ). line_feeds (before_block t)) read.parts, feeds_before_block read.front rest (short_ahead rest read.ahead), read.few),
-  )
 
   -- a line took at least one byte
   pub line_room : (now later : S) (before after : HeldLine) → TakesLine content has_stopped allowance size_limit now later before after
@@ -96,23 +84,8 @@ module _ {S : Type 0} (content : S → Option (List ℕ)) (has_stopped : S → B
     room_for_one bounded takes = omega (arith, bounded, line_room now later before after takes, read.room)
 
     -- no line is left
-    pub all_read : HasNoLine content has_stopped allowance now later before after → MayHave (content input) lines
+    pub all_read : HasNoLine content has_stopped allowance now later before after → (bytes : List ℕ) × IsContent (content input) bytes × (lines_of bytes ≡ lines)
     all_read ends = stand_end (content input) (content now) (content later) lines before.rest ends.took.front ends.none_left ends.ends read.plain read.stand
-
-    pub none_behind : HasNoLine content has_stopped allowance now later before after → MayHave (content input) (lines ++ [])
-    none_behind ends = let all = all_read ends in (all.0, all.1, all.2 ∙ sym (append-nil lines))
-
-    -- the lines so far and the next one are the first lines of the content
-    pub first_behind : TakesLine content has_stopped allowance size_limit now later before after → AreFirst (content input) (lines ++ after.line ∷ [])
-    first_behind takes = stand_first (content input) (content later) (lines ++ after.line ∷ []) after.rest (stand_behind takes)
-
-    pub some_behind : TakesLine content has_stopped allowance size_limit now later before after → (more : List (List ℕ)) × MayHave (content input) (lines ++ after.line ∷ more)
-    some_behind takes =
-        let some = stand_some (content input) (content later) (lines ++ after.line ∷ []) after.rest (line_read takes).plain (stand_behind takes) in
-        (some.2.0, (some.0, some.1, some.2.1 ∙ append_assoc lines (after.line ∷ []) some.2.0))
-
-    pub all_lines : HasNoLine content has_stopped allowance now later before after → AreAll (content input) lines
-    all_lines ends = stand_all (content input) (content now) (content later) lines before.rest ends.took.front ends.none_left ends.ends read.stand
 
     -- the next line is too long
     pub long_behind : IsTooLong content has_stopped allowance size_limit now later before after → IfSome (content input) (IsLongBehind (length lines))
@@ -157,29 +130,8 @@ module _ {S : Type 0} (content : S → Option (List ℕ)) (has_stopped : S → B
             subst (λ (t : List ℕ). HasNoLineFeed (before_block t)) (append-nil after.line ∙ sym last.line)
             (block_behind after.line [] takes.plain (omega arith))
 
-    -- and similarly if no line is left
-    pub few_behind : (has_line : Bool) → ReadsOn content has_stopped allowance has_line now later before after → GaveFew content has_stopped allowance input later (length lines)
-    few_behind true takes = few_given takes.given takes.took (line_ahead takes)
-    few_behind false ends = few_given [] ends.took (subst (λ (t : List ℕ). HasNoLineFeed (before_block (t ++ []))) (sym ends.none_left) refl)
+    pub few_behind : TakesLine content has_stopped allowance size_limit now later before after → GaveFew content has_stopped allowance input later (length lines)
+    few_behind takes = few_given takes.given takes.took (line_ahead takes)
 
     pub few_long : IsTooLong content has_stopped allowance size_limit now later before after → GaveFew content has_stopped allowance input later (length lines)
     few_long long = few_given long.given long.took (long.ahead (short_ahead before.rest read.ahead))
-
-    -- the next line was given, or none is left
-    pub gave_line : (has_line : Bool) → ReadsOn content has_stopped allowance has_line now later before after → GaveLine content has_stopped allowance input later (length lines)
-    gave_line true takes = record {
-      few = few_behind true takes;
-      within = stand_within (content input) (content later) lines after.line after.rest takes.within (stand_behind takes);
-      past = stand_past (content input) (content later) lines after.line after.rest (stand_behind takes);
-    }
-    gave_line false ends = record {
-      few = few_behind false ends;
-      within = all_within (content input) lines (all_lines ends);
-      past = end_past (content input) (content later) (length lines) ends.ends;
-    }
-
-    -- the next line couldn't be read
-    pub stops_at : (fault : NextFault) → FailsNext content has_stopped allowance fault now later before after → StopsAt content has_stopped allowance (take_of fault) input later (length lines)
-    stops_at next_fault.Read fails = broke_in_line fails
-    stops_at next_fault.TooLong long = (long_behind long, few_long long)
-    stops_at next_fault.OutOfMemory ran = few_given ran.given ran.took ran.ahead

@@ -1,5 +1,5 @@
 -- The outcome of a run, from the results of its steps.
-use Rattle.bcs_tool.proofs.Prelude.{run_below, tally_status, ◌≡◌, ◌≤◌, ◌+◌, ◌++◌, ◌∙◌, ℕ, Bool, false, List, [], Option, Some, None, Result, Ok, Err, ap, append-nil, arith, inl, inr, length, refl, subst, sym, true≢false, IsErrAnd, Consumes, IsAtEnd, lines_of, ReadsInput, none, summary, tally_text, IsAnswer, Places, IsAskedBy, Answer, Asked, status_below, greatest_below, ReportsPlace, IsContent, size_limit, TakeFault, Outcome, Work, Second, AllAnswered, IsTally, AreFirst, Ends, FailsAt, HasLines, IsAnswered, IsUnhurt, PutBefore, PutsAnswer, ReadsNoFurther, Responds, by_line, once, Interruption, Take, Tally, ◌==◌, if◌then◌else◌, true, run_status}
+use Rattle.bcs_tool.proofs.Prelude.{run_below, tally_status, ◌≡◌, ◌≤◌, ◌+◌, ◌++◌, ◌∙◌, ℕ, Bool, false, List, [], Option, Some, None, Result, Ok, Err, ap, append-nil, arith, inl, inr, length, refl, subst, sym, true≢false, IsErrAnd, Consumes, IsAtEnd, lines_of, ReadsInput, none, summary, tally_text, IsAnswer, Places, IsAskedBy, Answer, Asked, status_below, greatest_below, ReportsPlace, IsContent, size_limit, TakeFault, Outcome, Work, AllAnswered, IsTally, AreFirst, Ends, FailsAt, HasLines, IsAnswered, IsUnhurt, PutBefore, PutsAnswer, ReadsNoFurther, Responds, by_line, once, Interruption, Take, Tally, ◌==◌, if◌then◌else◌, true, run_status}
 use Rattle.bcs_io.specs.Giving as source
 use Rattle.bcs_io.proofs.GivingLemmas as giving
 use Rattle.bcs_io.proofs.TakingLemmas as taking
@@ -66,7 +66,7 @@ module _ {S K : Type 0} (content : S → Option (List ℕ)) (has_stopped : S →
   -- memory ran out before the input was read, or after all of it
   pub no_memory : (input input' : S) (out : K) → IsUnhurt content has_stopped allowance taken is_failed work input input'
       → ReadsNoFurther content has_stopped allowance taken is_failed work input input' 0
-      → Ends content has_stopped allowance taken is_failed work input input' out out (Err (record { fault = Take take_fault.OutOfMemory; answered = 0; side = Second }))
+      → Ends content has_stopped allowance taken is_failed work input input' out out (Err (record { fault = Take take_fault.OutOfMemory; answered = 0 }))
   no_memory input input' out unhurt no_further = (unhurt, no_further, nothing_before input out)
 
   pub unhurt_whole : (input input' : S) (bytes : List ℕ) → source.Gave content has_stopped allowance input input' bytes → length bytes ≤ size_limit → has_stopped input' ≡ false
@@ -78,7 +78,7 @@ module _ {S K : Type 0} (content : S → Option (List ℕ)) (has_stopped : S →
       → (fault ≡ take_fault.Read → (bytes : List ℕ) × source.GaveThenFailed content has_stopped allowance input input' bytes × (length bytes ≤ size_limit))
       → (fault ≡ take_fault.TooLarge → (bytes : List ℕ) × source.Gave content has_stopped allowance input input' bytes × (length bytes ≡ size_limit + 1))
       → (fault ≡ take_fault.OutOfMemory → (bytes : List ℕ) × source.Gave content has_stopped allowance input input' bytes × (length bytes ≤ size_limit) × (has_stopped input' ≡ false))
-      → Ends content has_stopped allowance taken is_failed work input input' out out (Err (record { fault = Take fault; answered = 0; side = Second }))
+      → Ends content has_stopped allowance taken is_failed work input input' out out (Err (record { fault = Take fault; answered = 0 }))
   not_taken input input' out take_fault.Read reads whole read large memory = (reads, (read refl).1.after, λ lines. absurd (whole lines), nothing_before input out)
   not_taken input input' out take_fault.TooLarge reads whole read large memory =
       let l = large refl in

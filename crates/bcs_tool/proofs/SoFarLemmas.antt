@@ -1,5 +1,5 @@
 -- A run over lines, from one line to the next.
-use Rattle.bcs_tool.proofs.Prelude.{◌≡◌, ◌<◌, ◌+◌, ◌^◌, ◌++◌, ◌∙◌, inl, inr, ℕ, Bool, true, List, [], ◌∷◌, Err, Option, arith, length, refl, subst, sym, take, IfSome, FailsInLine, HasNoLine, IsTooLong, TakesLine, HeldLine, NextFault, AnswersAll, AnswersLine, none, answers_snoc, as_many, size_limit, TakeFault, Work, AllAnswered, FailsNext, IsSoFar, IsTally, BrokeInLine, GaveFew, FailsAt, HasLines, IsLongBehind, IsTooLarge, IsUnhurt, PutBefore, PutFront, PutPart, PutsLine, ReadsNoFurther, StopsInLine, of_next, RunFault, Take, Write, Tally}
+use Rattle.bcs_tool.proofs.Prelude.{◌≡◌, ◌<◌, ◌+◌, ◌^◌, ◌++◌, ◌∙◌, inl, inr, ℕ, Bool, List, [], ◌∷◌, Err, Option, arith, length, refl, subst, sym, take, IfSome, FailsInLine, HasNoLine, IsTooLong, TakesLine, HeldLine, NextFault, AnswersAll, AnswersLine, none, answers_snoc, as_many, size_limit, TakeFault, Work, AllAnswered, FailsNext, IsSoFar, IsTally, BrokeInLine, GaveFew, FailsAt, HasLines, IsLongBehind, IsTooLarge, IsUnhurt, PutBefore, PutFront, PutPart, PutsLine, ReadsNoFurther, StopsInLine, of_next, RunFault, Take, Write, Tally}
 use Rattle.bcs_io.specs.Giving as source
 use Rattle.bcs_io.specs.Taking as sink
 use Rattle.bcs_io.proofs.TakingLemmas as taking
@@ -99,7 +99,7 @@ module _ {S K : Type 0} (content : S → Option (List ℕ)) (has_stopped : S →
     no_further few by_line = subst (λ (n : ℕ). GaveFew content has_stopped allowance input later n) answered_many few
 
     no_line_further : TakesLine content has_stopped allowance size_limit now later before after → ReadsNoFurther content has_stopped allowance taken is_failed work input later tally.answered
-    no_line_further takes = no_further (few_behind content has_stopped allowance input now later far.lines before after far.read true takes)
+    no_line_further takes = no_further (few_behind content has_stopped allowance input now later far.lines before after far.read takes)
 
     -- a prefix of the answer to the line was written
     pub put_part : (out'' : K) (status : ℕ) (output : List ℕ) → HasLines work → TakesLine content has_stopped allowance size_limit now later before after

@@ -8,7 +8,7 @@ use Rattle.bcs_io.specs.Taking as sink
 use Rattle.bcs_io.specs.declared.read_source.ReadSource.{ReadSource}
 use Rattle.bcs_tool_answers.specs.Answers.{line_of}
 use Rattle.bcs_tool_command_line.specs.FaultPlaces.{ReportsPlace, file_place, file_text, origin_text}
-use Rattle.bcs_tool_command_line.specs.Files.{ComparesLines, IsFaultOfFiles, IsWorkOf, NamesForWork, NamesNoFile, file_fault_of, file_note}
+use Rattle.bcs_tool_command_line.specs.Files.{IsFaultOfFiles, IsWorkOf, NamesForWork, NamesNoFile, file_fault_of, file_note}
 use Rattle.bcs_tool_command_line.specs.declared.open_cause.OpenCause.{OpenCause}
 use Rattle.bcs_tool_command_line.specs.declared.origin.Origin.TheVariants.{StandardInput}
 use Rattle.bcs_io.specs.declared.taking.TakeFault.TheVariants as taking
@@ -19,7 +19,6 @@ use Rattle.bcs_tool_command_line.specs.declared.work.Work.{Work}
 use Rattle.bcs_tool_command_line.specs.declared.job.Job.{Job}
 use Rattle.bcs_tool_command_line.specs.declared.line_fault.LineFault.{LineFault}
 use Rattle.bcs_tool_command_line.specs.declared.line_fault.LineFault.TheVariants.{Usage, Help, OutOfMemory}
-use Rattle.bcs_tool.specs.Pairs.{PairRuns}
 use Rattle.bcs_tool.specs.Running.{PutFront, Runs}
 use Rattle.bcs_tool.specs.Visible.{usage_text}
 
@@ -73,7 +72,7 @@ module _ {F : Type 0} (remaining : F → Option (List ℕ)) where
     pub known : IsFaultOfFiles remaining (file_fault_of unread)
     pub needed : NamesNoFile job → unread ≡ ReadFailed taking.OutOfMemory
 
--- an input's file of this name wasn't read, for this reason
+-- the input's file of this name wasn't read, for this reason
 pub record IsUnread (quiet : Bool) (name : List ℕ) (unread : UnreadFile) (outcome : Outcome) : Type 0 where
   pub status : outcome.status ≡ 4
   pub note : outcome.note.now ≡ file_note (file_fault_of unread)
@@ -85,34 +84,20 @@ IsUnopened quiet name outcome = (cause : OpenCause) × IsUnread quiet name (Open
 
 module _ {S O F : Type 0} (content : S → Option (List ℕ)) (has_stopped : S → Bool) (allowance : S → ℕ)
     (taken : O → Option (List ℕ)) (is_failed : O → Bool) (remaining : F → Option (List ℕ)) where
-  -- the outcome of a job with one input: a run over standard input, or over an open file that is read in blocks; if the file
-  -- couldn't be opened or a block couldn't be allocated, nothing is read or written
-  pub data PerformsOne (work : Work) (file : Option (String Global)) (input input' : S) (out out' : O) (outcome : Outcome) : Type 0 where
+  -- the outcome of a job's work: a run over standard input, or over an open file that is read in blocks; if the file couldn't be
+  -- opened or a block couldn't be allocated, nothing is read or written
+  pub data PerformsWork (work : Work) (file : Option (String Global)) (input input' : S) (out out' : O) (outcome : Outcome) : Type 0 where
     unopened : (name : String Global) → file ≡ Some name → IsUnopened work.options.quiet (string_bytes name) outcome → input' ≡ input → out' ≡ out
-        → PerformsOne work file input input' out out' outcome
+        → PerformsWork work file input input' out out' outcome
     no_room : (name : String Global) → file ≡ Some name → IsUnread work.options.quiet (string_bytes name) (ReadFailed taking.OutOfMemory) outcome → input' ≡ input
-        → out' ≡ out → PerformsOne work file input input' out out' outcome
+        → out' ≡ out → PerformsWork work file input input' out out' outcome
     over_input : file ≡ None → Runs content has_stopped allowance taken is_failed work (origin_text StandardInput) input input' out out' outcome
-        → PerformsOne work file input input' out out' outcome
+        → PerformsWork work file input input' out out' outcome
     over_file : (name : String Global) (source source' : ReadSource (BufReader F Global)) → file ≡ Some name
         → Runs (λ s. reader_remaining remaining (reader_of s)) failed allowance_of taken is_failed work (file_text (string_bytes name)) source source' out out' outcome
-        → input' ≡ input → PerformsOne work file input input' out out' outcome
-
-  -- the outcome of a job that compares the lines of two files; the first has this name and is opened first
-  pub data PerformsPairs (work : Work) (first : List ℕ) (file : Option (String Global)) (input input' : S) (out out' : O) (outcome : Outcome) : Type 0 where
-    first_unopened : IsUnopened work.options.quiet first outcome → input' ≡ input → out' ≡ out → PerformsPairs work first file input input' out out' outcome
-    second_unopened : (name : String Global) (lines : ReadSource F) → file ≡ Some name → IsUnopened work.options.quiet (string_bytes name) outcome → input' ≡ input → out' ≡ out
-        → PerformsPairs work first file input input' out out' outcome
-    pairs_over_input : (lines lines' : ReadSource F) → file ≡ None
-        → PairRuns (λ s. remaining (reader_of s)) failed allowance_of content has_stopped allowance taken is_failed work (file_text first) (origin_text StandardInput)
-        lines lines' input input' out out' outcome → PerformsPairs work first file input input' out out' outcome
-    pairs_over_file : (name : String Global) (lines lines' source source' : ReadSource F) → file ≡ Some name
-        → PairRuns (λ s. remaining (reader_of s)) failed allowance_of (λ s. remaining (reader_of s)) failed allowance_of taken is_failed work (file_text first) (file_text (string_bytes name))
-        lines lines' source source' out out' outcome → input' ≡ input → PerformsPairs work first file input input' out out' outcome
+        → input' ≡ input → PerformsWork work file input input' out out' outcome
 
   -- the outcome of a job: a file that it needs wasn't read, and no input is read and nothing is written; or its work is done
   pub data Performs (job : Job) (input input' : S) (out out' : O) (outcome : Outcome) : Type 0 where
     lacks_file : LacksFile remaining job outcome → input' ≡ input → out' ≡ out → Performs job input input' out out' outcome
-    over_one : (work : Work) → IsWorkOf remaining job work → ¬ ComparesLines job → PerformsOne work job.file input input' out out' outcome → Performs job input input' out out' outcome
-    over_pairs : (work : Work) → IsWorkOf remaining job work → ComparesLines job → PerformsPairs work (string_bytes job.second) job.file input input' out out' outcome
-        → Performs job input input' out out' outcome
+    has_files : (work : Work) → IsWorkOf remaining job work → PerformsWork work job.file input input' out out' outcome → Performs job input input' out out' outcome

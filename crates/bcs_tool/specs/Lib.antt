@@ -1,7 +1,5 @@
 pub mod Running
 pub mod Lines
-pub mod Pairs
-pub mod PairLines
 pub mod Scanning
 pub mod Endings
 pub mod HeldOutput
@@ -15,7 +13,6 @@ pub use Rattle.bcs_tool_answers.specs.Answers
 pub use Rattle.bcs_tool_answers.specs.AnswerLaws
 pub use Rattle.bcs_tool_answers.specs.JsonRefusals
 pub use Rattle.bcs_tool_answers.specs.LineAnswers
-pub use Rattle.bcs_tool_answers.specs.PairAnswers
 pub use Rattle.bcs_tool_answers.specs.Places
 pub use Rattle.bcs_tool_command_line.specs.Files
 pub use Rattle.bcs_decode_parts.specs.Path

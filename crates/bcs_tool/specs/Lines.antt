@@ -12,14 +12,13 @@ use Rattle.bcs_tool_command_line.specs.Files.{IsContent, size_limit}
 use Rattle.bcs_tool_command_line.specs.declared.work.Work.{Work}
 use Rattle.bcs_tool.specs.Running.{FailsAt, of_next}
 use Rattle.bcs_tool.specs.declared.interruption.Interruption.{Interruption}
-use Rattle.bcs_tool.specs.declared.interruption.Side.{Side}
 use Rattle.bcs_tool.specs.declared.tally.Tally.{Tally}
 
 -- ---- the next line
 
--- where a run is interrupted because the next line of this side couldn't be read
-abbrev pub broken_at : Side → NextFault → ℕ → Interruption
-broken_at side fault count = record { fault = of_next fault; answered = count; side = side }
+-- where a run is interrupted because the next line couldn't be read
+abbrev pub broken_at : NextFault → ℕ → Interruption
+broken_at fault count = record { fault = of_next fault; answered = count }
 
 module _ {S : Type 0} (content : S → Option (List ℕ)) (has_stopped : S → Bool) (allowance : S → ℕ) where
   -- why the next line couldn't be read
@@ -33,9 +32,9 @@ module _ {S : Type 0} (content : S → Option (List ℕ)) (has_stopped : S → B
   ReadsOn true old new before after = TakesLine content has_stopped allowance size_limit old new before after
   ReadsOn false old new before after = HasNoLine content has_stopped allowance old new before after
 
-  abbrev pub ReadsLine : Side → ℕ → S → S → HeldLine → HeldLine → Result Bool Interruption → Type 0
-  ReadsLine side count old new before after (Ok has_line) = ReadsOn has_line old new before after
-  ReadsLine side count old new before after (Err e) = (fault : NextFault) × (e ≡ broken_at side fault count) × FailsNext fault old new before after
+  abbrev pub ReadsLine : ℕ → S → S → HeldLine → HeldLine → Result Bool Interruption → Type 0
+  ReadsLine count old new before after (Ok has_line) = ReadsOn has_line old new before after
+  ReadsLine count old new before after (Err e) = (fault : NextFault) × (e ≡ broken_at fault count) × FailsNext fault old new before after
 
 -- ---- between two lines
 

@@ -16,13 +16,10 @@ use Rattle.bcs_tool_answers.specs.Places.{Places}
 use Rattle.bcs_tool_answers.specs.declared.answer.Answer.{Answer}
 use Rattle.bcs_tool_command_line.specs.FaultPlaces.{ReportsPlace, output_text, take_place}
 use Rattle.bcs_tool_command_line.specs.Files.{IsContent, size_limit}
-use Rattle.bcs_io.specs.declared.taking.TakeFault.{TakeFault}
 use Rattle.bcs_io.specs.declared.taking.TakeFault.TheVariants.{Read, TooLarge, OutOfMemory}
 use Rattle.bcs_tool_command_line.specs.declared.work.Outcome.{Outcome}
 use Rattle.bcs_tool_command_line.specs.declared.work.Work.{Work}
 use Rattle.bcs_tool.specs.declared.interruption.Interruption.{Interruption}
-use Rattle.bcs_tool.specs.declared.interruption.Side.{Side}
-use Rattle.bcs_tool.specs.declared.interruption.Side.TheVariants.{First, Second}
 use Rattle.bcs_tool.specs.declared.run_fault.RunFault.{RunFault}
 use Rattle.bcs_tool.specs.declared.run_fault.RunFault.TheVariants.{Take, Write}
 
@@ -65,30 +62,22 @@ abbrev pub run_place : Bool → RunFault → List ℕ → ℕ → List ℕ
 run_place false fault name count = stream_text fault name
 run_place true fault name count = before_more (stream_text fault name) ++ codes "line " ++ decimal (count + 1)
 
--- the text of the input of this side
-abbrev pub side_text : Side → List ℕ → List ℕ → List ℕ
-side_text First name other = name
-side_text Second name other = other
-
--- the outcome reports where a run over inputs with these texts was interrupted
-pub record IsBrokenOff (work : Work) (name other : List ℕ) (e : Interruption) (outcome : Outcome) : Type 0 where
+-- the outcome reports where a run over an input with this text was interrupted
+pub record IsBrokenOff (work : Work) (name : List ℕ) (e : Interruption) (outcome : Outcome) : Type 0 where
   pub status : outcome.status ≡ 4
   pub note : outcome.note.now ≡ fault_note e.fault
-  pub reports : ReportsPlace work.options.quiet (run_place work.options.lines e.fault (side_text e.side name other) e.answered) outcome.place.items
+  pub reports : ReportsPlace work.options.quiet (run_place work.options.lines e.fault name e.answered) outcome.place.items
 
 -- it is the outcome of a completed run, or it reports where the run was interrupted
-abbrev pub IsOutcomeOf : Work → List ℕ → List ℕ → Result Outcome Interruption → Outcome → Type 0
-IsOutcomeOf work name other (Ok done) outcome = outcome ≡ done
-IsOutcomeOf work name other (Err e) outcome = IsBrokenOff work name other e outcome
+abbrev pub IsOutcomeOf : Work → List ℕ → Result Outcome Interruption → Outcome → Type 0
+IsOutcomeOf work name (Ok done) outcome = outcome ≡ done
+IsOutcomeOf work name (Err e) outcome = IsBrokenOff work name e outcome
 
 -- the fault of a run whose next line couldn't be read
-abbrev pub take_of : NextFault → TakeFault
-take_of next.Read = Read
-take_of next.TooLong = TooLarge
-take_of next.OutOfMemory = OutOfMemory
-
 abbrev pub of_next : NextFault → RunFault
-of_next fault = Take (take_of fault)
+of_next next.Read = Take Read
+of_next next.TooLong = Take TooLarge
+of_next next.OutOfMemory = Take OutOfMemory
 
 -- ---- lines of a content
 
@@ -132,7 +121,7 @@ module _ {K : Type 0} (taken : K → Option (List ℕ)) (is_failed : K → Bool)
 
   abbrev pub PutsAnswer : Answer → K → K → Result Outcome Interruption → Type 0
   PutsAnswer answer out out' (Ok outcome) = IsPut answer out out' outcome
-  PutsAnswer answer out out' (Err e) = (e ≡ record { fault = Write; answered = 0; side = Second }) × PutFront out out' answer.output.items
+  PutsAnswer answer out out' (Err e) = (e ≡ record { fault = Write; answered = 0 }) × PutFront out out' answer.output.items
 
   -- the answer to a line was written, or a prefix of it; or an allocation failed
   abbrev pub PutsLine : Work → List ℕ → K → K → Result ℕ RunFault → Type 0
@@ -141,6 +130,16 @@ module _ {K : Type 0} (taken : K → Option (List ℕ)) (is_failed : K → Bool)
   PutsLine work line out out' (Err Write) = (status : ℕ) × (output : List ℕ) × AnswersLine work line status output × PutFront out out' output
 
 -- ---- the run
+
+module _ {S : Type 0} (content : S → Option (List ℕ)) (has_stopped : S → Bool) (allowance : S → ℕ) where
+  -- the source gave no complete line after the first `count`, and then a call failed
+  abbrev pub BrokeInLine : S → S → ℕ → Type 0
+  BrokeInLine old new count = (given : List ℕ) × source.GaveThenFailed content has_stopped allowance old new given × (line_feeds given ≤ count)
+
+  -- no call of it failed, and it gave no complete line after the first `count` before its last block: no block is requested
+  -- before the lines of the previous one are answered
+  abbrev pub GaveFew : S → S → ℕ → Type 0
+  GaveFew old new count = (given : List ℕ) × source.Gave content has_stopped allowance old new given × (line_feeds (before_block given) ≤ count)
 
 module _ {S K : Type 0} (content : S → Option (List ℕ)) (has_stopped : S → Bool) (allowance : S → ℕ)
     (taken : K → Option (List ℕ)) (is_failed : K → Bool) where
@@ -184,16 +183,13 @@ module _ {S K : Type 0} (content : S → Option (List ℕ)) (has_stopped : S →
       × (¬ HasLines work → (length bytes ≤ size_limit) × (has_stopped input' ≡ false)))
       ⊎ (Streams work × IfTold (content input) (λ all. FrontGone all (content input')))
 
-  -- the input gave no complete line after the first `count`, and then a call failed
+  -- a call of an input that is read by lines failed before it gave a complete line after the first `count`
   abbrev pub StopsInLine : Work → S → S → ℕ → Type 0
-  StopsInLine work input input' count =
-      HasLines work → (given : List ℕ) × source.GaveThenFailed content has_stopped allowance input input' given × (line_feeds given ≤ count)
+  StopsInLine work input input' count = HasLines work → BrokeInLine content has_stopped allowance input input' count
 
-  -- the input gave no complete line after the first `count` before its last block: no block is requested before the lines of
-  -- the previous one are answered
+  -- an input that is read by lines was read no further than to the line after the first `count`, except for the rest of a block
   abbrev pub ReadsNoFurther : Work → S → S → ℕ → Type 0
-  ReadsNoFurther work input input' count =
-      HasLines work → (given : List ℕ) × source.Gave content has_stopped allowance input input' given × (line_feeds (before_block given) ≤ count)
+  ReadsNoFurther work input input' count = HasLines work → GaveFew content has_stopped allowance input input' count
 
   -- the run stopped with this fault, after `count` lines
   abbrev pub FailsAt : Work → S → S → K → K → RunFault → ℕ → Type 0
@@ -220,5 +216,5 @@ module _ {S K : Type 0} (content : S → Option (List ℕ)) (has_stopped : S →
   pub record Runs (work : Work) (name : List ℕ) (input input' : S) (out out' : K) (outcome : Outcome) : Type 0 where
     pub result : Result Outcome Interruption
     pub ends : Ends work input input' out out' result
-    pub is : IsOutcomeOf work name name result outcome
+    pub is : IsOutcomeOf work name result outcome
     pub untouched : ¬ ReadsInput work → input' ≡ input

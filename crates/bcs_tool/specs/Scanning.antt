@@ -14,7 +14,6 @@ use Rattle.bcs_io.specs.declared.taking.TakeFault.TheVariants.{OutOfMemory, Read
 use Rattle.bcs_tool_command_line.specs.declared.work.Work.{Work}
 use Rattle.bcs_tool.specs.Running.{IfTold}
 use Rattle.bcs_tool.specs.declared.interruption.Interruption.{Interruption}
-use Rattle.bcs_tool.specs.declared.interruption.Side.TheVariants.{Second}
 use Rattle.bcs_tool.specs.declared.run_fault.RunFault.{RunFault}
 use Rattle.bcs_tool.specs.declared.run_fault.RunFault.TheVariants.{Take, Write}
 
@@ -26,11 +25,11 @@ Scans false = ScansAll
 -- the answer with the line of a stop, or why there is none
 abbrev pub RefusesScan : DecodeFault → Result Answer Interruption → Type 0
 RefusesScan (decode_fault.Stop stop) (Ok a) = PrintsWithoutPlace a 2 (stop_line stop.reason stop.place)
-RefusesScan (decode_fault.Stop stop) (Err e) = e ≡ record { fault = Take OutOfMemory; answered = 0; side = Second }
+RefusesScan (decode_fault.Stop stop) (Err e) = e ≡ record { fault = Take OutOfMemory; answered = 0 }
 RefusesScan decode_fault.Read (Ok a) = ⊥
-RefusesScan decode_fault.Read (Err e) = e ≡ record { fault = Take Read; answered = 0; side = Second }
+RefusesScan decode_fault.Read (Err e) = e ≡ record { fault = Take Read; answered = 0 }
 RefusesScan decode_fault.OutOfMemory (Ok a) = ⊥
-RefusesScan decode_fault.OutOfMemory (Err e) = e ≡ record { fault = Take OutOfMemory; answered = 0; side = Second }
+RefusesScan decode_fault.OutOfMemory (Err e) = e ≡ record { fault = Take OutOfMemory; answered = 0 }
 
 -- the answer to the content, if it is known
 pub record IsScanned (work : Work) (content : Option (List ℕ)) (answer : Answer) : Type 0 where

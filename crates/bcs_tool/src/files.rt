@@ -3,13 +3,13 @@ ghost use Rattle.std.specs.Prelude.{◌≡◌, ◌≢◌, ◌⊎◌, ◌≤◌, 
 ghost use Rattle.std.specs.Io.KnownBytes.{IsAtEnd};
 ghost use Rattle.bcs_io.specs.Giving.{Gave, GaveThenFailed};
 ghost use Rattle.bcs_tool_command_line.specs.Files.{size_limit};
-ghost use Rattle.bcs_tool_command_line.specs.Files.{IsFaultOfFiles, IsFileText, IsFirstText, IsInputsOf, IsRefusalOf, IsSecondOf, IsTextOfWord, IsWorkOf, NamesNoFile, file_fault_of, is_registry_text};
+ghost use Rattle.bcs_tool_command_line.specs.Files.{IsFaultOfFiles, IsFileText, IsRefusalOf, IsSecondOf, IsTextOfWord, IsWorkOf, NamesNoFile, file_fault_of, is_registry_text};
 
 use crate::input_files::InputFiles;
 use bcs_io::{ByteSource, ReadSource, TakeFault, take_all};
 use bcs_tool_command_line::limits::SIZE_LIMIT;
 use bcs_tool_command_line::{
-    Command, FileFault, FileRefusal, Inputs, Job, JobOptions, OpenCause, UnreadFile, Work,
+    Command, FileFault, FileRefusal, Job, JobOptions, OpenCause, UnreadFile, Work,
 };
 use std::alloc::{AllocError, Global};
 
@@ -72,14 +72,14 @@ pub fn read_opened<S: ByteSource>(alloc: Global, file: &mut S) -> Result<Vec<u8>
     take_all(alloc, file, SIZE_LIMIT)
 }
 
-/// The work of a job, and the names of the files of its inputs. It reads the other files that the job names, that of REG or
-/// OLD before that of NEW or A.
+/// The work of a job, and the name of the file of its input. It reads the other files that the job names, that of REG or OLD
+/// before that of NEW or A.
 pub fn read_work<R: InputFiles + AllocGlobal>(
     rt: &R,
     job: Job,
-) -> Result<(Work, Inputs), FileRefusal>
+) -> Result<(Work, Option<String>), FileRefusal>
     ensures work { IfOk result (λ r. IsWorkOf R.File.remaining job r.0) }
-    ensures inputs { IfOk result (λ r. IsInputsOf job r.1) }
+    ensures file { IfOk result (λ r. r.1 ≡ job.file) }
     ensures fault { IfErr result (IsRefusalOf R.File.remaining job) }
     ensures good { NamesNoFile job → IfErr result (λ e. e.reason ≡ UnreadFile.ReadFailed TakeFault.OutOfMemory) }
 {
@@ -92,7 +92,7 @@ pub fn read_work<R: InputFiles + AllocGlobal>(
             });
         }
     };
-    let second = match read_second(rt, job.command, job.options.lines, job.second.as_str()) {
+    let second = match read_second(rt, job.command, job.second.as_str()) {
         Ok(text) => text,
         Err(reason) => {
             return Err(FileRefusal {
@@ -102,7 +102,6 @@ pub fn read_work<R: InputFiles + AllocGlobal>(
         }
     };
     let display = rt.with_color(job.command, job.options.display);
-    let lines = job.options.lines;
     let work = Work {
         command: job.command,
         registry,
@@ -116,42 +115,25 @@ pub fn read_work<R: InputFiles + AllocGlobal>(
             ..job.options
         },
     };
-    let inputs = Inputs {
-        first: first_name(job.command, lines, job.second),
-        file: job.file,
-    };
-    Ok((work, inputs))
+    Ok((work, job.file))
 }
 
-// The name of A, if its lines are compared.
-fn first_name(command: Command, lines: bool, second: String) -> Option<String>
-    ensures compared { IfSome result (λ name. ((command ≡ Command.Same) × (lines ≡ true)) × (name ≡ second)) }
-    ensures other { result ≡ None → ¬ ((command ≡ Command.Same) × (lines ≡ true)) }
-{
-    if command == Command::Same && lines {
-        Some(second)
-    } else {
-        None
-    }
-}
-
-// What a command reads for its second argument, with `--lines` or without: a registry, a file, or nothing.
+// What a command reads for its second argument: a registry, a file, or nothing.
 fn read_second<R: InputFiles + AllocGlobal>(
     rt: &R,
     command: Command,
-    lines: bool,
     word: &str,
 ) -> Result<Vec<u8>, UnreadFile>
-    ensures text { IfOk result (λ v. IsSecondOf R.File.remaining command lines word.now v.items) }
+    ensures text { IfOk result (λ v. IsSecondOf R.File.remaining command word.now v.items) }
     ensures fault { IfErr result (λ e. IsFaultOfFiles R.File.remaining (file_fault_of e)) }
-    ensures good { (command ≡ Command.Same → lines ≡ true) → (command ≡ Command.Grows → is_registry_text word.now ≡ true)
+    ensures good { command ≢ Command.Same → (command ≡ Command.Grows → is_registry_text word.now ≡ true)
         → IsOkUnless result (UnreadFile.ReadFailed TakeFault.OutOfMemory) }
     ensures named { IfErr result (λ e. e ≢ UnreadFile.ReadFailed TakeFault.OutOfMemory
-        → ((command ≡ Command.Same) × (lines ≡ false)) ⊎ ((command ≡ Command.Grows) × (is_registry_text word.now ≡ false))) }
+        → (command ≡ Command.Same) ⊎ ((command ≡ Command.Grows) × (is_registry_text word.now ≡ false))) }
 {
     match command {
         Command::Grows => read_registry(rt, word),
-        Command::Same => read_first(rt, lines, word),
+        Command::Same => read_file(rt, word),
         Command::Check
         | Command::Show
         | Command::Example
@@ -163,23 +145,6 @@ fn read_second<R: InputFiles + AllocGlobal>(
         | Command::Part
         | Command::Scan => Ok(Vec::new(rt.alloc())),
     }
-}
-
-// The content of A, or nothing if its lines are compared.
-fn read_first<R: InputFiles + AllocGlobal>(
-    rt: &R,
-    lines: bool,
-    name: &str,
-) -> Result<Vec<u8>, UnreadFile>
-    ensures text { IfOk result (λ v. IsFirstText R.File.remaining lines v.items) }
-    ensures fault { IfErr result (λ e. IsFaultOfFiles R.File.remaining (file_fault_of e)) }
-    ensures good { lines ≡ true → IsOkUnless result (UnreadFile.ReadFailed TakeFault.OutOfMemory) }
-    ensures named { IfErr result (λ _. lines ≡ false) }
-{
-    if lines {
-        return Ok(Vec::new(rt.alloc()));
-    }
-    read_file(rt, name)
 }
 
 // The JSON of a registry: the argument itself, or the content of the file that it names.

@@ -5,49 +5,35 @@ use bcs_io::TakeFault;
 use std::alloc::AllocError;
 use thiserror::Error;
 
-/// One of the inputs of a run.
-#[derive(Clone, Copy, Debug, Drop, PartialEq, Eq)]
-pub enum Side {
-    /// A, if the lines of two files are compared.
-    First,
-    /// B, or the input of any other job.
-    Second,
-}
-
 /// Why a run was interrupted, and where.
 #[derive(Clone, Copy, Debug, Drop, Error)]
 #[error("{fault}")]
 pub struct Interruption {
     pub fault: RunFault,
-    /// The number of lines, or of pairs of lines, that were answered before; 0 if the input isn't read by lines.
+    /// The number of lines that were answered before; 0 if the input isn't read by lines.
     pub answered: u64,
-    /// The input that failed. It has no meaning if the output failed or memory ran out.
-    pub side: Side,
 }
 
 impl From<TakeFault> for Interruption {
     ghost use Rattle.std.specs.Prelude.{◌≡◌};
-    ghost use Rattle.bcs_tool.specs.declared.interruption.Side.TheVariants.{Second};
     ghost use Rattle.bcs_tool.specs.declared.run_fault.RunFault.TheVariants.{Take};
 
-    ghost from_gives = { λ fault result. result ≡ record { fault = Take fault; answered = 0; side = Second } };
+    ghost from_gives = { λ fault result. result ≡ record { fault = Take fault; answered = 0 } };
 
     fn from(fault: TakeFault) -> Interruption {
         Interruption {
             fault: RunFault::Take(fault),
             answered: 0,
-            side: Side::Second,
         }
     }
 }
 
 impl From<AllocError> for Interruption {
     ghost use Rattle.std.specs.Prelude.{◌≡◌};
-    ghost use Rattle.bcs_tool.specs.declared.interruption.Side.TheVariants.{Second};
     ghost use Rattle.bcs_tool.specs.declared.run_fault.RunFault.TheVariants.{Take};
     ghost use Rattle.bcs_io.specs.declared.taking.TakeFault.TheVariants.{OutOfMemory};
 
-    ghost from_gives = { λ _ result. result ≡ record { fault = Take OutOfMemory; answered = 0; side = Second } };
+    ghost from_gives = { λ _ result. result ≡ record { fault = Take OutOfMemory; answered = 0 } };
 
     fn from(_: AllocError) -> Interruption {
         Interruption::from(TakeFault::OutOfMemory)

@@ -12,9 +12,6 @@ mod line_reading;
 mod line_running;
 mod new_file;
 mod output_file;
-mod pair_lines;
-mod pair_places;
-mod pair_running;
 mod performing;
 mod put_answer;
 mod reporting;
@@ -32,16 +29,15 @@ pub use bcs_display_text::style::{Form, Paint, Style};
 pub use bcs_io::{ByteSink, ByteSource, ReadSource, TakeFault, WriteSink, put_all, take_all};
 pub use bcs_tool_answers::laws;
 pub use bcs_tool_command_line::{
-    Coding, Color, Command, Display, FileFault, FileRefusal, Inputs, Job, JobOptions, LineFault,
-    Misuse, Notation, OpenCause, Origin, Outcome, UnreadFile, Work,
+    Coding, Color, Command, Display, FileFault, FileRefusal, Job, JobOptions, LineFault, Misuse,
+    Notation, OpenCause, Origin, Outcome, UnreadFile, Work,
 };
 pub use command_line::line;
 pub use entry::{args_of, program, start};
 pub use files::{read_named, read_opened, read_work};
 pub use input_files::InputFiles;
-pub use interruption::{Interruption, Side};
+pub use interruption::Interruption;
 pub use output_file::{OpenFailed, OutputFile};
-pub use pair_running::run_pairs;
 pub use reporting::{print_report, report_fault};
 pub use responding::respond;
 pub use run_fault::RunFault;

@@ -1,7 +1,7 @@
 //! The next line of an input.
 ghost use Rattle.bcs_tool.specs.Lines.{ReadsLine};
 
-use crate::interruption::{Interruption, Side};
+use crate::interruption::Interruption;
 use crate::run_fault::RunFault;
 use bcs_io::{ByteSource, LineBuffer};
 use bcs_tool_command_line::limits::SIZE_LIMIT;
@@ -10,10 +10,9 @@ use bcs_tool_command_line::limits::SIZE_LIMIT;
 pub fn read_line<S: ByteSource>(
     buffer: &mut LineBuffer,
     source: &mut S,
-    side: Side,
     answered: u64,
 ) -> Result<bool, Interruption>
-    ensures { ReadsLine S.content S.is_failed S.allowance side answered
+    ensures { ReadsLine S.content S.is_failed S.allowance answered
         source.old source.new buffer.old buffer.new result }
 {
     match buffer.advance(source, SIZE_LIMIT) {
@@ -21,7 +20,6 @@ pub fn read_line<S: ByteSource>(
         Err(fault) => Err(Interruption {
             fault: RunFault::of_next(fault),
             answered,
-            side,
         }),
     }
 }

@@ -5,7 +5,7 @@ ghost use Rattle.bcs_tool.specs.Running.{Ends, PutsLine};
 ghost use Rattle.bcs_tool_answers.specs.Preparing.{IsAskedBy};
 ghost use Rattle.bcs_tool_command_line.specs.Files.{size_limit};
 
-use crate::interruption::{Interruption, Side};
+use crate::interruption::Interruption;
 use crate::line_reading::read_line;
 use crate::run_fault::RunFault;
 use crate::run_places::place_of_tally;
@@ -52,7 +52,7 @@ fn put_lines<S: ByteSource, K: ByteSink>(
     let mut buffer = LineBuffer::new(alloc);
     let mut tally = Tally::new();
     loop {
-        if !read_line(&mut buffer, input, Side::Second, tally.answered)? {
+        if !read_line(&mut buffer, input, tally.answered)? {
             return Ok(tally);
         }
         match put_line(alloc, work, asked, buffer.line(), out) {
@@ -61,7 +61,6 @@ fn put_lines<S: ByteSource, K: ByteSink>(
                 return Err(Interruption {
                     fault,
                     answered: tally.answered,
-                    side: Side::Second,
                 });
             }
         }

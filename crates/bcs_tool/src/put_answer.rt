@@ -1,7 +1,7 @@
 //! Writes one answer.
 ghost use Rattle.bcs_tool.specs.Running.{PutsAnswer};
 
-use crate::interruption::{Interruption, Side};
+use crate::interruption::Interruption;
 use crate::run_fault::RunFault;
 use bcs_io::{ByteSink, put_all};
 use bcs_tool_answers::Answer;
@@ -20,7 +20,6 @@ pub fn put_answer<K: ByteSink>(answer: Answer, out: &mut K) -> Result<Outcome, I
         Err(_) => Err(Interruption {
             fault: RunFault::Write,
             answered: 0,
-            side: Side::Second,
         }),
     }
 }

@@ -1,36 +1,24 @@
 //! Where a run was interrupted, and how its lines were answered: the line on standard error after the note.
 ghost use Rattle.std.specs.Prelude.{◌≡◌, ◌++◌, IfOk, OnOk};
 ghost use Rattle.std.specs.Fmt.{decimal};
-ghost use Rattle.bcs_tool.specs.Running.{run_place, side_text, stream_text};
+ghost use Rattle.bcs_tool.specs.Running.{run_place, stream_text};
 ghost use Rattle.bcs_tool_answers.specs.LineAnswers.{tally_text};
 ghost use Rattle.bcs_tool_command_line.specs.FaultPlaces.{ReportsPlace, origin_text};
 
-use crate::interruption::{Interruption, Side};
+use crate::interruption::Interruption;
 use crate::run_fault::RunFault;
 use crate::tally::Tally;
 use bcs_tool_command_line::{Origin, Work, input_line, output_line};
 use std::alloc::{AllocError, Global};
 
-/// Which of these inputs failed, or the output, and at which line, if lines are answered. It is empty for a quiet job, and if
+/// Whether the input failed or the output, and at which line, if lines are answered. It is empty for a quiet job, and if
 /// memory runs out.
 pub fn place_of_interruption(
     alloc: Global,
     work: &Work,
     interruption: Interruption,
-    first: Origin<'_>,
-    second: Origin<'_>,
+    origin: Origin<'_>,
 ) -> Vec<u8>
-    ensures { ReportsPlace work.now.options.quiet (run_place work.now.options.lines interruption.fault
-        (side_text interruption.side (origin_text first.entry) (origin_text second.entry)) interruption.answered) result.items }
-{
-    let origin = match interruption.side {
-        Side::First => first,
-        Side::Second => second,
-    };
-    place_in(alloc, work, interruption, origin)
-}
-
-fn place_in(alloc: Global, work: &Work, interruption: Interruption, origin: Origin<'_>) -> Vec<u8>
     ensures { ReportsPlace work.now.options.quiet (run_place work.now.options.lines interruption.fault (origin_text origin.entry) interruption.answered) result.items }
 {
     if work.options.quiet {
@@ -70,13 +58,8 @@ fn stream_line(alloc: Global, fault: RunFault, origin: Origin<'_>) -> Result<Vec
     }
 }
 
-/// Appends a text and a number.
-pub fn put_count(
-    alloc: Global,
-    text: &str,
-    count: u128,
-    line: &mut Vec<u8>,
-) -> Result<(), AllocError>
+// Appends a text and a number.
+fn put_count(alloc: Global, text: &str, count: u128, line: &mut Vec<u8>) -> Result<(), AllocError>
     ensures { OnOk result (line.new.items ≡ line.old.items ++ text.now ++ decimal count) }
 {
     line.extend_from_slice(text.as_bytes())?;
@@ -97,8 +80,7 @@ pub fn place_of_tally(alloc: Global, quiet: bool, tally: Tally) -> Vec<u8>
     }
 }
 
-/// The line of a tally.
-pub fn tally_line(alloc: Global, tally: Tally) -> Result<Vec<u8>, AllocError>
+fn tally_line(alloc: Global, tally: Tally) -> Result<Vec<u8>, AllocError>
     ensures { IfOk result (λ line. line.items ≡ tally_text tally.done tally.negative tally.refused) }
 {
     let mut line = Vec::new(alloc);

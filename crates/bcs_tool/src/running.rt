@@ -44,24 +44,23 @@ pub fn run_from<S: ByteSource, K: ByteSink>(
         input.old input.new out.old out.new result }
 {
     let ended = put_answers(alloc, work, input, out);
-    outcome_of(alloc, work, ended, origin, origin)
+    outcome_of(alloc, work, ended, origin)
 }
 
-/// The outcome of a run on inputs of these origins: its own, or where it was interrupted.
-pub(crate) fn outcome_of(
+// The outcome of a run on an input of this origin: its own, or where it was interrupted.
+fn outcome_of(
     alloc: Global,
     work: &Work,
     ended: Result<Outcome, Interruption>,
-    first: Origin<'_>,
-    second: Origin<'_>,
+    origin: Origin<'_>,
 ) -> Outcome
-    ensures { IsOutcomeOf work.now (origin_text first.entry) (origin_text second.entry) ended result }
+    ensures { IsOutcomeOf work.now (origin_text origin.entry) ended result }
 {
     match ended {
         Ok(outcome) => outcome,
         Err(interruption) => failed(
             interruption.fault.note(),
-            place_of_interruption(alloc, work, interruption, first, second),
+            place_of_interruption(alloc, work, interruption, origin),
         ),
     }
 }

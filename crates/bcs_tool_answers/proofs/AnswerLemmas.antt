@@ -1,5 +1,5 @@
 -- Answers with an equal status and equal output, and the parsed request for an input.
-use Rattle.bcs_tool_answers.proofs.Prelude.{◌≡◌, ◌≢◌, ◌≤◌, ◌<◌, ◌⊎◌, ◌++◌, [], Err, IfSome, List, Ok, Option, Some, arith, inl, inr, length, subst, sym, true, ℕ, Entries, Shape, shape_of, Tree, Bounds, Accepts, StopsAll, Stop, Shows, FromFault, json_fault_name, of, shown, Denotes, RefusesText, nesting_limit, JsonFault, decode_of, FromHexError, OutOfMemory, depth, Answers, AnswersTexts, IsAsked, checked, compared, damaged, decoded, described, different, encoded, equal, exampled, explained, first_refused, found, front_stopped, grown, no_bytes, normalised, nowhere, refusal_line, refused, refused_early, scan_stopped, scanned, second_refused, stopped, too_nested, IsAnswer, Places, PrintsWithoutPlace, MayReport, nothing, told, RefusesJobOf, RefusesFormatted, RefusesPart, works_on_values, IsAskedBy, Answer, JobFault, BadPath, Growth, Registry, Asked, size_limit, Work, Command, Check, Show, Example, Schema, Encode, Decode, Explain, Normalise, Same, Scan}
+use Rattle.bcs_tool_answers.proofs.Prelude.{◌≡◌, ◌≢◌, ◌≤◌, ◌<◌, ◌⊎◌, ◌++◌, [], Err, List, Ok, arith, inl, inr, length, subst, sym, true, ℕ, Entries, Shape, shape_of, Tree, Bounds, Accepts, StopsAll, Stop, Shows, FromFault, json_fault_name, of, shown, Denotes, RefusesText, nesting_limit, JsonFault, decode_of, FromHexError, OutOfMemory, depth, Answers, AnswersTexts, IsAsked, checked, compared, damaged, decoded, described, different, encoded, equal, exampled, explained, first_refused, found, front_stopped, grown, no_bytes, normalised, nowhere, refusal_line, refused, refused_early, scan_stopped, scanned, second_refused, stopped, too_nested, IsAnswer, Places, PrintsWithoutPlace, MayReport, nothing, told, RefusesJobOf, RefusesFormatted, RefusesPart, works_on_values, IsAskedBy, Answer, JobFault, BadPath, Growth, Registry, Asked, size_limit, Work, Command, Check, Show, Example, Schema, Encode, Decode, Explain, Normalise, Same, Scan}
 use Rattle.bcs_json.specs.declared.from_fault.FromFault.TheVariants as from
 use Rattle.bcs_tool_answers.specs.Answers as answers
 use Rattle.bcs_tool_command_line.specs.declared.command.Command.TheVariants.{Grows, Part}
@@ -38,9 +38,6 @@ same_answer work input a s p h is = placed_answer work input s p a h.same_status
 -- an answer with a place that was set
 pub with_place : (work : Work) (place set : List ℕ) → place ≡ set → MayReport work set → MayReport work place
 with_place work place set same reports = subst (λ (text : List ℕ). MayReport work text) (sym same) reports
-
-pub if_some_holds : {T : Type 0} (P : T → Type 0) (x : Option T) (t : T) → x ≡ Some t → IfSome x P → P t
-if_some_holds P x t is h = subst (λ y. IfSome y P) is h
 
 -- the job is for this command, and its input is within the size limit
 pub is_asked : {work : Work} {asked : Asked} (input : List ℕ) (k : Command) → work.command ≡ k → IsAskedBy work asked → length input ≤ size_limit

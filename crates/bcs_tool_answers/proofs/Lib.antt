@@ -16,5 +16,3 @@ pub mod SomeAnswer
 pub mod FormLemmas
 pub mod LineAnswerLemmas
 pub mod LineLaws
-pub mod PairAnswerLemmas
-pub mod PairLaws

@@ -81,20 +81,17 @@ pub use Rattle.hex.specs.declared.error.FromHexError.{FromHexError}
 pub use Rattle.hex.specs.declared.error.FromHexError.TheVariants.{OutOfMemory}
 pub use Rattle.serde_json.specs.Data.{depth}
 pub use Rattle.serde_json.specs.Written.{compact_text}
-pub use Rattle.bcs_tool_answers.specs.AnswerLaws.{IsExact, OneAnswer, OneAnswerALine, OneComparison, SomeAnswer, SomeAnswerALine, SomeComparison}
+pub use Rattle.bcs_tool_answers.specs.AnswerLaws.{IsExact, OneAnswer, OneAnswerALine, SomeAnswer, SomeAnswerALine}
 pub use Rattle.bcs_tool_answers.specs.Answers.{Answers, AnswersTexts, checked, compared, count_line, damaged, decoded, described, different, encoded, equal, exampled, explained, first_refused, found, front_stopped, grown, IsAsked, IsWithin, line_of, Lists, lists, no_bytes, normalised, nowhere, printed, printed_none, refusal_line, refused, refused_early, scan_stopped, scanned, ScanStops, second_refused, stop_line, stopped, too_nested}
 pub use Rattle.bcs_tool_answers.specs.Input.{GivesBytes, input_fault_name, is_blank, IsBase64Of, without_blanks}
 unfoldable pub use Rattle.bcs_tool_answers.specs.Input.{base64_text}
 pub use Rattle.bcs_tool_answers.specs.JsonRefusals.{HasForm, InForm, IsJsonRefusal, is_digit, is_of_name, place_digits, place_member, refusal_name}
 pub use Rattle.bcs_tool_answers.specs.LineAnswers.{AnswersAll, AnswersLine, count_of, greatest, run_status}
-pub use Rattle.bcs_tool_answers.specs.PairAnswers.{AnswersLinePair, AnswersPair, AnswersPairs}
 pub use Rattle.bcs_tool_answers.specs.Notations.{SpellsNoSteps, SpellsSteps}
 pub use Rattle.bcs_tool_answers.specs.Places.{IsAnswer, IsPrintable, MayReport, nothing, Places, PrintsWithoutPlace, told}
 pub use Rattle.bcs_tool_answers.specs.Preparing.{IsAskedBy}
 pub use Rattle.bcs_tool_answers.specs.Validating.{is_json_word, IsFormatWord, IsPathOf, IsRegistry, job_fault_name, name_of, NamesNone, ReadsInput, RefusesCheck, RefusesEarly, RefusesFormatted, RefusesFormatWord, RefusesGrowth, RefusesJobOf, RefusesPart, works_on_values}
 pub use Rattle.bcs_tool_answers.specs.declared.answer.Answer.{Answer}
-pub use Rattle.bcs_tool_answers.specs.declared.ending.Ending.{Ending}
-pub use Rattle.bcs_tool_answers.specs.declared.ending.Ending.TheVariants.{FirstEnds, SecondEnds, Together}
 pub use Rattle.bcs_tool_answers.specs.declared.job_fault.JobFault.{JobFault}
 pub use Rattle.bcs_tool_answers.specs.declared.job_fault.JobFault.TheVariants.{BadPath, Growth, Registry}
 pub use Rattle.bcs_tool_answers.specs.declared.validating.Asked.{Asked}

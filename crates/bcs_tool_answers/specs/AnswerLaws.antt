@@ -4,9 +4,7 @@ use Rattle.std.specs.List.{All}
 use Rattle.bcs_decode_spec.specs.Exact.{AreBytes}
 use Rattle.bcs_io.specs.Lines.{lines_of}
 use Rattle.bcs_tool_answers.specs.Answers.{Answers, IsWithin}
-use Rattle.bcs_tool_answers.specs.Validating.{ReadsInput}
 use Rattle.bcs_tool_answers.specs.LineAnswers.{AnswersLines}
-use Rattle.bcs_tool_answers.specs.PairAnswers.{AnswersFiles}
 use Rattle.bcs_tool_command_line.specs.Files.{size_limit}
 use Rattle.bcs_tool_command_line.specs.declared.work.Work.{Work}
 use Rattle.bcs_tool_command_line.specs.declared.command.Command.{Command}
@@ -47,15 +45,3 @@ OneAnswerALine = (work : Work) (content : List ℕ) (status other : ℕ) (output
 abbrev pub SomeAnswerALine : Type 0
 SomeAnswerALine = (work : Work) (content : List ℕ) → AreBytes content → All (λ line. length line ≤ size_limit) (lines_of content)
     → (status : ℕ) × (output : List ℕ) × AnswersLines work content status output
-
--- ---- the lines of two files
-
--- there is at most one answer to them, unless refusals are JSON
-abbrev pub OneComparison : Type 0
-OneComparison = (work : Work) (first second : List ℕ) (status other : ℕ) (output again : List ℕ) → work.options.json_refusals ≡ false
-    → AnswersFiles work first second status output → AnswersFiles work first second other again → (status ≡ other) × (output ≡ again)
-
--- and there is one, unless the job's own arguments are refused
-abbrev pub SomeComparison : Type 0
-SomeComparison = (work : Work) (first second : List ℕ) → ReadsInput work
-    → (status : ℕ) × (output : List ℕ) × AnswersFiles work first second status output

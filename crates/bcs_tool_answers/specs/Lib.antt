@@ -4,7 +4,6 @@ pub mod Input
 pub mod Answers
 pub mod JsonRefusals
 pub mod LineAnswers
-pub mod PairAnswers
 pub mod AnswerLaws
 pub mod Places
 pub mod Preparing

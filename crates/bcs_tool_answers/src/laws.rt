@@ -1,5 +1,5 @@
 //! Laws about the program's answers, for use in proofs. Calling these functions does nothing.
-ghost use Rattle.bcs_tool_answers.specs.AnswerLaws.{OneAnswer, OneAnswerALine, OneComparison, SomeAnswer, SomeAnswerALine, SomeComparison};
+ghost use Rattle.bcs_tool_answers.specs.AnswerLaws.{OneAnswer, OneAnswerALine, SomeAnswer, SomeAnswerALine};
 
 /// A job whose output is exact has at most one answer to an input: one status and one output.
 #[tactic(auto, using(crate::proofs::OneAnswer::one_answer))]
@@ -22,15 +22,4 @@ pub fn one_answer_a_line()
 #[tactic(auto, using(crate::proofs::LineLaws::some_answer_a_line))]
 pub fn some_answer_a_line()
     ensures { SomeAnswerALine }
-{}
-
-/// Two files that are compared line by line have at most one answer, unless refusals are JSON.
-pub fn one_comparison()
-    ensures { OneComparison }
-{}
-
-/// Two files that are compared line by line have an answer if the job's own arguments are not refused.
-#[tactic(auto, using(crate::proofs::PairLaws::some_comparison))]
-pub fn some_comparison()
-    ensures { SomeComparison }
 {}

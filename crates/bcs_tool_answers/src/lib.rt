@@ -5,7 +5,6 @@ mod answer;
 mod base64_input;
 mod blanks;
 mod bytes_answers;
-mod ending;
 mod examples;
 mod explanations;
 mod growing;
@@ -31,9 +30,8 @@ mod value_answers;
 mod word_places;
 
 pub use answer::{Answer, counted, stopped};
-pub use ending::Ending;
 pub use job_fault::JobFault;
-pub use line_answers::{answer_line, answer_line_pair};
+pub use line_answers::answer_line;
 pub use pair_answers::answer_pair;
 pub use preparing::prepare;
 pub use scan_answers::is_unlimited;

@@ -2,12 +2,10 @@
 ghost use Rattle.std.specs.Prelude.{◌≤◌, length, IfOk};
 ghost use Rattle.bcs_tool_command_line.specs.Files.{size_limit};
 ghost use Rattle.bcs_tool_answers.specs.LineAnswers.{AnswersLine};
-ghost use Rattle.bcs_tool_answers.specs.PairAnswers.{AnswersLinePair};
 ghost use Rattle.bcs_tool_answers.specs.Preparing.{IsAskedBy};
 
 use crate::answer::Answer;
 use crate::json_refusals::formed;
-use crate::pair_answers::answer_pair;
 use crate::validating::Asked;
 use crate::value_answers::answer_values;
 use bcs_tool_command_line::Work;
@@ -25,20 +23,5 @@ pub fn answer_line(
     ensures { IfOk result (λ a. AnswersLine work.now line.now a.status a.output.items) }
 {
     let answer = answer_values(alloc, work, asked, line)?;
-    formed(alloc, work.options.json_refusals, answer)
-}
-
-/// The answer to a line of one file and the same line of another.
-pub fn answer_line_pair(
-    alloc: Global,
-    work: &Work,
-    asked: &Asked,
-    first: &[u8],
-    second: &[u8],
-) -> Result<Answer, AllocError>
-    requires { IsAskedBy work.now asked.now }
-    ensures { IfOk result (λ a. AnswersLinePair work.now first.now second.now a.status a.output.items) }
-{
-    let answer = answer_pair(alloc, work, asked, first, second)?;
     formed(alloc, work.options.json_refusals, answer)
 }

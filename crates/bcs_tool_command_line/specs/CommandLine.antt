@@ -104,7 +104,7 @@ abbrev pub normalise_app : App
 normalise_app = on_top (λ s. record s { aliases = codes "normalize" ∷ [] }) (fold with_rule (value_app (codes "normalise")) (optional (codes "FILE") ∷ lines_options))
 
 abbrev pub same_app : App
-same_app = fold with_rule (value_app (codes "same")) (required (codes "A") ∷ optional (codes "B") ∷ lines_options)
+same_app = fold with_rule (value_app (codes "same")) (required (codes "A") ∷ optional (codes "B") ∷ [])
 
 -- other ways to write PATH
 abbrev pub notation_options : List Rule

@@ -10,7 +10,6 @@ use Rattle.bcs_tool_command_line.specs.declared.job.Job.{Job}
 use Rattle.bcs_io.specs.declared.taking.TakeFault.TheVariants.{Read, TooLarge, OutOfMemory}
 use Rattle.bcs_tool_command_line.specs.declared.unread_file.UnreadFile.{UnreadFile}
 use Rattle.bcs_tool_command_line.specs.declared.unread_file.UnreadFile.TheVariants.{OpenFailed, ReadFailed}
-use Rattle.bcs_tool_command_line.specs.declared.work.Inputs.{Inputs}
 use Rattle.bcs_tool_command_line.specs.declared.work.Work.{Work}
 
 -- the most bytes of an input, and of a registry's text
@@ -41,25 +40,15 @@ abbrev pub IsContent : Option (List ℕ) → List ℕ → Type 0
 IsContent None bytes = Unit {0}
 IsContent (Some content) bytes = bytes ≡ content
 
--- the job compares two files line by line, so that A is an input as B is
-abbrev pub ComparesLines : Job → Type 0
-ComparesLines job = (job.command ≡ Same) × (job.options.lines ≡ true)
-
--- the job's registries are texts themselves, and it has no A but one that is an input, so that no file is read for its work
+-- the job's registries are texts themselves, and it has no A, so that no file is read for its work
 abbrev pub NamesNoFile : Job → Type 0
-NamesNoFile job = (is_registry_text (string_bytes job.registry) ≡ true) × (job.command ≡ Same → job.options.lines ≡ true)
+NamesNoFile job = (is_registry_text (string_bytes job.registry) ≡ true) × (job.command ≢ Same)
     × (job.command ≡ Grows → is_registry_text (string_bytes job.second) ≡ true)
 
 -- the job's second word names the file that its work needs: that of NEW, or of A
 abbrev pub NamesSecond : Job → List ℕ → Type 0
 NamesSecond job name = ((job.command ≡ Grows) × (is_registry_text name ≡ false) × (name ≡ string_bytes job.second))
-    ⊎ ((job.command ≡ Same) × (job.options.lines ≡ false) × (name ≡ string_bytes job.second))
-
--- the files that a run reads itself: A, where its lines are compared, and that of the input
-pub record IsInputsOf (job : Job) (inputs : Inputs) : Type 0 where
-  pub compared : IfSome inputs.first (λ name. ComparesLines job × (name ≡ job.second))
-  pub other : inputs.first ≡ None → ¬ ComparesLines job
-  pub file : inputs.file ≡ job.file
+    ⊎ ((job.command ≡ Same) × (name ≡ string_bytes job.second))
 
 -- What files gave. Which file a name opens, no clause of std says: it is known what an opened file gave, and
 -- not which it is.
@@ -92,31 +81,26 @@ module _ {F : Type 0} (remaining : F → Option (List ℕ)) where
   abbrev pub IsRefusalOf : Job → FileRefusal → Type 0
   IsRefusalOf job refusal = IsFaultOfFiles (file_fault_of refusal.reason) × (refusal.reason ≢ ReadFailed OutOfMemory → NamesForWork job (string_bytes refusal.name))
 
-  -- bytes that were read for A: none where its lines are compared one by one
-  abbrev pub IsFirstText : Bool → List ℕ → Type 0
-  IsFirstText true text = text ≡ []
-  IsFirstText false text = IsFileText text
-
-  -- bytes that were read for the second word of a command, for lines or not: none where the command has none
-  abbrev pub IsSecondOf : Command → Bool → List ℕ → List ℕ → Type 0
-  IsSecondOf Check lines word text = text ≡ []
-  IsSecondOf Grows lines word text = IsTextOfWord word text
-  IsSecondOf Show lines word text = text ≡ []
-  IsSecondOf Example lines word text = text ≡ []
-  IsSecondOf Schema lines word text = text ≡ []
-  IsSecondOf Encode lines word text = text ≡ []
-  IsSecondOf Decode lines word text = text ≡ []
-  IsSecondOf Explain lines word text = text ≡ []
-  IsSecondOf Normalise lines word text = text ≡ []
-  IsSecondOf Same lines word text = IsFirstText lines text
-  IsSecondOf Part lines word text = text ≡ []
-  IsSecondOf Scan lines word text = text ≡ []
+  -- bytes that were read for the second word of a command: none where the command has none
+  abbrev pub IsSecondOf : Command → List ℕ → List ℕ → Type 0
+  IsSecondOf Check word text = text ≡ []
+  IsSecondOf Grows word text = IsTextOfWord word text
+  IsSecondOf Show word text = text ≡ []
+  IsSecondOf Example word text = text ≡ []
+  IsSecondOf Schema word text = text ≡ []
+  IsSecondOf Encode word text = text ≡ []
+  IsSecondOf Decode word text = text ≡ []
+  IsSecondOf Explain word text = text ≡ []
+  IsSecondOf Normalise word text = text ≡ []
+  IsSecondOf Same word text = IsFileText text
+  IsSecondOf Part word text = text ≡ []
+  IsSecondOf Scan word text = text ≡ []
 
   -- the job's work. Its options are the job's, except for those of output that people read
   pub record IsWorkOf (job : Job) (work : Work) : Type 0 where
     pub command : work.command ≡ job.command
     pub registry : IsTextOfWord (string_bytes job.registry) work.registry.items
-    pub second : IsSecondOf job.command job.options.lines (string_bytes job.second) work.second.items
+    pub second : IsSecondOf job.command (string_bytes job.second) work.second.items
     pub format : work.format ≡ job.format
     pub path : work.path ≡ job.path
     pub raw : work.raw ≡ job.raw

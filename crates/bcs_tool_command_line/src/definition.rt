@@ -243,8 +243,6 @@ fn same_command<'a>(alloc: Global) -> Result<Command<'a>, AllocError>
         &[
             Word::Required("A", texts::FIRST_FILE),
             Word::Optional("B", texts::SECOND_FILE),
-            Word::Flag("lines", texts::LINES_OF_BOTH),
-            REFUSALS,
         ],
     )
 }

@@ -42,4 +42,4 @@ pub use origin::Origin;
 pub use parsing::parsed_job;
 pub use styling::with_color;
 pub use unread_file::UnreadFile;
-pub use work::{Inputs, Outcome, Work};
+pub use work::{Outcome, Work};

@@ -52,10 +52,6 @@ pub const LINES_OF_PIECES: &str =
     "Treats each line of the input as an input of its own. An empty line follows the pieces of each; with \
     --json, each is answered with a line, the array of its pieces";
 
-pub const LINES_OF_BOTH: &str =
-    "Compares each line of A with the same line of B, and answers each pair with a line, until one of the \
-    files ends";
-
 pub const REFUSALS: &str =
     "Answers refused lines with a JSON object each, if FORM is json. They don't change the status. Needs \
     --lines";
@@ -193,6 +189,9 @@ Status: 0 done, 2 refused, 3 usage, 4 file or memory";
 pub const SAME_EXAMPLES: &str = "Example:
   echo 7 > a.json; echo '\"7\"' | bcs same '{}' '\"U8\"' a.json  # equal
   echo 7 > a.json; echo 8 | bcs same '{}' '\"U8\"' a.json  # different
+
+To compare two files line by line:
+  diff <(bcs normalise --lines REG FORMAT A) <(bcs normalise --lines REG FORMAT B)
 
 Status: 0 equal, 1 different, 2 refused, 3 usage, 4 file or memory";
 

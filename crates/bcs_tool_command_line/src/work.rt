@@ -11,7 +11,7 @@ pub struct Work {
     pub command: Command,
     /// The JSON of REG, or of OLD.
     pub registry: Vec<u8>,
-    /// The JSON of NEW, or of A; empty if the command has neither, or if the lines of A are compared.
+    /// The JSON of NEW, or of A; empty if the command has neither.
     pub second: Vec<u8>,
     /// FORMAT as it is; empty if the command has no FORMAT.
     pub format: String,
@@ -59,15 +59,6 @@ impl Work {
     {
         Coding::of(self.raw, self.options.base64)
     }
-}
-
-/// The files that a run reads itself.
-#[derive(Debug, Drop)]
-pub struct Inputs {
-    /// The name of A of `same`, if its lines are compared.
-    pub first: Option<String>,
-    /// The name of the file to read instead of standard input.
-    pub file: Option<String>,
 }
 
 /// How a run ended, and where.

@@ -7,8 +7,8 @@ use crate::words::{bytes, call, number, word_of};
 use bcs_codec::pieces::{PieceSink, PieceSource, RepeatSource};
 use bcs_codec::{DecodeFault, EncodeFault, Reason, Stop, WriteFault};
 use bcs_tool::{
-    ByteSource, Command, FileFault, Interruption, LineFault, OpenCause, Outcome, SystemFile,
-    TakeFault, UnreadFile, Work, line, read_named, respond, run, run_pairs, take_all,
+    ByteSource, Command, FileFault, LineFault, OpenCause, SystemFile, TakeFault, UnreadFile, Work,
+    line, read_named, respond, run, take_all,
 };
 use std::alloc::{AllocError, Global};
 use std::fmt::Display;
@@ -26,9 +26,6 @@ pub(crate) fn answer(rt: &HostRuntime, question: &str, words: &[&str]) -> Result
         }
         ("named", [name]) => named(rt, name),
         ("endless_job", words) => ended_endless(rt, words),
-        ("pairs_end", [first, second, one, other, puts, format]) => {
-            paired(rt.alloc(), [first, second], [one, other, puts], format)
-        }
         ("take_all", [text, piece, limit, reads]) => {
             taken(rt.alloc(), [text, piece], number(limit)?, reads)
         }
@@ -188,55 +185,6 @@ fn ended_endless(rt: &HostRuntime, words: &[&str]) -> Result<String, RowFault> {
     let mut source = RepeatSource::new(b' ');
     let told = responded(rt, &mut source, ["-", "-"], words)?;
     Ok(format!(in rt.alloc(); "{told}, {} given", source.given())?)
-}
-
-// Compares two files line by line, reading two bytes per call. Returns the output and the status, or the fault, the
-// file, and the number of pairs before it.
-fn paired(
-    alloc: Global,
-    [first, second]: [&str; 2],
-    [one, other, puts]: [&str; 3],
-    format: &str,
-) -> Result<String, RowFault> {
-    let fails = [call(one)?, call(other)?, call(puts)?];
-    let mut work = work_of(alloc, &["same", "{}", format, ""])?;
-    work.options.lines = true;
-    let first = bytes(alloc, first)?;
-    pairs_ended(alloc, &work, &first, &bytes(alloc, second)?, fails)
-}
-
-fn pairs_ended(
-    alloc: Global,
-    work: &Work,
-    first: &[u8],
-    second: &[u8],
-    [one, other, puts]: [Option<u64>; 3],
-) -> Result<String, RowFault> {
-    let mut one = PieceSource::new(first, 2, one);
-    let mut other = PieceSource::new(second, 2, other);
-    let mut out = PieceSink::<80>::new(80, puts);
-    let ended = run_pairs(alloc, work, &mut one, &mut other, &mut out);
-    ended_told(alloc, out.taken(), ended)
-}
-
-fn ended_told(
-    alloc: Global,
-    put: &[u8],
-    ended: Result<Outcome, Interruption>,
-) -> Result<String, RowFault> {
-    let put = put_text(alloc, put)?;
-    let told = match ended {
-        Ok(outcome) => format!(in alloc; "{put} {}", outcome.status),
-        Err(interruption) => {
-            let Interruption {
-                fault,
-                answered,
-                side,
-            } = interruption;
-            format!(in alloc; "{put} {} at {side:?} behind {answered}", fault.note())
-        }
-    };
-    Ok(told?)
 }
 
 // Reads a whole source of at most `limit` bytes. Returns how many bytes the source provided.

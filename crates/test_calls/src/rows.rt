@@ -70,7 +70,6 @@ fn answered(
         | "ends"
         | "named"
         | "endless_job"
-        | "pairs_end"
         | "take_all"
         | "messages" => jobs::answer(rt, question, words),
         _ => streams::answer(alloc, question, words),

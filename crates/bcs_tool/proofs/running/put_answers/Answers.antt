@@ -1,4 +1,4 @@
-use Rattle.bcs_tool.proofs.Prelude.{Result, inl, refl, subst, IsPrepared, Answer, Asked, OutOfMemory, Outcome, Second, Ends, Interruption, Take}
+use Rattle.bcs_tool.proofs.Prelude.{Result, inl, refl, subst, IsPrepared, Answer, Asked, OutOfMemory, Outcome, Ends, Interruption, Take}
 use Rattle.bcs_tool.proofs.RunLemmas.{handed_on, no_input_no_lines, no_memory, put_once, some_content, unread}
 use Rattle.bcs_tool.proofs.running.put_answers.Goals as goal
 
@@ -7,7 +7,7 @@ returns-in_err-answer-clause-ends g c =
     let work = c.args.work.now in
     let P : Result Outcome Interruption → Type 0 = λ r. Ends g.S.ByteSource.content g.S.ByteSource.is_failed g.S.ByteSource.allowance g.K.ByteSink.taken g.K.ByteSink.is_failed
     work c.args.input.now c.args.input.now c.args.out.now c.args.out.now r in
-    handed_on P c.from_residual.result (record { fault = Take OutOfMemory; answered = 0; side = Second }) c.from_residual.ensures.1
+    handed_on P c.from_residual.result (record { fault = Take OutOfMemory; answered = 0 }) c.from_residual.ensures.1
     (no_memory g.S.ByteSource.content g.S.ByteSource.is_failed g.S.ByteSource.allowance g.K.ByteSink.taken g.K.ByteSink.is_failed work
     c.args.input.now c.args.input.now c.args.out.now (inl refl)
     (unread g.S.ByteSource.content g.S.ByteSource.is_failed g.S.ByteSource.allowance g.K.ByteSink.taken g.K.ByteSink.is_failed work c.args.input.now))

@@ -1,4 +1,4 @@
-use Rattle.bcs_tool.proofs.Prelude.{◌∙◌, ◌≤◌, Err, List, Result, ap, arith, length, subst, ℕ, IsAnswer, size_limit, OutOfMemory, Outcome, Second, Ends, Interruption, Take}
+use Rattle.bcs_tool.proofs.Prelude.{◌∙◌, ◌≤◌, Err, List, Result, ap, arith, length, subst, ℕ, IsAnswer, size_limit, OutOfMemory, Outcome, Ends, Interruption, Take}
 use Rattle.bcs_tool.proofs.RunLemmas.{handed_on, no_lines, no_memory, not_taken, put_once, reads_input, unhurt_whole, whole_content}
 use Rattle.bcs_tool.proofs.running.run_whole.Goals as goal
 
@@ -10,7 +10,7 @@ returns-in_err-bytes g c =
     let e = c.take_all.ensures in
     let P : Result Outcome Interruption → Type 0 = λ r. Ends g.S.ByteSource.content g.S.ByteSource.is_failed g.S.ByteSource.allowance g.K.ByteSink.taken g.K.ByteSink.is_failed
     work c.args.input.now c.take_all.new.input c.args.out.now c.args.out.now r in
-    handed_on P c.from_residual.result (record { fault = Take fault; answered = 0; side = Second }) c.from_residual.ensures.1
+    handed_on P c.from_residual.result (record { fault = Take fault; answered = 0 }) c.from_residual.ensures.1
     (not_taken g.S.ByteSource.content g.S.ByteSource.is_failed g.S.ByteSource.allowance g.K.ByteSink.taken g.K.ByteSink.is_failed work
     c.args.input.now c.take_all.new.input c.args.out.now fault (reads_input work c.args.asked.now c.requires.asked) (no_lines work c.requires.whole)
     (λ same. e.read (is ∙ ap Err same)) (λ same. e.too_large (is ∙ ap Err same)) (λ same. e.memory (is ∙ ap Err same)))
@@ -23,7 +23,7 @@ returns-in_err-answer g c =
     let within : length bytes ≤ size_limit = omega (arith, c.in_ok-bytes.ensures.within) in
     let P : Result Outcome Interruption → Type 0 = λ r. Ends g.S.ByteSource.content g.S.ByteSource.is_failed g.S.ByteSource.allowance g.K.ByteSink.taken g.K.ByteSink.is_failed
     work c.args.input.now c.take_all.new.input c.args.out.now c.args.out.now r in
-    handed_on P c.from_residual-in_err-answer.result (record { fault = Take OutOfMemory; answered = 0; side = Second }) c.from_residual-in_err-answer.ensures.1
+    handed_on P c.from_residual-in_err-answer.result (record { fault = Take OutOfMemory; answered = 0 }) c.from_residual-in_err-answer.ensures.1
     (no_memory g.S.ByteSource.content g.S.ByteSource.is_failed g.S.ByteSource.allowance g.K.ByteSink.taken g.K.ByteSink.is_failed work
     c.args.input.now c.take_all.new.input c.args.out.now
     (unhurt_whole g.S.ByteSource.content g.S.ByteSource.is_failed g.S.ByteSource.allowance g.K.ByteSink.taken g.K.ByteSink.is_failed work

@@ -1,6 +1,6 @@
 use Rattle.bcs_tool.proofs.Prelude.{List, refl, subst, ℕ, reader_remaining, allowance_of, failed, reader_of, file_text, ReadFailed, IsUnopened, IsUnread, no_room, over_file, unopened, Runs}
 use Rattle.bcs_io.specs.declared.taking.TakeFault.TheVariants as taking
-use Rattle.bcs_tool.proofs.performing.perform_one.Goals as goal
+use Rattle.bcs_tool.proofs.performing.perform_work.Goals as goal
 
 -- a file
 pub returns-in-Ok-with_capacity : goal.returns-in-Ok-with_capacity

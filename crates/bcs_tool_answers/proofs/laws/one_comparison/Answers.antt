@@ -1,5 +1,0 @@
-use Rattle.bcs_tool_answers.proofs.PairLaws as law
-use Rattle.bcs_tool_answers.proofs.laws.one_comparison.Goals as goal
-
-pub returns : goal.returns
-returns c = law.one_comparison
