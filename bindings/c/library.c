@@ -562,7 +562,7 @@ bcs_answer bcs_registry_place(uint32_t what, const uint8_t *registry, size_t reg
 bcs_answer bcs_registry_refusal(const uint8_t *registry, size_t registry_length, uint8_t *out, size_t out_length) {
     return can_read(stack_left(), registry, registry_length)
                ? bcs_c_registry_refusal(registry, registry_length, out, out_length)
-               : plain(BCS_MEMORY);
+               : plain(BCS_STACK);
 }
 
 bcs_answer bcs_fault_name(uint32_t fault, uint8_t *out, size_t out_length) {

@@ -251,7 +251,7 @@ func (r *Registry) Part(format string, data []byte, path string) (*Part, error) 
 		return nil, nil
 	}
 	if answer.status == C.BCS_PATH {
-		return nil, refusalOf(KindPath, answer, "PATH", func(out *C.uint8_t, length C.size_t) C.bcs_answer {
+		return nil, refusalOf(KindPath, answer, func(out *C.uint8_t, length C.size_t) C.bcs_answer {
 			return C.bcs_path_place(at(steps), size(steps), out, length)
 		})
 	}
@@ -284,7 +284,12 @@ func (r *Registry) partNamed(format string, data []byte, notation C.uint32_t, na
 		return nil, nil
 	}
 	if answer.status == C.BCS_PATH {
-		return nil, newError(KindPath, answer)
+		refused := newError(KindPath, answer)
+		refused.Message = "wanted a name such as .payload.args[1]"
+		if notation == C.BCS_POINTER {
+			refused.Message = "wanted a JSON Pointer such as /payload/args/1"
+		}
+		return nil, refused
 	}
 	if err := q.refusal(answer, KindBytes, data); err != nil {
 		return nil, err
@@ -334,7 +339,7 @@ func Grows(older, newer []byte) error {
 	case C.BCS_DONE:
 		return nil
 	case C.BCS_REFUSED:
-		return refusalOf(KindGrowth, answer, "", func(out *C.uint8_t, length C.size_t) C.bcs_answer {
+		return refusalOf(KindGrowth, answer, func(out *C.uint8_t, length C.size_t) C.bcs_answer {
 			return C.bcs_growth_place(at(older), size(older), at(newer), size(newer), out, length)
 		})
 	case C.BCS_NEWER:

@@ -149,7 +149,8 @@ func TestPartsByNames(t *testing.T) {
 	for _, row := range []struct {
 		err    error
 		wanted Error
-	}{{badName, Error{KindPath, "BadPath", -1, "", ""}}, {badPointer, Error{KindPath, "BadPath", -1, "", ""}},
+	}{{badName, Error{KindPath, "BadPath", -1, "", "wanted a name such as .payload.args[1]"}},
+		{badPointer, Error{KindPath, "BadPath", -1, "", "wanted a JSON Pointer such as /payload/args/1"}},
 		{badPart, Error{KindBytes, "BadBool", 1, "[0]", "wanted BOOL"}}} {
 		var refused *Error
 		if !errors.As(row.err, &refused) || *refused != row.wanted {

@@ -111,7 +111,7 @@ func (q *question) refusal(answer C.bcs_answer, kind Kind, input []byte) error {
 	case C.BCS_DONE:
 		return nil
 	case C.BCS_FORMAT:
-		return refusalOf(KindFormat, answer, "FORMAT", func(out *C.uint8_t, length C.size_t) C.bcs_answer {
+		return refusalOf(KindFormat, answer, func(out *C.uint8_t, length C.size_t) C.bcs_answer {
 			return C.bcs_handle_format_place(q.handle, at(q.format), size(q.format), out, length)
 		})
 	case C.BCS_LIMITS:
@@ -139,7 +139,7 @@ func failure(answer C.bcs_answer) error {
 
 // refused returns the error for JSON or bytes that are refused.
 func (q *question) refused(answer C.bcs_answer, kind Kind, input []byte) error {
-	err := refusalOf(kind, answer, "", func(out *C.uint8_t, length C.size_t) C.bcs_answer { return q.place(kind, input, out, length) })
+	err := refusalOf(kind, answer, func(out *C.uint8_t, length C.size_t) C.bcs_answer { return q.place(kind, input, out, length) })
 	if refused, is := err.(*Error); is && refused.Kind == KindBytes && answer.fault != C.BCS_SHOWN_TOO_NESTED {
 		refused.Place = int(answer.place)
 	}
@@ -159,49 +159,26 @@ func refusalOfRegistry(answer C.bcs_answer, kind Kind, registry []byte) error {
 	if answer.status != C.BCS_REGISTRY && answer.status != C.BCS_NEWER {
 		return failure(answer)
 	}
-	half := func(what C.uint32_t) func(out *C.uint8_t, length C.size_t) C.bcs_answer {
-		return func(out *C.uint8_t, length C.size_t) C.bcs_answer {
-			return C.bcs_registry_place(what, at(registry), size(registry), out, length)
-		}
-	}
+	return refusalOf(kind, answer, func(out *C.uint8_t, length C.size_t) C.bcs_answer {
+		return C.bcs_registry_refusal(at(registry), size(registry), out, length)
+	})
+}
+
+// refusalOf returns an error with what a call reports about it.
+func refusalOf(kind Kind, answer C.bcs_answer, ask func(out *C.uint8_t, length C.size_t) C.bcs_answer) error {
 	refused := newError(kind, answer)
-	where, place := output(256, half(C.BCS_WHERE))
+	report, place := output(256, ask)
 	if err := failure(place); err != nil {
 		return err
 	}
-	wanted, place := output(256, half(C.BCS_WANTED))
-	if err := failure(place); err != nil {
-		return err
-	}
-	refused.locate(string(where)+"\x00"+string(wanted), "")
+	refused.locate(string(report))
 	return refused
 }
 
-// refusalOf returns an error with what a call says about it. The argument is what the call's line names before the place.
-func refusalOf(kind Kind, answer C.bcs_answer, argument string, ask func(out *C.uint8_t, length C.size_t) C.bcs_answer) error {
-	refused := newError(kind, answer)
-	said, place := output(256, ask)
-	if err := failure(place); err != nil {
-		return err
-	}
-	refused.locate(string(said), argument)
-	return refused
-}
-
-// locate takes apart what C says about a refusal: PLACE NUL MESSAGE, or a line of the program such as
-// at FORMAT, /SEQ: BadShape: wanted a format. Names in it may contain anything.
-func (e *Error) locate(said, argument string) {
-	if end := strings.LastIndexByte(said, 0); end >= 0 { // a pointer may contain a NUL; a message doesn't
-		e.At, e.Message = said[:end], said[end+1:]
-		return
-	}
-	line, middle := strings.TrimPrefix(said, "at "), ": "+e.Reason
-	end := strings.LastIndex(line, middle)
-	if e.Reason == "UnknownName" { // only this message has a name in it; of the others, only the place has
-		end = strings.Index(line, middle)
-	}
-	if end >= 0 {
-		e.At = strings.TrimPrefix(strings.TrimPrefix(line[:end], argument), ", ")
-		e.Message = strings.TrimPrefix(line[end+len(middle):], ": ")
+// locate takes apart what C reports about a refusal: the place, a NUL, and the message. A name in the place may contain other
+// NULs. A report is empty if there is nothing to say besides the fault.
+func (e *Error) locate(report string) {
+	if end := strings.LastIndexByte(report, 0); end >= 0 {
+		e.At, e.Message = report[:end], report[end+1:]
 	}
 }

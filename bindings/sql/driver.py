@@ -189,6 +189,12 @@ class Calls:
         data = self.ask(f"bcs_part_by_{notation}(?, ?, ?, ?, ?, ?)", *asked, self.text(name))
         return None if data is None else ("-", 0, len(data), data)
 
+    def stop_place(self, *question: Any) -> Answer | None:
+        """bcs_fault has both halves as members."""
+        *asked, what = question
+        fault = self.ask("cast(bcs_fault(?, ?, ?, ?, ?) as text)", *asked)
+        return None if fault is None else self.written(json.loads(fault)["at" if what == "where" else "message"])
+
     def explain(self, *question: Any) -> Answer:
         """The text, and for invalid bytes the fault and its place. bcs_fault must report the same."""
         text = self.ask("bcs_explain(?, ?, ?, ?, ?, ?)", *question)
@@ -213,12 +219,12 @@ def is_the_same(fault: dict[str, Any] | None, last: dict[str, Any]) -> bool:
 def answer(calls: Calls, line: str) -> tuple[str, ...]:
     """SQL lacks some calls, and takes a format that isn't JSON for the name of a container."""
     call, *words = line.split("\t")
-    if call in ("grows", "fault_name", "text_place", "stop_place", "registry_place"):
+    if call in ("grows", "fault_name", "text_place", "registry_place"):
         raise Unsayable
     registry, format = (bytes.fromhex(word) for word in words[:2])
     if format[:1] not in (b"{", b'"'):
         raise Unsayable
-    plain = {"explain": 1, "part_named": 2}.get(call)
+    plain = {"explain": 1, "stop_place": 1, "part_named": 2}.get(call)
     rest = [word if place == plain else bytes.fromhex(word) for place, word in enumerate(words[4:])]
     told = getattr(calls, call)(
         calls.database.registry(registry), calls.text(format), (int(words[3]), int(words[2])), *rest

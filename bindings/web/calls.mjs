@@ -261,29 +261,28 @@ export class Calls {
     return this.#onHandle('show', registry, [FORMS.indexOf(form), name], FIRST_DOCUMENT);
   }
 
-  /** Where a format is refused, and why, in a line of the program on this `input`. */
+  /** The same of a format. */
   formatPlace(ask) {
-    return this.#line('FORMAT', 'bcs_c_format_place', [ask.registry.text, ask.format]);
+    return this.#run((room) => wholeCall(room, 'bcs_c_format_place', [ask.registry.text, ask.format], FIRST_PLACE));
   }
 
-  /** The same of a path, and of growth. */
+  /** The same of a path. */
   pathPlace(path) {
-    return this.#line('PATH', 'bcs_c_path_place', [path]);
+    return this.#run((room) => wholeCall(room, 'bcs_c_path_place', [path], FIRST_PLACE));
   }
 
+  /** The same of growth. */
   growthPlace(older, newer) {
-    return this.#line('', 'bcs_c_growth_place', [older, newer]);
+    return this.#run((room) => wholeCall(room, 'bcs_c_growth_place', [older, newer], FIRST_PLACE));
   }
 
   growthList(older, newer) {
     return this.#run((room) => wholeCall(room, 'bcs_c_growth_list', [older, newer], FIRST_DOCUMENT));
   }
 
-  /** Where the text of a registry is refused with a fault, and what was expected there, with a NUL between them. */
-  registryRefusal(text, fault) {
-    const [where, wanted] = [0, 1].map((what) => this.#run((room) => wholeCall(room, 'bcs_c_registry_place', [what, text], FIRST_PLACE)));
-    const output = [where, wanted].flatMap(({ output: told = [] }, i) => (i === 0 ? [...told] : [0, ...told]));
-    return { ...where, fault, output: Uint8Array.from(output) };
+  /** The same of the text of a registry. */
+  registryRefusal(text) {
+    return this.#run((room) => wholeCall(room, 'bcs_c_registry_refusal', [text], FIRST_PLACE));
   }
 
   faultName(fault) {
@@ -312,10 +311,6 @@ export class Calls {
       }
       return handleCall(room, name, registry, [{ slices: [format], depth, nodes }, ...parts], outLength);
     });
-  }
-
-  #line(input, name, parts) {
-    return { ...this.#run((room) => wholeCall(room, name, parts, FIRST_PLACE)), input };
   }
 
   #onHandle(name, registry, parts, outLength) {

@@ -15,6 +15,7 @@ from functools import partial
 
 from driver import Driver
 from explain_rows import rows_of_examples, rows_of_table
+from hostile import hostile_rows
 from jobs import job_row
 from kinds import KINDS
 from named_parts import names_of_pieces, run_row
@@ -64,6 +65,11 @@ def ask_pieces(driver: Driver, tally: Tally) -> None:
         tally.judge("names", row.name, partial(names_of_pieces, driver, row), "")
 
 
+def ask_hostile_names(driver: Driver, tally: Tally) -> None:
+    for name, asked in hostile_rows(driver):
+        tally.judge("hostile names", name, asked, "")
+
+
 def told_by_kind(counts: Counter[str]) -> str:
     return ", ".join(f"{count} {kind}" for kind, count in sorted(counts.items()))
 
@@ -92,6 +98,7 @@ def main(words: list[str]) -> int:
     ask_rows(driver, tally, without)
     ask_places(driver, tally, without)
     ask_pieces(driver, tally)
+    ask_hostile_names(driver, tally)
     driver.end()
     print(f"rows: asked: {told_by_kind(tally.covered)}")
     print(f"rows: not asked: {told_by_kind(tally.unsayable + tally.skipped)}")

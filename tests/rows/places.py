@@ -3,7 +3,7 @@
 The program's line follows the answer of a row `bcs --where`. The calls are asked about what the line is about: a
 registry, JSON or bytes. Lines on a format, on an input that isn't hexadecimal, on a path, on a name or a variant in the
 arguments, and on growth are left out, since no call reports these. So are lines whose place has a name that the program
-cut after 200 characters, since the calls report a pointer's names whole.
+cut after 200 characters, since the calls report names whole.
 """
 
 import json
@@ -54,7 +54,7 @@ def place_of_job(driver: Driver, name: str, words: list[str], wanted: str) -> tu
     words = words[len(options) :]
     of_registry = place_told(driver, "registry_place", bytes_of(words[line["of"] == "NEW"]))
     if name in ON_REGISTRIES or of_registry:
-        return Place(line["place"], line["words"]), of_registry
+        return Place(unescaped(line["place"]), line["words"]), of_registry
     given = words[3 if name == "part" else 2 :]
     limits = given[2 if name == "same" else 1 :] or STANDARD_LIMITS
     question, data = (bytes_of(words[0]), format_of(words[1]), *limits), bytes_of(given[line["of"] == "B"])
@@ -65,11 +65,17 @@ def place_of_job(driver: Driver, name: str, words: list[str], wanted: str) -> tu
 
 
 def as_told_of_text(line: re.Match[str]) -> Place:
-    """The calls tell a pointer without the escapes, and line and column of what is no JSON in the words."""
+    """The calls tell a pointer, and line and column of what is no JSON in the words."""
     place, words = line["place"], LIMIT.sub("", line["words"])
     if place.startswith("line "):
         return Place("", f"{place}: {words}")
-    return Place("" if place == "the whole text" else json.loads(f'"{place}"'), words)
+    return Place("" if place == "the whole text" else unescaped(place), words)
+
+
+def unescaped(place: str) -> str:
+    """The line escapes names, and the calls don't."""
+    name: str = json.loads(f'"{place}"')
+    return name
 
 
 def place_told(driver: Driver, call: str, *words: str | bytes) -> Place | None:

@@ -18,26 +18,30 @@ struct row {
     struct job job;
     uint32_t status, fault;
     const char *output;
+    size_t length;
 };
 
 #define ASKED(the_call, its_registry, its_format) .call = the_call, .registry = OF(its_registry), .format = OF(its_format), STANDARD
-#define DONE(words) BCS_DONE, BCS_FAULT_NONE, words
+#define TEXT(words) words, sizeof(words) - 1
+#define DONE(words) BCS_DONE, BCS_FAULT_NONE, TEXT(words)
+/* A place and a message. */
+#define PARTS(place, message) TEXT(place "\0" message)
 
 static const struct row rows[] = {
     {{ASKED(SCHEMA, "{}", "\"BOOL\"")}, DONE(SCHEMA_OF_BOOL)},
-    {{ASKED(SCHEMA, "{}", NAMED("S"))}, BCS_FORMAT, BCS_REGISTRY_UNKNOWN_NAME, ""},
-    {{.call = SCHEMA, .registry = OF("{}"), .format = OF("\"BOOL\""), .depth = 501}, BCS_LIMITS, BCS_FAULT_NONE, ""},
+    {{ASKED(SCHEMA, "{}", NAMED("S"))}, BCS_FORMAT, BCS_REGISTRY_UNKNOWN_NAME, TEXT("")},
+    {{.call = SCHEMA, .registry = OF("{}"), .format = OF("\"BOOL\""), .depth = 501}, BCS_LIMITS, BCS_FAULT_NONE, TEXT("")},
 
     {{ASKED(EXAMPLE, ABC, NAMED("B"))}, DONE("{\"a\":\"0\",\"m\":[]}")},
     {{ASKED(EXAMPLE, ABC, NAMED("B")), .number = BCS_FULL}, DONE("{\"a\":\"0\",\"m\":[[\"\",\"0\"]]}")},
     {{ASKED(EXAMPLE, ABC, NAMED("B")), .number = 2}, DONE("{\"a\":\"0\",\"m\":[]}")},
     {{ASKED(EXAMPLE, ABC, NAMED("C"))}, DONE("\"X\"")},
     {{ASKED(EXAMPLE, ABC, NAMED("C")), .input = OF("Y")}, DONE("{\"Y\":\"0\"}")},
-    {{ASKED(EXAMPLE, ABC, NAMED("C")), .input = OF("Z")}, BCS_REFUSED, BCS_EXAMPLE_UNKNOWN_VARIANT, ""},
-    {{ASKED(EXAMPLE, ABC, NAMED("C")), .input = OF("\xff")}, BCS_REFUSED, BCS_EXAMPLE_UNKNOWN_VARIANT, ""},
-    {{ASKED(EXAMPLE, VALUELESS, NAMED("N"))}, BCS_REFUSED, BCS_EXAMPLE_NO_VALUE, ""},
+    {{ASKED(EXAMPLE, ABC, NAMED("C")), .input = OF("Z")}, BCS_REFUSED, BCS_EXAMPLE_UNKNOWN_VARIANT, TEXT("")},
+    {{ASKED(EXAMPLE, ABC, NAMED("C")), .input = OF("\xff")}, BCS_REFUSED, BCS_EXAMPLE_UNKNOWN_VARIANT, TEXT("")},
+    {{ASKED(EXAMPLE, VALUELESS, NAMED("N"))}, BCS_REFUSED, BCS_EXAMPLE_NO_VALUE, TEXT("")},
     {{.call = EXAMPLE, .registry = OF(ABC), .format = OF(NAMED("B")), .depth = 500, .nodes = 1},
-     BCS_REFUSED, BCS_EXAMPLE_TOO_MANY_NODES, ""},
+     BCS_REFUSED, BCS_EXAMPLE_TOO_MANY_NODES, TEXT("")},
 
     {{.call = SHOW, .registry = OF(ABC), .input = OF("C")},
      DONE("A: NEWTYPESTRUCT, 8 bytes\n  U64\nC: ENUM, 1 to 9 bytes, used by no other\n  0 X\n  1 Y: A\n")},
@@ -45,32 +49,32 @@ static const struct row rows[] = {
     {{.call = SHOW, .registry = OF("{}")}, DONE("")},
     {{.call = SHOW, .registry = OF("{\"B\":\"UNITSTRUCT\", \"A\":{\"NEWTYPESTRUCT\":\"U8\"}}"), .number = BCS_JSON},
      DONE("{\"A\":{\"NEWTYPESTRUCT\":\"U8\"},\"B\":\"UNITSTRUCT\"}\n")},
-    {{.call = SHOW, .registry = OF("{\"S\":\"UNITSTRUCT\"}"), .input = OF("T")}, BCS_FORMAT, BCS_REGISTRY_UNKNOWN_NAME, ""},
-    {{.call = SHOW, .registry = OF("{\"S\":\"UNITSTRUCT\"}"), .input = OF("\xff")}, BCS_FORMAT, BCS_REGISTRY_UNKNOWN_NAME, ""},
+    {{.call = SHOW, .registry = OF("{\"S\":\"UNITSTRUCT\"}"), .input = OF("T")}, BCS_FORMAT, BCS_REGISTRY_UNKNOWN_NAME, TEXT("")},
+    {{.call = SHOW, .registry = OF("{\"S\":\"UNITSTRUCT\"}"), .input = OF("\xff")}, BCS_FORMAT, BCS_REGISTRY_UNKNOWN_NAME, TEXT("")},
 
-    {{ASKED(FORMAT_PLACE, "{}", "{\"SEQ\":7}")}, BCS_DONE, BCS_REGISTRY_BAD_SHAPE, "at FORMAT, /SEQ: BadShape: wanted a format"},
+    {{ASKED(FORMAT_PLACE, "{}", "{\"SEQ\":7}")}, BCS_DONE, BCS_REGISTRY_BAD_SHAPE, PARTS("/SEQ", "wanted a format")},
     {{ASKED(FORMAT_PLACE, "{}", NAMED("N"))}, BCS_DONE, BCS_REGISTRY_UNKNOWN_NAME,
-     "at FORMAT: UnknownName: no container is called N"},
-    {{ASKED(FORMAT_PLACE, "{}", "U64")}, BCS_DONE, BCS_REGISTRY_NOT_JSON, ""},
-    {{ASKED(FORMAT_PLACE, "{}", "\"U64\"")}, BCS_NO, BCS_FAULT_NONE, ""},
+     PARTS("", "no container is called N")},
+    {{ASKED(FORMAT_PLACE, "{}", "U64")}, BCS_DONE, BCS_REGISTRY_NOT_JSON, TEXT("")},
+    {{ASKED(FORMAT_PLACE, "{}", "\"U64\"")}, BCS_NO, BCS_FAULT_NONE, TEXT("")},
 
     {{.call = PATH_PLACE, .input = OF("inner/07/x")}, BCS_DONE, BCS_PATH_BAD_PATH,
-     "at PATH, step 2 07: BadPath: wanted a number, inner, or key: and hexadecimal digits"},
-    {{.call = PATH_PLACE, .input = OF("3/")}, BCS_DONE, BCS_PATH_BAD_PATH, "at PATH, step 2: BadPath: an empty step"},
-    {{.call = PATH_PLACE, .input = OF("\xff")}, BCS_DONE, BCS_PATH_BAD_PATH, ""},
-    {{.call = PATH_PLACE, .input = OF("inner/0/key:01")}, BCS_NO, BCS_FAULT_NONE, ""},
+     PARTS("step 2 07", "wanted a number, inner, or key: and hexadecimal digits")},
+    {{.call = PATH_PLACE, .input = OF("3/")}, BCS_DONE, BCS_PATH_BAD_PATH, PARTS("step 2", "an empty step")},
+    {{.call = PATH_PLACE, .input = OF("\xff")}, BCS_DONE, BCS_PATH_BAD_PATH, TEXT("")},
+    {{.call = PATH_PLACE, .input = OF("inner/0/key:01")}, BCS_NO, BCS_FAULT_NONE, TEXT("")},
 
     {{.call = GROWTH_LIST, .input = OF("{}"), .second = OF("{}")}, DONE("")},
     {{.call = GROWTH_LIST, .input = OF("{\"Q\":\"UNITSTRUCT\"}"), .second = OF("{\"P\":\"UNITSTRUCT\",\"Q\":\"UNITSTRUCT\"}")},
      DONE("P: container added\n")},
     {{.call = GROWTH_LIST, .input = OF("{\"P\":\"UNITSTRUCT\",\"Q\":\"UNITSTRUCT\"}"),
-      .second = OF("{\"Q\":{\"NEWTYPESTRUCT\":\"U8\"}}")}, BCS_DONE, BCS_GROWTH_MISSING, "P: Missing\nQ: Changed\n"},
-    {{.call = GROWTH_LIST, .input = OF("{\"S\":\"UNITSTRUCT\"}"), .second = OF("{")}, BCS_NEWER, BCS_REGISTRY_NOT_JSON, ""},
+      .second = OF("{\"Q\":{\"NEWTYPESTRUCT\":\"U8\"}}")}, BCS_DONE, BCS_GROWTH_MISSING, TEXT("P: Missing\nQ: Changed\n")},
+    {{.call = GROWTH_LIST, .input = OF("{\"S\":\"UNITSTRUCT\"}"), .second = OF("{")}, BCS_NEWER, BCS_REGISTRY_NOT_JSON, TEXT("")},
     {{.call = GROWTH_LIST, .input = OF("{\"S\":{\"NEWTYPESTRUCT\":{\"TYPENAME\":\"T\"}}}"), .second = OF("{}")},
-     BCS_REGISTRY, BCS_REGISTRY_UNKNOWN_NAME, ""},
+     BCS_REGISTRY, BCS_REGISTRY_UNKNOWN_NAME, TEXT("")},
     {{.call = GROWTH_PLACE, .input = OF("{\"S\":\"UNITSTRUCT\"}"), .second = OF("{}")}, BCS_DONE, BCS_GROWTH_MISSING,
-     "at S: Missing: the newer registry has no container of that name"},
-    {{.call = GROWTH_PLACE, .input = OF("{}"), .second = OF("{\"S\":\"UNITSTRUCT\"}")}, BCS_NO, BCS_FAULT_NONE, ""},
+     PARTS("S", "the newer registry has no container of that name")},
+    {{.call = GROWTH_PLACE, .input = OF("{}"), .second = OF("{\"S\":\"UNITSTRUCT\"}")}, BCS_NO, BCS_FAULT_NONE, TEXT("")},
 };
 
 #define ROOM 1000
@@ -78,7 +82,7 @@ static const struct row rows[] = {
 int main(void) {
     for (size_t number = 0; number < sizeof rows / sizeof *rows; number++) {
         const struct row *row = &rows[number];
-        const size_t length = row->status == BCS_DONE ? strlen(row->output) : 0;
+        const size_t length = row->status == BCS_DONE ? row->length : 0;
         uint8_t *out = guarded(ROOM);
         const bcs_answer answer = make_guarded(row->job, out, ROOM);
         if (answer.status != row->status || answer.length != length || memcmp(out, row->output, length) != 0) {

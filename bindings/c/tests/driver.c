@@ -81,6 +81,7 @@ static struct job job_of(char *words[WORDS], size_t count) {
     if (job.call == FAULT_NAME) {
         job.number = decimal(words[1]);
     } else if (job.call == REGISTRY_PLACE) {
+        job.call = REGISTRY_REFUSAL;
         job.input = bytes_of(words[1]);
         job.number = (uint32_t)number_of(words[2], what_words, COUNT(what_words));
     } else if (job.call == GROWS) {
@@ -152,6 +153,19 @@ static bcs_answer make_whole(enum way way, const struct job *job, uint8_t **out,
     return answer;
 }
 
+/* Half of a refusal of a registry: the place, or the message behind the last NUL. */
+static bcs_answer half_of(bcs_answer whole, uint32_t what, uint8_t *out) {
+    const uint8_t *nul = whole.status == BCS_DONE ? memrchr(out, 0, whole.length) : NULL;
+    if (nul == NULL) {
+        return whole;
+    }
+    const size_t place = (size_t)(nul - out), message = whole.length - place - 1;
+    if (what == BCS_WANTED) {
+        memmove(out, nul + 1, message);
+    }
+    return (bcs_answer){.status = BCS_DONE, .length = what == BCS_WANTED ? message : place};
+}
+
 static void tell(const struct job *job, bcs_answer answer, const uint8_t *out) {
     uint8_t name[40] = "-";
     size_t length = 1;
@@ -187,7 +201,7 @@ int main(int count, char **arguments) {
         char *words[WORDS];
         const struct job job = job_of(words, split(line, words));
         const bcs_answer answer = make_whole(way, &job, &out, &room);
-        tell(&job, answer, out);
+        tell(&job, job.call == REGISTRY_REFUSAL ? half_of(answer, job.number, out) : answer, out);
     }
     bcs_close(handle);
     free((void *)open_text.at);

@@ -27,7 +27,7 @@ enum call {
     GROWTH_LIST,
     GROWTH_PLACE,
     GROWS,
-    REGISTRY_PLACE,
+    REGISTRY_REFUSAL,
     FAULT_NAME
 };
 
@@ -90,7 +90,7 @@ static bcs_answer make(enum call call, const struct job *job, uint8_t *out, size
     case GROWTH_LIST: return bcs_growth_list(PIECE(first), PIECE(second), out, room);
     case GROWTH_PLACE: return bcs_growth_place(PIECE(first), PIECE(second), out, room);
     case GROWS: return bcs_grows(PIECE(first), PIECE(second));
-    case REGISTRY_PLACE: return bcs_registry_place(job->number, PIECE(first), out, room);
+    case REGISTRY_REFUSAL: return bcs_registry_refusal(PIECE(first), out, room);
     case FAULT_NAME: return bcs_fault_name(job->number, out, room);
     }
     return plain(BCS_CLOSED);

@@ -96,8 +96,10 @@ public final class Tests extends Check {
                 () -> registry.scan("Shape", new byte[] {1}));
         refused(Kind.BYTES, "BadBool", 1, "[0]", "wanted BOOL", () -> registry.part("{\"SEQ\":\"BOOL\"}", new byte[] {1, 2}, "."));
         refused(Kind.PATH, "BadPath", -1, "step 2", "an empty step", () -> registry.part("Point", unhex("0700"), "1/"));
-        refused(Kind.PATH, "BadPath", -1, null, null, () -> registry.partByName("Point", unhex("0700"), "x"));
-        refused(Kind.PATH, "BadPath", -1, null, null, () -> registry.partByPointer("Point", unhex("0700"), "/~2"));
+        refused(Kind.PATH, "BadPath", -1, null, "wanted a name such as .payload.args[1]",
+                () -> registry.partByName("Point", unhex("0700"), "x"));
+        refused(Kind.PATH, "BadPath", -1, null, "wanted a JSON Pointer such as /payload/args/1",
+                () -> registry.partByPointer("Point", unhex("0700"), "/~2"));
         refused(Kind.FORMAT, "BadShape", -1, "/SEQ", "wanted a format", () -> registry.check("{\"SEQ\":\"U7\"}"));
         refused(Kind.FORMAT, "UnknownName", -1, "", "no container is called x: UnknownName: y",
                 () -> registry.decodeJson("{\"SEQ\":{\"TYPENAME\":\"x: UnknownName: y\"}}", none));

@@ -322,9 +322,9 @@ class Latin1(Database):
         self.assertEqual(value(self.session, "select bcs_decode(%s, 'Zürich', '\\x01')", registry), {"größe": True})
         told = refusal(self.session, "select bcs_decode(%s, 'Zürich', '\\x02')", registry)
         self.assertEqual(told[0], "22P03")
-        self.assertEqual(told[1], "bcs: refused: BadBool at byte 0, .gr\\u00f6\\u00dfe")
+        self.assertEqual(told[1], 'bcs: refused: BadBool at byte 0, ."gr\\u00f6\\u00dfe"')
         self.assertEqual(
-            value(self.session, "select bcs_fault(%s, 'Zürich', '\\x02') ->> 'at'", registry), ".gr\\u00f6\\u00dfe"
+            value(self.session, "select bcs_fault(%s, 'Zürich', '\\x02') ->> 'at'", registry), '."gr\\u00f6\\u00dfe"'
         )
         told = refusal(self.session, "select bcs_encode(%s, 'Zürich', '{\"größe\":7}')", registry)
         self.assertEqual(told, ("22P02", "bcs: refused: BadShape at /gr\\u00f6\\u00dfe"))

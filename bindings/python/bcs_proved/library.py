@@ -79,12 +79,10 @@ _CALLS: dict[str, list[Any]] = {
     "bcs_path_place": _IN + _OUT,
     "bcs_growth_list": _IN + _IN + _OUT,
     "bcs_growth_place": _IN + _IN + _OUT,
-    "bcs_registry_place": [ctypes.c_uint32] + _IN + _OUT,
+    "bcs_registry_refusal": _IN + _OUT,
     "bcs_fault_name": [ctypes.c_uint32] + _OUT,
 }
 _RESULTS: dict[str, Any] = {"bcs_close": None, "bcs_handle_nodes_for": ctypes.c_uint32}
-# enum bcs_what of bcs.h.
-_WHERE, _WANTED = 0, 1
 # Only where bytes stop being a value is there an offset: the faults from the first on, below the second.
 _STOPS = range(401, 501)
 # How long most reports on a refusal are, at most.
@@ -157,11 +155,9 @@ class Library:
             raise KeyError(fault)
         return str(name, "ascii")
 
-    def require(
-        self, answer: Answer, refused: type[BcsError], report: Optional[Report] = None, prefix: str = ""
-    ) -> None:
+    def require(self, answer: Answer, refused: type[BcsError], report: Optional[Report] = None) -> None:
         """Raises the error that an answer means, unless it is DONE. `refused` is the error for the input, and `report`
-        makes the call that says where it is refused; `prefix` is how that location begins, whatever the input is."""
+        makes the call that says where it is refused."""
         if answer.status == Status.DONE:
             return
         _require_resources(answer)
@@ -169,7 +165,7 @@ class Library:
         if report is not None:
             reported, output = report()
             _require_resources(reported)
-            at, message = _taken_apart(str(output, "utf-8"), reason, prefix)
+            at, message = _taken_apart(str(output, "utf-8"))
         errors: dict[int, type[BcsError]] = {
             Status.REGISTRY: RegistryError,
             Status.NEWER: RegistryError,
@@ -178,14 +174,6 @@ class Library:
             Status.REFUSED: refused,
         }
         raise errors[answer.status](reason, answer.place if answer.fault in _STOPS else None, at, message)
-
-    def registry_report(self, text: bytes) -> Report:
-        def report() -> tuple[Answer, memoryview]:
-            answer, where = self.put("bcs_registry_place", _REPORT, _WHERE, text, len(text))
-            _, wanted = self.put("bcs_registry_place", _REPORT, _WANTED, text, len(text))
-            return answer, memoryview(b"\0".join([where, wanted]))
-
-        return report
 
     def report(self, name: str, *arguments: Any) -> Report:
         return lambda: self.put(name, _REPORT, *arguments)
@@ -208,16 +196,11 @@ def _room_of(size: int) -> Union[bytearray, mmap.mmap]:
         raise MemoryError from fault
 
 
-def _taken_apart(report: str, reason: str, prefix: str) -> tuple[str, str]:
-    """The location and the message of a report. It has a NUL between them, after which there is no other; or it is a
-    line of the program, such as "at FORMAT, /SEQ: BadShape: wanted a format". Names in both may contain anything."""
-    if "\0" in report:
-        at, _, message = report.rpartition("\0")
-        return at, message
-    line, middle = report.removeprefix("at "), f": {reason}"
-    # (only the message of UnknownName has a name in it, and only the location of the others)
-    at, _, message = line.partition(middle) if reason == "UnknownName" else line.rpartition(middle)
-    return at.removeprefix(prefix).removeprefix(", "), message.removeprefix(": ")
+def _taken_apart(report: str) -> tuple[str, str]:
+    """The location and the message of a report, which has a NUL between them. A name in the location may contain
+    others. A report is empty if there is nothing to say besides the fault."""
+    at, _, message = report.rpartition("\0")
+    return at, message
 
 
 @functools.lru_cache(maxsize=None)
@@ -233,7 +216,7 @@ class Handle:
         self.library = library
         self.pointer = ctypes.c_void_p()
         answer = library.ask("bcs_open", ctypes.byref(self.pointer), text, len(text))
-        library.require(answer, RegistryError, library.registry_report(text))
+        library.require(answer, RegistryError, library.report("bcs_registry_refusal", text, len(text)))
         # (calls of daemon threads may still run when Python exits)
         weakref.finalize(self, library.calls["bcs_close"], self.pointer).atexit = False
 
@@ -265,5 +248,5 @@ class Question:
         library = self.handle.library
         if answer.status == Status.FORMAT:
             place = library.report("bcs_handle_format_place", self.handle.pointer, self.format, len(self.format))
-            return library.require(answer, refused, place, "FORMAT")
+            return library.require(answer, refused, place)
         library.require(answer, refused, (lambda: self.put(call, _REPORT, data, len(data))) if call else None)

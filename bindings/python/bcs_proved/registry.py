@@ -11,7 +11,7 @@ from collections.abc import Iterable, Mapping
 from typing import Any, Literal, NamedTuple, Optional, TypeVar, Union, overload
 
 from . import values
-from .errors import BcsError, BytesError, ExampleError, FormatError, GrowthError, RegistryError, TextError
+from .errors import BcsError, BytesError, ExampleError, FormatError, GrowthError, PathError, RegistryError, TextError
 from .errors import ValueTypeError
 from .formats import AnyName, Data, Format, Name, PlainName, Text, bytes_of, bytes_of_text, hint_of, json_of
 from .library import Answer, Handle, Library, Question, Report, Status, standard_library
@@ -28,6 +28,7 @@ Names = Mapping[str, Iterable[str]]
 _MOST_FORMATS = 1000
 # enum bcs_notation of bcs.h.
 _NAME, _POINTER = 1, 2
+_NOTATIONS = {_NAME: "a name such as .payload.args[1]", _POINTER: "a JSON Pointer such as /payload/args/1"}
 
 
 class Form(enum.IntEnum):
@@ -183,7 +184,8 @@ class Registry:
         return self._text, len(self._text), newer._text, len(newer._text)
 
     def _refused_of(self, answer: Answer, newer: Registry) -> Report:
-        return self._library.registry_report(newer._text if answer.status == Status.NEWER else self._text)
+        text = newer._text if answer.status == Status.NEWER else self._text
+        return self._library.report("bcs_registry_refusal", text, len(text))
 
     def schema(self, format: Format, limits: Optional[Limits] = None) -> dict[str, Any]:
         """A JSON Schema of the JSON of the format's values."""
@@ -387,7 +389,7 @@ class Registry:
         question = self._question(format, limits, data)
         answer = question.ask("bcs_handle_part", data, len(data), steps, len(steps))
         if answer.status == Status.PATH:
-            self._library.require(answer, BytesError, self._library.report("bcs_path_place", steps, len(steps)), "PATH")
+            self._library.require(answer, BytesError, self._library.report("bcs_path_place", steps, len(steps)))
         return self._part(question, answer, data)
 
     def part_by_name(self, format: Format, data: Data, name: str, limits: Optional[Limits] = None) -> Optional[Part]:
@@ -407,7 +409,7 @@ class Registry:
         question = self._question(format, limits, data)
         answer = question.ask("bcs_handle_part_named", notation, text, len(text), data, len(data))
         if answer.status == Status.PATH:
-            self._library.require(answer, BytesError)
+            raise PathError("BadPath", message=f"wanted {_NOTATIONS[notation]}")
         return self._part(question, answer, data)
 
     def _part(self, question: Question, answer: Answer, data: bytes) -> Optional[Part]:

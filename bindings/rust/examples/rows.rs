@@ -149,7 +149,6 @@ fn place(refused: Option<Error>, what: &str) -> Told {
         return Told::yes_or_no(false);
     };
     let told = match (error.kind(), what) {
-        (ErrorKind::Registry(_), "where") if error.at() == Some("") => Some("the whole text"),
         (ErrorKind::Format(_) | ErrorKind::Limits | ErrorKind::Memory | ErrorKind::Stack, _) => {
             return Told::error(error, "registry");
         }

@@ -3,7 +3,7 @@ use crate::explanation::{Explanation, Form, Pieces};
 use crate::format::Format;
 use crate::json;
 use crate::limits::Limits;
-use crate::places::{Report, location_and_message, location_in_registry};
+use crate::places::location_and_message;
 use crate::sys::{self, Answer, Open, Question};
 use std::collections::HashSet;
 use std::fmt;
@@ -41,12 +41,7 @@ impl Registry {
     /// ```
     pub fn read(text: impl AsRef<[u8]>) -> Result<Registry, Error> {
         let text = text.as_ref();
-        let refused = |answer| {
-            let (error, written) = (Error::of(answer), |what| written(|out| sys::registry_place(what, text, out)));
-            let report = written(sys::WHERE).zip(written(sys::WANTED));
-            let found = report.map(|(at, message)| (location_in_registry(at, error.reason()), message));
-            error.found(found)
-        };
+        let refused = |answer| found(Error::of(answer), |out| sys::registry_refusal(text, out));
         let open = Open::read(text).map_err(refused)?;
         Ok(Registry {
             open: Arc::new(open),
@@ -120,7 +115,7 @@ impl Registry {
     /// ```
     pub fn grows(&self, newer: &Registry) -> Result<(), Error> {
         let grown = done(self.open.grows(&newer.open)).map(drop);
-        grown.map_err(|error| found_in_line(error, "", |out| self.open.growth_place(&newer.open, out)))
+        grown.map_err(|error| found(error, |out| self.open.growth_place(&newer.open, out)))
     }
 
     /// All differences from this registry to a newer one, a line for each, as `bcs grows --list` prints them.
@@ -339,7 +334,7 @@ impl Registry {
         let (format, bytes) = (format.into(), bytes.as_ref());
         let (path, question) = (path.as_ref(), self.of_bytes(&format, bytes));
         let found = done_unless_no(self.open.part(question, bytes, path)).map_err(|error| match error.kind() {
-            ErrorKind::Path => found_in_line(error, "PATH", |out| sys::path_place(path, out)),
+            ErrorKind::Path => found(error, |out| sys::path_place(path, out)),
             _ => self.in_bytes(error, &format, bytes),
         });
         Ok(found?.map(|answer| Part::of(answer, bytes)))
@@ -455,9 +450,7 @@ impl Registry {
     /// The error of a text, with where it is rejected.
     fn in_text(&self, error: Error, format: &Format, text: &[u8]) -> Error {
         match error.kind() {
-            ErrorKind::Text(_) => {
-                found(error, Report::Apart, |out| self.open.text_refusal(self.of_text(format), text, out))
-            }
+            ErrorKind::Text(_) => found(error, |out| self.open.text_refusal(self.of_text(format), text, out)),
             _ => self.in_format(error, format),
         }
     }
@@ -467,7 +460,7 @@ impl Registry {
         match error.kind() {
             ErrorKind::Bytes(_) => {
                 let question = self.of_bytes(format, bytes);
-                found(error, Report::Apart, |out| self.open.stop_refusal(question, bytes, out))
+                found(error, |out| self.open.stop_refusal(question, bytes, out))
             }
             _ => self.in_format(error, format),
         }
@@ -476,7 +469,7 @@ impl Registry {
     /// The error of a format, with where it is rejected. Any other stays as it is.
     fn in_format(&self, error: Error, format: &Format) -> Error {
         match error.kind() {
-            ErrorKind::Format(_) => found_in_line(error, "FORMAT", |out| self.open.format_place(format.as_json(), out)),
+            ErrorKind::Format(_) => found(error, |out| self.open.format_place(format.as_json(), out)),
             _ => error,
         }
     }
@@ -574,17 +567,9 @@ fn written(call: impl Fn(&mut [u8]) -> Answer) -> Option<String> {
 }
 
 /// The error with the location and the message that a call reports.
-fn found(error: Error, report: Report, call: impl Fn(&mut [u8]) -> Answer) -> Error {
-    let found = written(call).and_then(|text| location_and_message(&text, report));
+fn found(error: Error, call: impl Fn(&mut [u8]) -> Answer) -> Error {
+    let found = written(call).and_then(|report| location_and_message(&report));
     error.found(found)
-}
-
-/// The error with what a call reports as a line of the program.
-fn found_in_line(error: Error, prefix: &str, call: impl Fn(&mut [u8]) -> Answer) -> Error {
-    match error.reason() {
-        Some(reason) => found(error, Report::Line(prefix, reason), call),
-        None => error,
-    }
 }
 
 fn into_text(text: Vec<u8>) -> String {

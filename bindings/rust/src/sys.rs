@@ -22,10 +22,6 @@ pub(crate) const PATHS: u32 = 1;
 pub(crate) const TREE: u32 = 2;
 pub(crate) const JSON: u32 = 3;
 
-// What is told of a refusal: `enum bcs_what`.
-pub(crate) const WHERE: u32 = 0;
-pub(crate) const WANTED: u32 = 1;
-
 // What an example has in options, lists and maps: `enum bcs_example`.
 pub(crate) const LEAST: u32 = 0;
 pub(crate) const FULL: u32 = 1;
@@ -223,13 +219,7 @@ unsafe extern "C" {
         out: *mut u8,
         out_length: usize,
     ) -> Answer;
-    fn bcs_registry_place(
-        what: u32,
-        registry: *const u8,
-        registry_length: usize,
-        out: *mut u8,
-        out_length: usize,
-    ) -> Answer;
+    fn bcs_registry_refusal(registry: *const u8, registry_length: usize, out: *mut u8, out_length: usize) -> Answer;
     #[cfg(test)]
     fn bcs_fault_name(fault: u32, out: *mut u8, out_length: usize) -> Answer;
 }
@@ -414,9 +404,9 @@ pub(crate) fn path_place(path: &[u8], out: &mut [u8]) -> Answer {
     unsafe { bcs_path_place(path.as_ptr(), path.len(), out.as_mut_ptr(), out.len()) }
 }
 
-pub(crate) fn registry_place(what: u32, text: &[u8], out: &mut [u8]) -> Answer {
+pub(crate) fn registry_refusal(text: &[u8], out: &mut [u8]) -> Answer {
     // SAFETY: the slices are borrowed for the call, `out` alone for writing.
-    unsafe { bcs_registry_place(what, text.as_ptr(), text.len(), out.as_mut_ptr(), out.len()) }
+    unsafe { bcs_registry_refusal(text.as_ptr(), text.len(), out.as_mut_ptr(), out.len()) }
 }
 
 /// A place in bytes that are in memory.

@@ -258,7 +258,11 @@ fn lines_begin_alike() {
     let deep = registry.with_limits(Limits { depth: 501, nodes: None });
     let list = r#"{"SEQ":"U8"}"#;
     let rows = [
-        (Registry::read("[]").map(drop), "registry", "refused: BadShape: wanted an object of containers"),
+        (
+            Registry::read("[]").map(drop),
+            "registry",
+            "refused: BadShape at the whole text: wanted an object of containers",
+        ),
         (
             Registry::read(r#"{"the whole text":{"NEWTYPESTRUCT":{"TYPENAME":"T"}}}"#).map(drop),
             "registry",

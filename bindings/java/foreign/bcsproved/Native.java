@@ -62,10 +62,9 @@ final class Native {
             case SCHEMA -> "ao";
             case SHOW -> "hn1o";
             case FORMAT_PLACE -> "hfo";
-            case PATH_PLACE -> "1o";
+            case PATH_PLACE, REGISTRY_REFUSAL -> "1o";
             case GROWTH_LIST, GROWTH_PLACE -> "12o";
             case GROWS -> "12";
-            case REGISTRY_PLACE -> "n1o";
             case FAULT_NAME -> "no";
         };
     }

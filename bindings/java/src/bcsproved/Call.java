@@ -23,7 +23,7 @@ enum Call {
     GROWTH_LIST(null),
     GROWTH_PLACE(null),
     GROWS(Kind.GROWTH),
-    REGISTRY_PLACE(null),
+    REGISTRY_REFUSAL(null),
     FAULT_NAME(null);
 
     final Kind refused;

@@ -4,39 +4,17 @@ package bcsproved;
 record Place(String at, String message) {
     static final Place UNKNOWN = new Place(null, null);
 
-    /** Takes apart what a call of C tells about a refusal. It is the only function that does. */
-    static Place of(Call call, byte[] output, String reason) {
-        if (output == null) {
-            return UNKNOWN;
-        }
-        String text = Question.text(output);
-        return switch (call) {
-            case FORMAT_PLACE -> ofLine(text, "FORMAT", reason);
-            case PATH_PLACE -> ofLine(text, "PATH", reason);
-            case GROWTH_PLACE -> ofLine(text, "", reason);
-            default -> { // the pointer may contain other NULs
-                int end = text.lastIndexOf('\0');
-                yield new Place(text.substring(0, end), text.substring(end + 1));
-            }
-        };
-    }
-
     /**
-     * Of a line of the program, such as {@code at FORMAT, /SEQ: BadShape: wanted a format}. Names in it may contain anything. Only
-     * the message of UnknownName has a name in it, and only the place of the others.
+     * Takes apart what a call of C reports about a refusal: the place, a NUL, and the message. A name in the place may contain other
+     * NULs. The output is empty if there is nothing to say besides the fault.
      */
-    private static Place ofLine(String line, String prefix, String reason) {
-        String middle = ": " + reason;
-        int end = reason.equals("UnknownName") ? line.indexOf(middle) : line.lastIndexOf(middle);
+    static Place of(byte[] output) {
+        String text = output == null ? "" : Question.text(output);
+        int end = text.lastIndexOf('\0');
         if (end < 0) {
             return UNKNOWN;
         }
-        String at = without(without(without(line.substring(0, end), "at "), prefix), ", ");
-        String message = without(line.substring(end + middle.length()), ": ");
-        return new Place(at, message.isEmpty() ? null : message);
-    }
-
-    private static String without(String text, String prefix) {
-        return text.startsWith(prefix) ? text.substring(prefix.length()) : text;
+        String message = text.substring(end + 1);
+        return new Place(text.substring(0, end), message.isEmpty() ? null : message);
     }
 }

@@ -1,11 +1,9 @@
 package bcsproved;
 
 import bcsproved.BcsException.Kind;
-import java.io.ByteArrayOutputStream;
 
 /** Makes the exception of an answer by which C refuses something: asks where it is, and what was expected there. */
 final class Refusals {
-    private static final int WHERE = 0, WANTED = 1;
     private static final long ROOM = 256;
 
     private Refusals() {}
@@ -21,35 +19,29 @@ final class Refusals {
         if (output == null && other != null) {
             return ofInput(handle, kind, question, answer, other, null);
         }
-        return of(kind, answer, Place.of(call, output, answer.reason()));
+        return of(kind, answer, Place.of(output));
     }
 
     static BcsException ofFormat(long handle, Question question, Answer answer) throws BcsException {
-        Answer line = Answer.of(Call.FORMAT_PLACE, handle, question, null, null, 0, ROOM);
-        return of(Kind.FORMAT, answer, Place.of(Call.FORMAT_PLACE, line.output(), answer.reason()));
+        return of(Kind.FORMAT, answer, Place.of(Answer.of(Call.FORMAT_PLACE, handle, question, null, null, 0, ROOM).output()));
     }
 
     static BcsException ofPath(Answer answer, byte[] path) throws BcsException {
-        Answer line = Answer.of(Call.PATH_PLACE, path, null, 0, ROOM);
-        return of(Kind.PATH, answer, Place.of(Call.PATH_PLACE, line.output(), answer.reason()));
+        return of(Kind.PATH, answer, Place.of(Answer.of(Call.PATH_PLACE, path, null, 0, ROOM).output()));
+    }
+
+    /** Of the name or the pointer of a part. No call says what is wrong with it. */
+    static BcsException ofName(Answer answer, int notation) throws BcsException {
+        String wanted = notation == Answer.NAME ? "a name such as .payload.args[1]" : "a JSON Pointer such as /payload/args/1";
+        return of(Kind.PATH, answer, new Place(null, "wanted " + wanted));
     }
 
     static BcsException ofGrowth(Answer answer, byte[] older, byte[] newer) throws BcsException {
-        Answer line = Answer.of(Call.GROWTH_PLACE, older, newer, 0, ROOM);
-        return of(Kind.GROWTH, answer, Place.of(Call.GROWTH_PLACE, line.output(), answer.reason()));
+        return of(Kind.GROWTH, answer, Place.of(Answer.of(Call.GROWTH_PLACE, older, newer, 0, ROOM).output()));
     }
 
     static BcsException ofRegistry(Kind kind, Answer answer, byte[] registry) throws BcsException {
-        byte[] at = Answer.of(Call.REGISTRY_PLACE, registry, null, WHERE, ROOM).output();
-        byte[] message = Answer.of(Call.REGISTRY_PLACE, registry, null, WANTED, ROOM).output();
-        if (at == null || message == null) {
-            return of(kind, answer, Place.UNKNOWN);
-        }
-        ByteArrayOutputStream both = new ByteArrayOutputStream();
-        both.writeBytes(at);
-        both.write(0);
-        both.writeBytes(message);
-        return of(kind, answer, Place.of(Call.REGISTRY_PLACE, both.toByteArray(), answer.reason()));
+        return of(kind, answer, Place.of(Answer.of(Call.REGISTRY_REFUSAL, registry, null, 0, ROOM).output()));
     }
 
     static BcsException of(Kind kind, Answer answer, Place place) throws BcsException {

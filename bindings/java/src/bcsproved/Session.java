@@ -74,19 +74,19 @@ final class Session implements AutoCloseable {
     Answer ask(Call call, Question question, byte[] first, byte[] second, int number, long room) throws BcsException {
         Answer answer = Answer.of(call, handle, question, first, second, number, room);
         if (answer.status() != Answer.DONE && answer.status() != Answer.NO) {
-            throw refusal(call, question, answer, first, second);
+            throw refusal(call, question, answer, first, second, number);
         }
         return answer;
     }
 
-    private BcsException refusal(Call call, Question question, Answer answer, byte[] first, byte[] second) throws BcsException {
+    private BcsException refusal(Call call, Question question, Answer answer, byte[] first, byte[] second, int number)
+            throws BcsException {
         return switch (answer.status()) {
             case Answer.FORMAT -> call == Call.SHOW
                     ? Refusals.of(Kind.FORMAT, answer, new Place("", "no container is called " + Question.text(first)))
                     : Refusals.ofFormat(handle, question, answer);
             case Answer.LIMITS -> new BcsException(Kind.LIMITS, null, -1, null, "the depth is above 500");
-            case Answer.PATH -> call == Call.PART ? Refusals.ofPath(answer, second)
-                    : Refusals.of(Kind.PATH, answer, Place.UNKNOWN);
+            case Answer.PATH -> call == Call.PART ? Refusals.ofPath(answer, second) : Refusals.ofName(answer, number);
             case Answer.REFUSED ->
                     Refusals.ofInput(handle, call.refused, question, answer, first, call == Call.COMPARE ? second : null);
             default -> throw new AssertionError("unknown status " + answer.status());
