@@ -10,7 +10,7 @@ returns-in-Err-read_second-clause-fault g c =
       λ other. inr (
         (c.in-Ok.text.items, first),
         elim (second.named other) [
-          | inl same ↦ inr (same.0, same.1, refl)
+          | inl same ↦ inr (same, refl)
           | inr grows ↦ inl (grows.0, subst (λ (word : List ℕ). is_registry_text word ≡ false) c.as_str-2.ensures.value grows.1, refl)
         ],
       ),
