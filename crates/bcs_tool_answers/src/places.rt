@@ -28,11 +28,12 @@ pub fn place_of(alloc: Global, refusal: Option<Refusal>) -> Vec<u8>
 pub fn place_in_input(alloc: Global, work: &Work, refusal: Option<Refusal>) -> Vec<u8>
     ensures { All IsPrintable result.items }
 {
+    if !work.options.json_refusals {
+        return place_of(alloc, refusal);
+    }
     match refusal {
-        Some(refusal) if work.options.json_refusals => {
-            place_of_line(alloc, refusal.members(alloc).ok())
-        }
-        refusal => place_of(alloc, refusal),
+        Some(refusal) => place_of_line(alloc, refusal.members(alloc).ok()),
+        None => Vec::new(alloc),
     }
 }
 
