@@ -1,14 +1,14 @@
 use Rattle.bcs_c.proofs.Prelude.{List, subst, ℕ, Puts, no_memory, stands, told}
 use Rattle.bcs_c.proofs.places.place_of_stop.Goals as goal
 
-pub returns-in-Ok-Some-in-Ok-clause-answers : goal.returns-in-Ok-Some-in-Ok-clause-answers
-returns-in-Ok-Some-in-Ok-clause-answers c =
+pub returns-in-Ok-clause-answers : goal.returns-in-Ok-clause-answers
+returns-in-Ok-clause-answers c =
     let ends = rw c.in-Ok-Some.field-0-is at c.in-Ok-Some.ensures.some in
-    told c.in-Ok-Some.stopped.stop c.in-Ok-Some-in-Ok.half.items ends
+    told c.in-Ok-Some.stopped.stop c.in-Ok.half.items ends
     (subst (λ (b : List ℕ). Puts b c.args.out.now c.put.new.out c.put.result) c.deref.ensures.value c.put.ensures.puts)
 
 pub returns-in-Ok-None-clause-answers : goal.returns-in-Ok-None-clause-answers
-returns-in-Ok-None-clause-answers c = stands (c.in-Ok-None.ensures.none c.in-Ok-None.field-0-is) c.plain.ensures
+returns-in-Ok-None-clause-answers c = stands (c.in-Ok-None.ensures.none c.in-Ok-None.field-0-is) c.plain-in-Ok-None.ensures
 
 pub returns-in-Err-clause-answers : goal.returns-in-Err-clause-answers
 returns-in-Err-clause-answers c = no_memory c.plain-in-Err.ensures

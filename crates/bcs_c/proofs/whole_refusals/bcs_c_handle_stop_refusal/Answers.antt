@@ -6,4 +6,4 @@ pub returns-in-Err-clause-answers : goal.returns-in-Err-clause-answers
 returns-in-Err-clause-answers c = refused c.in-Err.ensures.err.0
 
 pub returns-clause-answers : goal.returns-clause-answers
-returns-clause-answers c = answers_asked (on_handle c.args.handle.now.registry c.args.ask.now) c.in-Ok.lent c.asked.result c.in-Ok.ensures.ok c.asked.ensures c.told_stop.result _ c.told_stop.ensures.answers
+returns-clause-answers c = answers_asked (on_handle c.args.handle.now.registry c.args.ask.now) c.in-Ok.lent c.asked.result c.in-Ok.ensures.ok c.asked.ensures c.told_stop-answer.result _ c.told_stop-answer.ensures.answers

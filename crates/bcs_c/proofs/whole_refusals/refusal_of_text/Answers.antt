@@ -13,7 +13,5 @@ returns c =
     rw c.ok.ensures.value (some_of_ok c.both.result c.both.ensures (λ x is fault refused. (
       c.in_ok-place.place.items,
       c.in_ok-place.ensures other fault refused,
-      message,
-      c.without_nul.ensures,
-      is ∙ ap (λ (place : List ℕ). (place ++ (0 ∷ [])) ++ message) c.deref.ensures.value,
+      (message, c.without_nul.ensures, is ∙ ap (λ (place : List ℕ). (place ++ (0 ∷ [])) ++ message) c.deref.ensures.value),
     )))
