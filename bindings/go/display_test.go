@@ -23,6 +23,7 @@ func opened(t *testing.T, text string) *Registry {
 func TestWhereFormatsPathsAndGrowthAreRefused(t *testing.T) {
 	registry := opened(t, ring)
 	_, badPath := registry.Part("Shape", []byte{0}, "1/x: BadPath: y")
+	_, oddPath := registry.Part("Shape", []byte{0}, "1/é\x00x")
 	_, badSchema := registry.Schema(`{"SEQ":"U7"}`)
 	_, unknown := registry.EncodeJSON("Nope", []byte("1"))
 	_, hostile := registry.DecodeJSON(`{"SEQ":{"TYPENAME":"x: UnknownName: y"}}`, nil)
@@ -35,6 +36,9 @@ func TestWhereFormatsPathsAndGrowthAreRefused(t *testing.T) {
 		wanted Error
 	}{
 		{badPath, Error{KindPath, "BadPath", -1, "step 2 x: BadPath: y", path}},
+		{oddPath, Error{KindPath, "BadPath", -1, "step 2 é\x00x", path}},
+		{Grows([]byte(`{"é\u0000: Missing: b":"UNITSTRUCT"}`), []byte("{}")),
+			Error{KindGrowth, "Missing", -1, "é\x00: Missing: b", "the newer registry has no container of that name"}},
 		{badSchema, Error{KindFormat, "BadShape", -1, "/SEQ", "wanted a format"}},
 		{registry.Check(`{"TUPLE":["U8",{}]}`), Error{KindFormat, "BadShape", -1, "/TUPLE/1", "wanted a format"}},
 		{unknown, Error{KindFormat, "UnknownName", -1, "", "no container is called Nope"}},

@@ -49,8 +49,8 @@ type Error struct {
 	Place int
 
 	// At says where the fault is. Of JSON, a Go value or a format it is a JSON Pointer (RFC 6901) such as /payload/args/1, which is
-	// empty for the whole; of bytes the field path, such as .payload.args[1]; of a registry, a path or growth the place as the
-	// program bcs prints it.
+	// empty for the whole; of bytes the field path, such as .payload.args[1]; of a registry or growth a definition, such as
+	// Shape, field side; of a path a step, such as step 2 x. Names are as they are, never escaped or cut.
 	At string
 
 	// Message says what was expected there, or what is wrong. The text is for people, and may change.

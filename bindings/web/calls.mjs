@@ -187,7 +187,7 @@ function asked({ format, depth, nodes }) {
 }
 
 /**
- * The calls. What is asked for has `registry`, a text or one that is `Opened`, `format`, `depth` and `nodes`. An answer has
+ * The calls. What is asked for has `registry`, which is `Opened`, `format`, `depth` and `nodes`. An answer has
  * `status`, `fault` (its number), `place`, `length` and, where there is one, `output`.
  */
 export class Calls {
@@ -304,13 +304,8 @@ export class Calls {
     });
   }
 
-  #on(name, { registry, format, depth, nodes }, parts, outLength) {
-    return this.#run((room) => {
-      if (!(registry instanceof Opened)) {
-        return wholeCall(room, `bcs_c_${name}`, [{ slices: [registry, format], depth, nodes }, ...parts], outLength);
-      }
-      return handleCall(room, name, registry, [{ slices: [format], depth, nodes }, ...parts], outLength);
-    });
+  #on(name, ask, parts, outLength) {
+    return this.#onHandle(name, ask.registry, [asked(ask), ...parts], outLength);
   }
 
   #onHandle(name, registry, parts, outLength) {

@@ -110,6 +110,11 @@ public final class Tests extends Check {
         byte[] odd = "{\"a: Missing: b\":\"UNITSTRUCT\"}".getBytes(StandardCharsets.UTF_8);
         refused(Kind.GROWTH, "Missing", -1, "a: Missing: b", "the newer registry has no container of that name",
                 () -> Registry.grows(odd, none));
+        byte[] odder = "{\"é\\u0000: Missing: b\":\"UNITSTRUCT\"}".getBytes(StandardCharsets.UTF_8);
+        refused(Kind.GROWTH, "Missing", -1, "é\0: Missing: b", "the newer registry has no container of that name",
+                () -> Registry.grows(odder, none));
+        refused(Kind.PATH, "BadPath", -1, "step 2 é\0x", "wanted a number, inner, or key: and hexadecimal digits",
+                () -> registry.part("Point", unhex("0700"), "1/é\0x"));
         equal(thrown(BcsException.class, () -> Registry.grows(shapes, none)).reason(), "Missing");
         equal(Registry.differences(odd, none), List.of("a: Missing: b: Missing"));
         equal(thrown(BcsException.class, () -> Registry.differences(none, NOTHING)).kind(), Kind.NEWER);

@@ -25,9 +25,10 @@ class BcsError(Exception):
     `kind` is what is refused, a word for each subclass. `reason` is the fault's name, such as "BadBool", and empty for
     limits and stacks. `place` is the offset where bytes stop being a value, and None for everything else.
 
-    `at` says where the fault is: a JSON Pointer, such as "/payload/args/1", for values and JSON; a field path, such as
-    ".payload.args[1]", for bytes; and the location as `bcs` prints it for registries, paths and growth. It is empty if
-    the whole is refused. `message` says what is wrong there. It is for people, and may change."""
+    `at` says where the fault is: a JSON Pointer, such as "/payload/args/1", for values, JSON and formats; a field path,
+    such as ".payload.args[1]", for bytes; a definition, such as "Shape, field side", for registries and growth; and a
+    step, such as "step 2 x", for paths. Names are as they are, never escaped or cut. It is empty if the whole is
+    refused. `message` says what is wrong there. It is for people, and may change."""
 
     kind = ""
 

@@ -79,8 +79,9 @@ impl Error {
     }
 
     /// Where it is refused. In JSON, in a format and in a `serde` value it is a JSON Pointer (RFC 6901) such as `/payload/args/1`,
-    /// which is empty if the whole is refused. In bytes it is the field path, such as `.payload.args[1]`. In a registry, in two
-    /// that don't grow, and in a path it is the location that the program `bcs` prints.
+    /// which is empty if the whole is refused. In bytes it is the field path, such as `.payload.args[1]`. In a registry, and in two
+    /// that don't grow, it is a definition, such as `Shape, field side`, and in a path a step, such as `step 2 x`. Names are as they
+    /// are, never escaped or cut.
     pub fn at(&self) -> Option<&str> {
         self.found.as_deref().map(|found| found.at.as_str())
     }

@@ -245,6 +245,10 @@ fn errors_tell_the_place() {
     assert_eq!(registry.scan("Point", [7, 1, 2, 5]).unwrap_err(), error);
     assert_eq!(registry.part("Point", &[7, 1, 2, 5], ".").unwrap_err(), error);
 
+    let odd = Registry::read(r#"{"é\u0000: Missing: b":"UNITSTRUCT"}"#).unwrap();
+    assert_eq!(odd.grows(&registry).unwrap_err().at(), Some("é\0: Missing: b"));
+    assert_eq!(registry.part("Point", &[7, 0], "1/é\0x").unwrap_err().at(), Some("step 2 é\0x"));
+
     let error = Registry::read(r#"{"S":{"ENUM":{"x":{"A":"UNIT"}}}}"#).unwrap_err();
     assert_eq!(error.at(), Some("/S/ENUM/x"));
     assert_eq!(error.to_string(), "refused: BadNumber at /S/ENUM/x: wanted a plain decimal number below 4294967296");

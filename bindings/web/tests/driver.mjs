@@ -41,12 +41,6 @@ function place(refused, what) {
   return told === undefined ? NO : put(told);
 }
 
-/** (the program calls a whole registry `the whole text`) */
-function registryPlace(text, what) {
-  const refused = refusedBy(() => bcs.registry(text));
-  return place(refused?.at === '' ? { ...refused, at: 'the whole text' } : refused, what);
-}
-
 /** Each call that takes a text tells the same. */
 function textPlace(registry, format, text, what) {
   const calls = [() => registry.encodeText(format, text), () => registry.normaliseText(format, text), () => registry.equalText(format, text, text)];
@@ -87,7 +81,7 @@ function answerTo(call, words) {
     const name = bcs.faultName(Number(words[0]));
     return name === undefined ? NO : put(name);
   }
-  if (call === 'registry_place') return registryPlace(bytesOfHex(words[0]), words[1]);
+  if (call === 'registry_place') return place(refusedBy(() => bcs.registry(bytesOfHex(words[0]))), words[1]);
   if (call === 'grows') return bcs.grows(...words.map(bytesOfHex)), DONE;
   const [registryText, formatText, depth, nodes, ...others] = words;
   const registry = bcs.registry(bytesOfHex(registryText)).withLimits({ depth: Number(depth), nodes: Number(nodes) });

@@ -349,6 +349,8 @@ test('where something is refused, and what was wanted there', () => {
   assert.throws(() => bcs.grows('{"a: Missing: b":"UNITSTRUCT"}', '{}'), {
     kind: 'growth', reason: 'Missing', at: 'a: Missing: b', detail: 'the newer registry has no container of that name',
   });
+  assert.throws(() => registry.part('"U8"', [7], '1/é\0x'), { kind: 'path', at: 'step 2 é\0x', detail: step });
+  assert.throws(() => bcs.grows('{"é\\u0000: Missing: b":"UNITSTRUCT"}', '{}'), { kind: 'growth', at: 'é\0: Missing: b' });
   assert.throws(() => bcs.registry('{"S":{"STRUCT":[{"side":{"TYPENAME":"Sid"}}]}}'), told('S, field side', 'no container is called Sid'));
   assert.throws(() => bcs.grows('{}', '{"S":7}'), told('/S', 'wanted a container'));
   assert.throws(() => registry.encode('Point', { x: 256, '~/': [] }), { message: `refused: BadNumber at /x: found 256, ${wanted}` });
@@ -362,7 +364,7 @@ const KINDS = [
   [() => bcs.registry('{"A":{"NEWTYPESTRUCT":{"TYPENAME":"B"}}}'), 'registry', 'UnknownName', undefined, 'A', 'refused: UnknownName at A: no container is called B'],
   [() => bcs.registry('{"the whole text":{"NEWTYPESTRUCT":{"TYPENAME":"B"}}}'), 'registry', 'UnknownName', undefined, 'the whole text', /at the whole text: no/],
   [() => bcs.registry('{"A":7}'), 'registry', 'BadShape', undefined, '/A', /^refused: BadShape at \/A: wanted a container/],
-  [() => bcs.grows('{}', '7'), 'newer', 'BadShape', undefined, '', /^refused: BadShape: wanted/],
+  [() => bcs.grows('{}', '7'), 'newer', 'BadShape', undefined, 'the whole text', /^refused: BadShape at the whole text: wanted/],
   [() => bcs.grows('{"S":"UNITSTRUCT"}', '{}'), 'growth', 'Missing', undefined, 'S', /^refused: Missing at S: the newer registry has no/],
   [() => none.check({ SEQ: 'U7' }), 'format', 'BadShape', undefined, '/SEQ', /^refused: BadShape at \/SEQ: /],
   [() => none.withLimits({ depth: 501 }).scan('"U8"', [7]), 'limits', undefined, undefined, undefined, 'refused: the depth is above 500'],
@@ -371,7 +373,8 @@ const KINDS = [
   [() => none.decode({ TUPLE: ['U8', 'BOOL'] }, [7, 2]), 'bytes', 'BadBool', 1, '[1]', 'refused: BadBool at byte 1, [1]: wanted BOOL'],
   [() => none.decode('"BOOL"', [2]), 'bytes', 'BadBool', 0, '.', 'refused: BadBool at byte 0, .: wanted BOOL'],
   [() => none.part('"U8"', [7], 'a'), 'path', 'BadPath', undefined, 'step 1 a', /^refused: BadPath at step 1 a: wanted a number/],
-  [() => none.partByName('"U8"', [7], 'a'), 'path', 'BadPath', undefined, undefined, 'refused: BadPath'],
+  [() => none.partByName('"U8"', [7], 'a'), 'path', 'BadPath', undefined, undefined, 'refused: BadPath: wanted a name such as .payload.args[1]'],
+  [() => none.partByPointer('"U8"', [7], 'a'), 'path', 'BadPath', undefined, undefined, 'refused: BadPath: wanted a JSON Pointer such as /payload/args/1'],
   [() => none.example('"F32"'), 'example', 'NoValue', undefined, undefined, 'refused: NoValue'],
   [() => none.encode({ TUPLE: ['U8'] }, [true]), 'value', 'WrongType', undefined, '/0', 'refused: WrongType at /0: U8 takes an integer, not boolean'],
   [() => none.encode('"U8"', true), 'value', 'WrongType', undefined, '', 'refused: WrongType: U8 takes an integer, not boolean'],

@@ -2,7 +2,7 @@
 // texts of a megabyte. It judges nothing.
 import { readFileSync } from 'node:fs';
 import { load } from '../bcs.mjs';
-import { Calls } from '../calls.mjs';
+import { Calls, Opened } from '../calls.mjs';
 
 const module = await WebAssembly.compile(readFileSync(process.argv[2]));
 const read = (name) => readFileSync(new URL(`../../../examples/${name}`, import.meta.url), 'utf8');
@@ -19,7 +19,7 @@ function time(count, job) {
 }
 
 function asked(registry, format, text) {
-  const ask = { registry: encoder.encode(registry), format: encoder.encode(format), depth: 500, nodes: 0xffffffff };
+  const ask = { registry: new Opened(encoder.encode(registry)), format: encoder.encode(format), depth: 500, nodes: 0xffffffff };
   return [ask, encoder.encode(text)];
 }
 

@@ -75,8 +75,8 @@ public final class BcsException extends Exception {
     /**
      * Where the fault is; null if that isn't known. Of JSON and of values it is a JSON Pointer (RFC 6901) such as /payload/args/1,
      * which is empty if the whole is refused; of a type the same, with "-" for each element of a list; of bytes the names that lead
-     * there, such as .payload.args[1]; of a format a JSON Pointer; of a registry, a path or growth the place as the program
-     * {@code bcs} prints it.
+     * there, such as .payload.args[1]; of a format a JSON Pointer; of a registry or growth a definition, such as Shape, field side;
+     * of a path a step, such as step 2 x. Names are as they are, never escaped or cut.
      */
     public String at() {
         return at;
