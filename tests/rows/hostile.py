@@ -17,6 +17,7 @@ from words import format_of
 
 FILE = pathlib.Path(__file__).resolve().parent / "hostile_names.json"
 NOT_PLAIN = re.compile(r'[^!-~]|[!"*.:=?\[\\\]]')
+QUOTED = re.compile(r"[^ !#-\[\]-~]")
 # No registry here has it.
 MISSING = {"TYPENAME": "missing: UnknownName: x"}
 NO_CONTAINER = "no container is called missing: UnknownName: x"
@@ -39,7 +40,7 @@ def label(name: str) -> str:
     """A name in a field path."""
     if name and not NOT_PLAIN.search(name):
         return name
-    return '"' + re.sub(r"[^ !#-\[\]-~]", lambda found: escaped(found[0]), name) + '"'
+    return '"' + QUOTED.sub(lambda found: escaped(found[0]), name) + '"'
 
 
 def escaped(character: str) -> str:
