@@ -230,14 +230,13 @@ def bytes_jobs() -> Iterator[Job]:
         f"at [key {LAST}]: KeyOrder: wanted a later key\n",
     )
     key = uleb(KEY) + b"a" * KEY
-    cut = f"[key:{key[:32].hex()}...({len(key) - 32} bytes more)]"
     of_bytes = '{"MAP":{"KEY":"BYTES","VALUE":"BOOL"}}'
     yield Job(
         "a bad value at a key of a million bytes",
         ["{}", of_bytes],
         b"\1" + key + b"\2",
         f"refused: BadBool at {len(key) + 1}\n",
-        f"at {cut}: BadBool: wanted BOOL\n",
+        "at [value 0]: BadBool: wanted BOOL\n",
     )
 
 
