@@ -281,11 +281,11 @@ bcs_answer bcs_handle_show(bcs_handle *handle, uint32_t form, const uint8_t *nam
                            size_t out_length);
 
 /* The same for a registry: BCS_DONE, or BCS_NO if it is valid. The place is that of bcs_registry_place, but with names as they are:
-   Shape, variant 2 Circle, field side. */
+   Shape, variant 2 Circle, field side. It is empty if the whole registry is refused. If it isn't JSON, the message begins with the
+   line and the column. */
 bcs_answer bcs_registry_refusal(const uint8_t *registry, size_t registry_length, uint8_t *out, size_t out_length);
 
-/* The same for a format. The place is a JSON Pointer into it, which is empty for the whole format, or the line and the column where
-   it stops being JSON: /SEQ, a NUL, wanted a format. The output is empty if there is no more to say than the fault. */
+/* The same for a format. The place is a JSON Pointer into it, which is empty for the whole format: /SEQ, a NUL, wanted a format. The output is empty if there is no more to say than the fault. */
 bcs_answer bcs_handle_format_place(bcs_handle *handle, const uint8_t *format, size_t format_length, uint8_t *out,
                                    size_t out_length);
 

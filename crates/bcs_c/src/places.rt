@@ -15,7 +15,7 @@ use crate::output::put;
 use crate::status::Status;
 use bcs_display_errors::{pointer_of, registry_refusal, text_refusal};
 use bcs_display_pieces::stop_refusal;
-use bcs_display_refusal::{Location, Refusal};
+use bcs_display_refusal::Refusal;
 use bcs_json::{JsonFault, TextRefusal, read_value_or_refusal};
 use bcs_registry::{Registry, RegistryFault};
 use std::alloc::{AllocError, Global};
@@ -103,13 +103,7 @@ fn words_of_text(
     let (registry, format) = (asked.registry, asked.format);
     let at = (refusal.fault, refusal.steps.as_deref());
     let told = text_refusal(alloc, registry, format, &asked.limits, text, at)?;
-    let Location::Line(_, _) = &told.location else {
-        return Some(told.message);
-    };
-    let mut words = told.place(alloc).ok()?;
-    words.extend_from_slice(b": ").ok()?;
-    words.extend_from_slice(&told.message).ok()?;
-    Some(words)
+    told.words(alloc).ok()
 }
 
 /// Writes the field path to where bytes stop being a value, or what was expected there, to the start of the output.

@@ -147,7 +147,8 @@ pub(crate) fn written(alloc: Global, refusal: &Refusal) -> Result<Vec<u8>, Alloc
     ensures { IfOk result (λ told. (place : List ℕ) × IsParted place told.items) }
 {
     let place = refusal.place(alloc)?;
-    both(alloc, &place, without_nul(&refusal.message))
+    let words = refusal.words(alloc)?;
+    both(alloc, &place, without_nul(&words))
 }
 
 /// The place, a NUL, and the message.

@@ -78,14 +78,29 @@ impl Refusal {
         self.location.put(Spelling::Shown, out)
     }
 
-    /// The text of the location alone, with names as they are.
+    /// The text of the location alone, with names as they are. It is empty if the whole input or argument is refused, or if it
+    /// isn't JSON.
     pub fn place(&self, alloc: Global) -> Result<Vec<u8>, AllocError> {
         let mut place = Vec::new(alloc);
-        self.location.put(Spelling::Exact, &mut place)?;
+        match self.location {
+            Location::WholeText | Location::WholeInput | Location::Line(_, _) => {}
+            _ => self.location.put(Spelling::Exact, &mut place)?,
+        }
         Ok(place)
     }
 
-    /// The same as the line shows it.
+    /// The message, after the line and the column of an input that isn't JSON, so that place and message have all of them.
+    pub fn words(&self, alloc: Global) -> Result<Vec<u8>, AllocError> {
+        let mut words = Vec::new(alloc);
+        if let Location::Line(_, _) = self.location {
+            self.location.put(Spelling::Exact, &mut words)?;
+            words.extend_from_slice(b": ")?;
+        }
+        words.extend_from_slice(&self.message)?;
+        Ok(words)
+    }
+
+    /// The text of the location, as the line shows it.
     pub fn shown_place(&self, alloc: Global) -> Result<Vec<u8>, AllocError> {
         let mut place = Vec::new(alloc);
         self.location.put(Spelling::Shown, &mut place)?;
