@@ -1,6 +1,6 @@
 //! Where faults occurred: the line after the note.
 ghost use Rattle.std.specs.Prelude.{◌≡◌, ◌++◌, IfOk};
-ghost use Rattle.bcs_tool_command_line.specs.FaultPlaces.{ReportsPlace, cause_text, file_place, file_text, origin_text, output_text, take_place};
+ghost use Rattle.bcs_tool_command_line.specs.FaultPlaces.{ReportsPlace, advice_text, cause_text, file_place, file_text, origin_text, output_text, take_place};
 
 use crate::open_cause::OpenCause;
 use crate::origin::Origin;
@@ -54,12 +54,13 @@ fn unread_line(alloc: Global, unread: UnreadFile, name: &str) -> Result<Vec<u8>,
     }
 }
 
-// The file, and why the system couldn't open it.
+// The file, why the system couldn't open it, and what to do.
 fn unopened_line(alloc: Global, name: &str, cause: OpenCause) -> Result<Vec<u8>, AllocError>
-    ensures { IfOk result (λ line. line.items ≡ file_text name.now ++ cause_text cause) }
+    ensures { IfOk result (λ line. line.items ≡ (file_text name.now ++ cause_text cause) ++ advice_text cause) }
 {
     let mut line = file_line(alloc, name)?;
     line.extend_from_slice(cause.text().as_bytes())?;
+    line.extend_from_slice(cause.advice().as_bytes())?;
     Ok(line)
 }
 

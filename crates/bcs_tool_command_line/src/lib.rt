@@ -21,6 +21,7 @@ mod parsing;
 mod spelling;
 mod styling;
 mod texts;
+mod tips;
 mod unread_file;
 pub mod version;
 mod word;
