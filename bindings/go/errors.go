@@ -189,7 +189,7 @@ func refusalOf(kind Kind, answer C.bcs_answer, argument string, ask func(out *C.
 }
 
 // locate takes apart what C says about a refusal: PLACE NUL MESSAGE, or a line of the program such as
-// at FORMAT, /SEQ: BadShape: wanted a format. Names in it may contain anything.
+// at FORMAT, /SEQ: BadShape: expected a format. Names in it may contain anything.
 func (e *Error) locate(said, argument string) {
 	if end := strings.LastIndexByte(said, 0); end >= 0 { // a pointer may contain a NUL; a message doesn't
 		e.At, e.Message = said[:end], said[end+1:]

@@ -8,7 +8,7 @@ const FAULTS_OF_NAMES = ['UnknownName', 'RepeatedName'];
 /**
  * Takes an answer of the module apart: where a refusal is, and what is wrong there. No other function knows how the two are
  * joined: by a NUL; or, where the answer names the `input`, in a line of the program such as
- * `at FORMAT, /SEQ: BadShape: wanted a format`. A name in it may contain anything.
+ * `at FORMAT, /SEQ: BadShape: expected a format`. A name in it may contain anything.
  */
 export function reported({ status, fault, output, input }, names) {
   if (status !== 'done' || output.length === 0) return {};

@@ -48,14 +48,14 @@ static const struct row rows[] = {
     {{.call = SHOW, .registry = OF("{\"S\":\"UNITSTRUCT\"}"), .input = OF("T")}, BCS_FORMAT, BCS_REGISTRY_UNKNOWN_NAME, ""},
     {{.call = SHOW, .registry = OF("{\"S\":\"UNITSTRUCT\"}"), .input = OF("\xff")}, BCS_FORMAT, BCS_REGISTRY_UNKNOWN_NAME, ""},
 
-    {{ASKED(FORMAT_PLACE, "{}", "{\"SEQ\":7}")}, BCS_DONE, BCS_REGISTRY_BAD_SHAPE, "at FORMAT, /SEQ: BadShape: wanted a format"},
+    {{ASKED(FORMAT_PLACE, "{}", "{\"SEQ\":7}")}, BCS_DONE, BCS_REGISTRY_BAD_SHAPE, "at FORMAT, /SEQ: BadShape: expected a format, found 7"},
     {{ASKED(FORMAT_PLACE, "{}", NAMED("N"))}, BCS_DONE, BCS_REGISTRY_UNKNOWN_NAME,
      "at FORMAT: UnknownName: no container is called N"},
     {{ASKED(FORMAT_PLACE, "{}", "U64")}, BCS_DONE, BCS_REGISTRY_NOT_JSON, ""},
     {{ASKED(FORMAT_PLACE, "{}", "\"U64\"")}, BCS_NO, BCS_FAULT_NONE, ""},
 
     {{.call = PATH_PLACE, .input = OF("inner/07/x")}, BCS_DONE, BCS_PATH_BAD_PATH,
-     "at PATH, step 2 07: BadPath: wanted a number, inner, or key: and hexadecimal digits"},
+     "at PATH, step 2 07: BadPath: expected a number, inner, or key: and hexadecimal digits"},
     {{.call = PATH_PLACE, .input = OF("3/")}, BCS_DONE, BCS_PATH_BAD_PATH, "at PATH, step 2: BadPath: an empty step"},
     {{.call = PATH_PLACE, .input = OF("\xff")}, BCS_DONE, BCS_PATH_BAD_PATH, ""},
     {{.call = PATH_PLACE, .input = OF("inner/0/key:01")}, BCS_NO, BCS_FAULT_NONE, ""},

@@ -210,7 +210,7 @@ def _room_of(size: int) -> Union[bytearray, mmap.mmap]:
 
 def _taken_apart(report: str, reason: str, prefix: str) -> tuple[str, str]:
     """The location and the message of a report. It has a NUL between them, after which there is no other; or it is a
-    line of the program, such as "at FORMAT, /SEQ: BadShape: wanted a format". Names in both may contain anything."""
+    line of the program, such as "at FORMAT, /SEQ: BadShape: expected a format". Names in both may contain anything."""
     if "\0" in report:
         at, _, message = report.rpartition("\0")
         return at, message

@@ -4,7 +4,7 @@
 pub(crate) enum Report<'r> {
     /// The location, a NUL, and the message, which has no NUL.
     Apart,
-    /// A line of the program, such as `at FORMAT, /SEQ: BadShape: wanted a format`, with its prefix and its reason.
+    /// A line of the program, such as `at FORMAT, /SEQ: BadShape: expected a format`, with its prefix and its reason.
     Line(&'r str, &'r str),
 }
 
@@ -37,12 +37,12 @@ mod tests {
     #[test]
     fn reports_are_taken_apart() {
         let rows = [
-            (Report::Apart, "/a\0b/1\0an odd number of digits", Some(("/a\0b/1", "an odd number of digits"))),
+            (Report::Apart, "/a\0b/1\0an odd number of digits; each byte has two", Some(("/a\0b/1", "an odd number of digits; each byte has two"))),
             (Report::Apart, "no NUL", None),
             (
                 Report::Line("FORMAT", "BadShape"),
-                "at FORMAT, /SEQ: BadShape: wanted a format",
-                Some(("/SEQ", "wanted a format")),
+                "at FORMAT, /SEQ: BadShape: expected a format",
+                Some(("/SEQ", "expected a format")),
             ),
             (Report::Line("FORMAT", "NotJson"), "at FORMAT: NotJson: line 1", Some(("", "line 1"))),
             (

@@ -22,7 +22,7 @@ record Place(String at, String message) {
     }
 
     /**
-     * Of a line of the program, such as {@code at FORMAT, /SEQ: BadShape: wanted a format}. Names in it may contain anything. Only
+     * Of a line of the program, such as {@code at FORMAT, /SEQ: BadShape: expected a format}. Names in it may contain anything. Only
      * the message of UnknownName has a name in it, and only the place of the others.
      */
     private static Place ofLine(String line, String prefix, String reason) {
