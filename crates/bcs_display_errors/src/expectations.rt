@@ -62,14 +62,14 @@ fn write_whole<W: fmt::Write>(number: IntegerKind, f: &mut fmt::Formatter<W>) ->
     match number {
         IntegerKind::Unsigned(width) => {
             let greatest = width.greatest_unsigned();
-            write!(f, "expected a whole number from 0 to {greatest} ({word})")
+            write!(f, "expected an integer from 0 to {greatest} ({word})")
         }
         IntegerKind::Signed(width) => {
             let greatest = width.greatest_unsigned() / 2;
             let below = greatest.saturating_add(1);
             write!(
                 f,
-                "expected a whole number from -{below} to {greatest} ({word})"
+                "expected an integer from -{below} to {greatest} ({word})"
             )
         }
     }

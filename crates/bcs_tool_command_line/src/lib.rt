@@ -31,7 +31,7 @@ pub use coding::Coding;
 pub use color::Color;
 pub use command::Command;
 pub use display::Display;
-pub use fault_places::{input_line, output_line, place_of_file};
+pub use fault_places::{input_line, output_line, place_of_file, place_of_output};
 pub use file_fault::FileFault;
 pub use file_refusal::FileRefusal;
 pub use job::{Job, JobOptions};

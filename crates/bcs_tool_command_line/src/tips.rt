@@ -32,11 +32,7 @@ fn with_tip(alloc: Global, kind: ErrorKind, text: &str) -> Result<Option<String>
         return Ok(None);
     };
     let (given, usage) = rest.split_once("\n\n").unwrap_or((rest, ""));
-    let usage = if given.starts_with(PASS) {
-        usage
-    } else {
-        MORE
-    };
+    let usage = if given.starts_with(PASS) { usage } else { MORE };
     match tip_for(problem, given) {
         Some(tip) => Ok(Some(format!(in alloc; "{problem}{TIP}{tip}\n\n{usage}")?)),
         None => Ok(None),
