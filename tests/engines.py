@@ -72,7 +72,7 @@ def expect_answers(answers: list[str], engine: str) -> None:
         "refused": "LongForm",
         "place": 73,
         "at": ".payload::EntryFunction.module.name",
-        "message": "wanted length of STR",
+        "message": "expected length of STR, found 8400, which isn't the shortest form of the number",
     }
     for number, answer in enumerate(answers):
         found: dict[str, Any] = json.loads(answer)

@@ -116,6 +116,7 @@ def steps(log: pathlib.Path) -> list[Step]:
         Step("engines", ["tests/engines.py"]),
         Step("schema", ["tests/schema.sh"]),
         Step("explain", ["tests/explain.py"]),
+        Step("mistakes", ["tests/mistakes.py"]),
         Step("heap", ["tests/program_heap.sh"]),
         Step("trust", python("tools/trust.py", "--check")),
         Step("edits", python("tests/edits.py", str(log))),

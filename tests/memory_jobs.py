@@ -9,15 +9,18 @@ LIST = '{"SEQ":"I16"}'
 PAIRS = '{"MAP":{"KEY":"U16","VALUE":"BOOL"}}'
 NESTED = '{"L":{"STRUCT":[{"next":{"OPTION":{"TYPENAME":"L"}}}]}}'
 OPENED = "fault: open"
-NO_FILE = "in the file no.file: No such file or directory"
-NOT_JSON = "at line 1, column 1: NotJson: the text stops being JSON there"
-TOO_MANY_NODES = "at .: TooManyNodes: wanted I16; --nodes allows 1"
-WRONG_NUMBER = "BadNumber: found 32768, wanted a whole number from -32768 to 32767 (I16)"
+NO_FILE = (
+    "in the file no.file: No such file or directory"
+    "; a value itself goes to standard input, and a registry itself starts with {"
+)
+NOT_JSON = "at line 1, column 1: NotJson: the document ends there; } is missing"
+TOO_MANY_NODES = "at .: TooManyNodes: expected I16; --nodes allows 1"
+WRONG_NUMBER = "BadNumber: found 32768, expected an integer from -32768 to 32767 (I16)"
 VARIANTS = '{"E":{"ENUM":{"0":{"B":"UNIT"},"1":{"A":{"NEWTYPE":"U8"}}}}}'
 FULL = '{"MAP":{"KEY":{"OPTION":{"TUPLE":["U8"]}},"VALUE":{"TYPENAME":"E"}}}'
 TALLY = "lines with status 0: {}, with status 1: {}, with status 2: {}".format
 DEPTH = "TooDeep: more containers are open than allowed; --depth allows 0"
-LOOKS_LIKE_YAML = "; it looks like YAML, and docs/REGISTRIES.md says how it becomes JSON"
+YAML = "at line 1, column 1: NotJson: this looks like YAML; docs/REGISTRIES.md says how to convert it to JSON"
 UNKNOWN = '{"S":{"NEWTYPESTRUCT":{"TYPENAME":"T"}}}'
 
 # As many containers are open as is allowed in `nested`. The standard input of every run is `number`.
@@ -67,7 +70,7 @@ WORDS_AND_ANSWERS = [
         2,
         "refused: BadBase64",
         ["decode", "--base64", "{}", I16, "@bytes"],
-        place="at byte 0 of the input: BadBase64: a character that is no sign of base64",
+        place="at byte 0 of the input: BadBase64: not a base64 character",
         left_out=5,
     ),
     Job(0, "-4660", ["normalise", "{}", I16, "@number"]),
@@ -112,7 +115,7 @@ DISPLAYS = [
         2,
         "refused: UnknownVariant",
         ["example", "--variant", "Node", '{"E":{"ENUM":{"0":{"None":"UNIT"}}}}', "E"],
-        place="at --variant, Node: UnknownVariant: no variant has this name; nearest: None; variants: None",
+        place="at --variant, Node: UnknownVariant: no variant has this name; did you mean None?; variants: None",
         hints=3,
         left_out=16,
     ),
@@ -126,7 +129,7 @@ VERDICTS = [
         2,
         "refused: BadHex",
         ["scan", "{}", I16, "@digits"],
-        place="at byte 4 of the input: BadHex: a character that is no hexadecimal digit",
+        place="at byte 4 of the input: BadHex: not a hexadecimal digit",
         left_out=4,
     ),
 ]
@@ -167,7 +170,7 @@ REFUSALS = [
         2,
         "refused: BadPath",
         ["part", "{}", I16, "key:00/07"],
-        place="at PATH, step 2 07: BadPath: wanted a number, inner, or key: and hexadecimal digits",
+        place="at PATH, step 2 07: BadPath: expected a number, inner, or key: and hexadecimal digits",
         left_out=6,
     ),
     Job(
@@ -190,14 +193,14 @@ REFUSALS = [
         2,
         "refused: UnknownVariant at 0",
         ["decode", "--raw", VARIANTS, "E", "@variant"],
-        place="at .: UnknownVariant: wanted number of a variant; found 9; variants: 0 B, 1 A",
+        place="at .: UnknownVariant: expected number of a variant; found 9; variants: 0 B, 1 A",
         left_out=16,
     ),
     Job(
         2,
         "refused: NotJson",
         ["normalise", "{}", I16, "@open"],
-        place="at line 2, column 0: NotJson: the text stops being JSON there",
+        place="at line 1, column 1: NotJson: the document ends there; ] is missing",
         left_out=5,
     ),
     Job(
@@ -216,12 +219,12 @@ REFUSALS = [
         left_out=17,
     ),
     Job(2, "refused: NotJson", ["check", "{"], place=NOT_JSON, hints=3, left_out=5),
-    Job(2, "refused: NotJson", ["check", "@yaml"], place=NOT_JSON + LOOKS_LIKE_YAML, hints=3, left_out=6),
+    Job(2, "refused: NotJson", ["check", "@yaml"], place=YAML, hints=3, left_out=6),
     Job(
         2,
         "refused: BadShape",
         ["check", '{"S":7}'],
-        place="at /S: BadShape: wanted a container",
+        place="at /S: BadShape: expected a container; this looks like a value, and not like a registry",
         hints=6,
         left_out=9,
     ),
@@ -237,7 +240,7 @@ REFUSALS = [
         2,
         "refused: BadShape",
         ["decode", "{}", '{"SEQ":7}'],
-        place="at FORMAT, /SEQ: BadShape: wanted a format",
+        place="at FORMAT, /SEQ: BadShape: expected a format, found 7",
         left_out=9,
     ),
 ]

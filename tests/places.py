@@ -118,7 +118,7 @@ def near_jobs() -> Iterator[Job]:
     """Among 100,000 of the longest names that are compared, the first thousand lack a third of the word, and none is
     nearer."""
     names, word = [f"{number:05}".translate(OTHERS) * 4 + "a" * 44 for number in range(COUNT)], "a" * 64
-    told = f"called {word}; nearest: {names[0]}"
+    told = f"called {word}; did you mean {names[0]}?"
     yield Job(
         "100,000 fields near an unknown member",
         [fields(names), "S"],
@@ -161,12 +161,18 @@ def registry_jobs() -> Iterator[Job]:
             "RepeatedName",
             "at E: RepeatedName: two variants are called v0",
         ),
-        ("a bad shape", containers({"X": "UNIT"}), "BadShape", "at /X: BadShape: wanted a container"),
+        (
+            "a bad shape",
+            containers({"X": "UNIT"}),
+            "BadShape",
+            'at /X: BadShape: expected a container, found "UNIT"; write {"NEWTYPESTRUCT":"UNIT"}',
+        ),
         (
             "a bad number",
             enum({"x": {"w": "UNIT"}}),
             "BadNumber",
-            "at /E/ENUM/x: BadNumber: wanted a plain decimal number below 4294967296",
+            "at /E/ENUM/x: BadNumber: expected the number of a variant: below 4294967296, in decimal digits "
+            "without leading zeros",
         ),
     ]:
         yield Job(f"a registry with {name}", [registry], b"", f"refused: {fault}\n", f"{place}\n")
@@ -200,14 +206,14 @@ def bytes_jobs() -> Iterator[Job]:
         ["{}", '{"SEQ":"BOOL"}'],
         listed + b"\2",
         f"refused: BadBool at {place}\n",
-        f"at [{KEY - 1}]: BadBool: wanted BOOL\n",
+        f"at [{KEY - 1}]: BadBool: expected BOOL, 00 or 01, found 02\n",
     )
     yield Job(
         "no element behind a million",
         ["{}", '{"SEQ":"BOOL"}'],
         listed,
         f"refused: EndOfInput at {place}\n",
-        f"at [{KEY - 1}]: EndOfInput: wanted BOOL\n",
+        f"at [{KEY - 1}]: EndOfInput: expected BOOL, found the end of the input\n",
     )
     numbered = LISTED
     for number in range(8):
@@ -217,7 +223,7 @@ def bytes_jobs() -> Iterator[Job]:
         [enum({}), "E"],
         uleb(COUNT),
         "refused: UnknownVariant at 0\n",
-        f"at .: UnknownVariant: wanted number of a variant; found {COUNT}{numbered}\n",
+        f"at .: UnknownVariant: expected number of a variant; found {COUNT}{numbered}\n",
     )
     rising = uleb(COUNT) + b"".join(number.to_bytes(4) + b"\1" for number in range(LAST))
     of_numbers = '{"MAP":{"KEY":{"TUPLEARRAY":{"CONTENT":"U8","SIZE":4}},"VALUE":"BOOL"}}'
@@ -227,7 +233,7 @@ def bytes_jobs() -> Iterator[Job]:
         ["{}", of_numbers],
         rising + bytes(5),
         answer,
-        f"at [key {LAST}]: KeyOrder: wanted a later key\n",
+        f"at [key {LAST}]: KeyOrder: expected a later key; the keys of a map ascend, compared as bytes\n",
     )
     key = uleb(KEY) + b"a" * KEY
     of_bytes = '{"MAP":{"KEY":"BYTES","VALUE":"BOOL"}}'
@@ -236,7 +242,7 @@ def bytes_jobs() -> Iterator[Job]:
         ["{}", of_bytes],
         b"\1" + key + b"\2",
         f"refused: BadBool at {len(key) + 1}\n",
-        "at [value 0]: BadBool: wanted BOOL\n",
+        "at [value 0]: BadBool: expected BOOL, 00 or 01, found 02\n",
     )
 
 

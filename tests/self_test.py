@@ -41,7 +41,7 @@ PLANTED = [
 WRONG_ANSWERS = [
     (r'^(bcs\tcheck\t\{\} -> 0 )"ok 0', r'\1"ok 1'),
     (r"^(bcs\tcheck\t\[\] -> )2", r"\g<1>0"),
-    (r'^(bcs\t--where\tdecode\t\{\}\t"BOOL"\t02 -> .*)wanted BOOL$', r"\1wanted U8"),
+    (r'^(bcs\t--where\tdecode\t\{\}\t"BOOL"\t02 -> .*)expected BOOL, 00 or 01, found 02$', r"\1expected U8"),
     (r"^(usage\t<OLD>)\t", r"\1?\t"),
     (r"^(help\tCommands:)\t", r"\1?\t"),
     (r'^(run\t-4660\tencode\t\{\}\t"I16" -> )0', r"\g<1>1"),

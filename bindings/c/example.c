@@ -6,7 +6,7 @@
 
        03626f620700000000000000
        {"amount":"7","to":"bob"}
-       refused: EndOfInput at 11, .amount: wanted U64 */
+       refused: EndOfInput at 11, .amount: expected U64, found the end of the input */
 #include <bcs.h>
 #include <stdio.h>
 #include <string.h>

@@ -285,9 +285,9 @@ func (r *Registry) partNamed(format string, data []byte, notation C.uint32_t, na
 	}
 	if answer.status == C.BCS_PATH {
 		refused := newError(KindPath, answer)
-		refused.Message = "wanted a name such as .payload.args[1]"
+		refused.Message = "expected a name such as .payload.args[1]"
 		if notation == C.BCS_POINTER {
-			refused.Message = "wanted a JSON Pointer such as /payload/args/1"
+			refused.Message = "expected a JSON Pointer such as /payload/args/1"
 		}
 		return nil, refused
 	}

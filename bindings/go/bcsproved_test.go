@@ -149,9 +149,9 @@ func TestPartsByNames(t *testing.T) {
 	for _, row := range []struct {
 		err    error
 		wanted Error
-	}{{badName, Error{KindPath, "BadPath", -1, "", "wanted a name such as .payload.args[1]"}},
-		{badPointer, Error{KindPath, "BadPath", -1, "", "wanted a JSON Pointer such as /payload/args/1"}},
-		{badPart, Error{KindBytes, "BadBool", 1, "[0]", "wanted BOOL"}}} {
+	}{{badName, Error{KindPath, "BadPath", -1, "", "expected a name such as .payload.args[1]"}},
+		{badPointer, Error{KindPath, "BadPath", -1, "", "expected a JSON Pointer such as /payload/args/1"}},
+		{badPart, Error{KindBytes, "BadBool", 1, "[0]", "expected BOOL, 00 or 01, found 02"}}} {
 		var refused *Error
 		if !errors.As(row.err, &refused) || *refused != row.wanted {
 			t.Errorf("%v, and not %v", row.err, row.wanted)
@@ -174,24 +174,24 @@ func TestRefusals(t *testing.T) {
 	_, badPath := registry.Part("Point", []byte{7, 0}, "x//")
 	_, tooNested := open(t, deep).DecodeJSON("C", deepData)
 	_, badRegistry := Open([]byte(`{"A":{"STRUCT":[{"x":{"TYPENAME":"B"}}]}}`))
-	wanted := "wanted a whole number from 0 to 255 (U8)"
+	wanted := "expected an integer from 0 to 255 (U8)"
 	number, text := "found 256, "+wanted, "found \"\", "+wanted
 	for _, row := range []struct {
 		err    error
 		wanted Error
 	}{
-		{encode("Point", `{"x":1,"~/":["","0"]}`), Error{KindText, "BadHex", -1, "/~0~1/1", "an odd number of digits"}},
+		{encode("Point", `{"x":1,"~/":["","0"]}`), Error{KindText, "BadHex", -1, "/~0~1/1", "an odd number of digits; each byte has two"}},
 		{encode("Point", `{"x":256,"~/":[]}`), Error{KindText, "BadNumber", -1, "/x", number}},
 		{encode("Point", `{"x":1}`), Error{KindText, "MissingField", -1, "", "no member is called ~/"}},
-		{encode(`"U8"`, ""), Error{KindText, "NotJson", -1, "", "line 1, column 0: the text stops being JSON there"}},
+		{encode(`"U8"`, ""), Error{KindText, "NotJson", -1, "", "line 1, column 1: the document is empty"}},
 		{equal(`{"x":1,"~/":[]}`, `{"x":"","~/":[]}`), Error{KindText, "BadNumber", -1, "/x", text}},
 		{equal(`{"x":"","~/":[]}`, `{}`), Error{KindText, "BadNumber", -1, "/x", text}},
-		{decode("Point", "07010205"), Error{KindBytes, "EndOfInput", 4, ".~/[0]", "wanted 2 bytes of BYTES"}},
+		{decode("Point", "07010205"), Error{KindBytes, "EndOfInput", 4, ".~/[0]", "expected 2 bytes of BYTES, found the end of the input"}},
 		{decode("Point", "070000"), Error{KindBytes, "TrailingBytes", 2, "", ""}},
-		{decode(`"BOOL"`, "02"), Error{KindBytes, "BadBool", 0, ".", "wanted BOOL"}},
-		{decode(`"BOOL"`, ""), Error{KindBytes, "EndOfInput", 0, ".", "wanted BOOL"}},
-		{badScan, Error{KindBytes, "UnknownVariant", 0, ".", "wanted number of a variant; found 1; variants: 0 Dot, 2 Circle"}},
-		{badPart, Error{KindBytes, "BadBool", 1, "[0]", "wanted BOOL"}},
+		{decode(`"BOOL"`, "02"), Error{KindBytes, "BadBool", 0, ".", "expected BOOL, 00 or 01, found 02"}},
+		{decode(`"BOOL"`, ""), Error{KindBytes, "EndOfInput", 0, ".", "expected BOOL, found the end of the input"}},
+		{badScan, Error{KindBytes, "UnknownVariant", 0, ".", "expected number of a variant; found 1; variants: 0 Dot, 2 Circle"}},
+		{badPart, Error{KindBytes, "BadBool", 1, "[0]", "expected BOOL, 00 or 01, found 02"}},
 		{tooNested, Error{KindBytes, "TooNested", -1, "", ""}},
 		{badPath, Error{KindPath, "BadPath", -1, "", ""}},
 		{badRegistry, Error{KindRegistry, "UnknownName", -1, "A, field x", ""}},
@@ -217,7 +217,7 @@ func TestRefusals(t *testing.T) {
 			t.Errorf("%#v instead of %#v", *refused, row.wanted)
 		}
 	}
-	if err := decode("Point", "07010205"); err.Error() != "refused: EndOfInput at byte 4, .~/[0]: wanted 2 bytes of BYTES" {
+	if err := decode("Point", "07010205"); err.Error() != "refused: EndOfInput at byte 4, .~/[0]: expected 2 bytes of BYTES, found the end of the input" {
 		t.Error(err)
 	}
 	if err := closed.Check("Point"); err != ErrClosed {
@@ -319,9 +319,9 @@ func TestLines(t *testing.T) {
 		refused Error
 		line    string
 	}{
-		{Error{KindBytes, "BadBool", 0, ".", "wanted BOOL"}, "refused: BadBool at byte 0, .: wanted BOOL"},
+		{Error{KindBytes, "BadBool", 0, ".", "expected BOOL, 00 or 01, found 02"}, "refused: BadBool at byte 0, .: expected BOOL, 00 or 01, found 02"},
 		{Error{KindBytes, "TooNested", -1, "", "100 levels"}, "refused: TooNested: 100 levels"},
-		{Error{KindText, "BadNumber", -1, "/a", "wanted U8"}, "refused: BadNumber at /a: wanted U8"},
+		{Error{KindText, "BadNumber", -1, "/a", "expected U8, found the end of the input"}, "refused: BadNumber at /a: expected U8, found the end of the input"},
 		{Error{KindPath, "BadPath", -1, "", ""}, "refused: BadPath"},
 		{Error{KindLimits, "", -1, "", "the depth is above 500"}, "refused: the depth is above 500"},
 		{Error{KindText, "BadShape", -1, "/\n\x1b[2J\u202e'\"é\xff", "wanted\n"}, `refused: BadShape at /\n\x1b[2J\u202e'"é` + "\ufffd" + `: wanted\n`},

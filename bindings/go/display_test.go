@@ -30,7 +30,7 @@ func TestWhereFormatsPathsAndGrowthAreRefused(t *testing.T) {
 	_, noContainer := registry.Show("Nope", FormWays)
 	_, noVariant := registry.Example("Shape", ExampleOptions{Variant: "Oval"})
 	_, noValue := registry.Example(`"F32"`, ExampleOptions{})
-	path := "wanted a number, inner, or key: and hexadecimal digits"
+	path := "expected a number, inner, or key: and hexadecimal digits"
 	for i, row := range []struct {
 		err    error
 		wanted Error
@@ -39,8 +39,8 @@ func TestWhereFormatsPathsAndGrowthAreRefused(t *testing.T) {
 		{oddPath, Error{KindPath, "BadPath", -1, "step 2 é\x00x", path}},
 		{Grows([]byte(`{"é\u0000: Missing: b":"UNITSTRUCT"}`), []byte("{}")),
 			Error{KindGrowth, "Missing", -1, "é\x00: Missing: b", "the newer registry has no container of that name"}},
-		{badSchema, Error{KindFormat, "BadShape", -1, "/SEQ", "wanted a format"}},
-		{registry.Check(`{"TUPLE":["U8",{}]}`), Error{KindFormat, "BadShape", -1, "/TUPLE/1", "wanted a format"}},
+		{badSchema, Error{KindFormat, "BadShape", -1, "/SEQ", `expected a format, found "U7"; for a container of that name, write {"TYPENAME":"U7"}`}},
+		{registry.Check(`{"TUPLE":["U8",{}]}`), Error{KindFormat, "BadShape", -1, "/TUPLE/1", "expected a format, found an empty object"}},
 		{unknown, Error{KindFormat, "UnknownName", -1, "", "no container is called Nope"}},
 		{hostile, Error{KindFormat, "UnknownName", -1, "", "no container is called x: UnknownName: y"}},
 		{noContainer, Error{KindFormat, "UnknownName", -1, "", "no container is called Nope"}},

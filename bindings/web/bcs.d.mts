@@ -128,7 +128,7 @@ export type Kind =
   /** Too little memory, or too little stack is left for the value's depth. */
   | 'memory' | 'stack';
 
-/** A refusal. Its `message` is a line such as `refused: BadNumber at /amount: found 256, wanted ..`. */
+/** A refusal. Its `message` is a line such as `refused: BadNumber at /amount: found 256, expected ..`. */
 export class BcsError extends Error {
   constructor(kind: Kind, parts?: { reason?: string; place?: number; at?: string; detail?: string; cause?: unknown });
   /** What is refused. */

@@ -193,7 +193,7 @@ class Writer {
   /** The path has a step for each open array or object. A value within itself ends here, too. */
   #nest() {
     if (this.#path.length < MOST_NESTED) return;
-    throw this.#error('TooNested', `arrays and objects nest more than ${MOST_NESTED} deep`);
+    throw this.#error('TooNested', `arrays and objects are nested more than ${MOST_NESTED} levels deep`);
   }
 
   #within(step, write) {

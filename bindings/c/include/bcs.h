@@ -285,11 +285,12 @@ bcs_answer bcs_handle_show(bcs_handle *handle, uint32_t form, const uint8_t *nam
    line and the column. */
 bcs_answer bcs_registry_refusal(const uint8_t *registry, size_t registry_length, uint8_t *out, size_t out_length);
 
-/* The same for a format. The place is a JSON Pointer into it, which is empty for the whole format: /SEQ, a NUL, wanted a format. The output is empty if there is no more to say than the fault. */
+/* The same for a format. The place is a JSON Pointer into it, which is empty for the whole format: /SEQ, a NUL, expected a format. The
+   output is empty if there is no more to say than the fault. */
 bcs_answer bcs_handle_format_place(bcs_handle *handle, const uint8_t *format, size_t format_length, uint8_t *out,
                                    size_t out_length);
 
-/* The same for a path. The place is its first invalid step: step 1 a, a NUL, wanted a number, inner, or key: and hexadecimal
+/* The same for a path. The place is its first invalid step: step 1 a, a NUL, expected a number, inner, or key: and hexadecimal
    digits. */
 bcs_answer bcs_path_place(const uint8_t *path, size_t path_length, uint8_t *out, size_t out_length);
 

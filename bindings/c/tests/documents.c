@@ -52,14 +52,14 @@ static const struct row rows[] = {
     {{.call = SHOW, .registry = OF("{\"S\":\"UNITSTRUCT\"}"), .input = OF("T")}, BCS_FORMAT, BCS_REGISTRY_UNKNOWN_NAME, TEXT("")},
     {{.call = SHOW, .registry = OF("{\"S\":\"UNITSTRUCT\"}"), .input = OF("\xff")}, BCS_FORMAT, BCS_REGISTRY_UNKNOWN_NAME, TEXT("")},
 
-    {{ASKED(FORMAT_PLACE, "{}", "{\"SEQ\":7}")}, BCS_DONE, BCS_REGISTRY_BAD_SHAPE, PARTS("/SEQ", "wanted a format")},
+    {{ASKED(FORMAT_PLACE, "{}", "{\"SEQ\":7}")}, BCS_DONE, BCS_REGISTRY_BAD_SHAPE, PARTS("/SEQ", "expected a format, found 7")},
     {{ASKED(FORMAT_PLACE, "{}", NAMED("N"))}, BCS_DONE, BCS_REGISTRY_UNKNOWN_NAME,
      PARTS("", "no container is called N")},
     {{ASKED(FORMAT_PLACE, "{}", "U64")}, BCS_DONE, BCS_REGISTRY_NOT_JSON, TEXT("")},
     {{ASKED(FORMAT_PLACE, "{}", "\"U64\"")}, BCS_NO, BCS_FAULT_NONE, TEXT("")},
 
     {{.call = PATH_PLACE, .input = OF("inner/07/x")}, BCS_DONE, BCS_PATH_BAD_PATH,
-     PARTS("step 2 07", "wanted a number, inner, or key: and hexadecimal digits")},
+     PARTS("step 2 07", "expected a number, inner, or key: and hexadecimal digits")},
     {{.call = PATH_PLACE, .input = OF("3/")}, BCS_DONE, BCS_PATH_BAD_PATH, PARTS("step 2", "an empty step")},
     {{.call = PATH_PLACE, .input = OF("\xff")}, BCS_DONE, BCS_PATH_BAD_PATH, TEXT("")},
     {{.call = PATH_PLACE, .input = OF("inner/0/key:01")}, BCS_NO, BCS_FAULT_NONE, TEXT("")},

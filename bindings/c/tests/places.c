@@ -18,33 +18,33 @@ struct refused {
 #define ROW(format, input, where, wanted) {OF(format), OF(input), where, wanted, BCS_DEPTH, BCS_NODES}
 
 static const struct refused texts[] = {
-    ROW(POINT, "{\"x\":1,\"~/\":[\"\",\"0\"]}", "/~0~1/1", "an odd number of digits"),
-    ROW(POINT, "{\"x\":256,\"~/\":[]}", "/x", "found 256, wanted a whole number from 0 to 255 (U8)"),
+    ROW(POINT, "{\"x\":1,\"~/\":[\"\",\"0\"]}", "/~0~1/1", "an odd number of digits; each byte has two"),
+    ROW(POINT, "{\"x\":256,\"~/\":[]}", "/x", "found 256, expected an integer from 0 to 255 (U8)"),
     ROW(POINT, "{\"x\":1}", "", "no member is called ~/"),
-    ROW(SHAPE, "{\"Circle\":true}", "/Circle", "wanted a whole number from 0 to 18446744073709551615 (U64)"),
+    ROW(SHAPE, "{\"Circle\":true}", "/Circle", "expected an integer from 0 to 18446744073709551615 (U64)"),
     ROW(SHAPE, "\"Disc\"", "", "no variant is called Disc; variants: Dot, Circle"),
-    ROW(SHAPE, "\"Cirlce\"", "", "no variant is called Cirlce; nearest: Circle"),
+    ROW(SHAPE, "\"Cirlce\"", "", "no variant is called Cirlce; did you mean Circle?"),
     ROW("\"F64\"", "1.5", "", "no value of F64 is supported"),
-    ROW("{\"SEQ\":\"BOOL\"}", "[true,true,true,true,true,true,true,true,true,true,1]", "/10", "wanted BOOL, true or false"),
+    ROW("{\"SEQ\":\"BOOL\"}", "[true,true,true,true,true,true,true,true,true,true,1]", "/10", "expected BOOL, true or false"),
     ROW("{\"MAP\":{\"KEY\":\"U8\",\"VALUE\":\"U8\"}}", "[[1,2],[1,3]]", "", "two keys of a map are equal"),
-    ROW("\"U8\"", "x", "", "line 1, column 1: the text stops being JSON there"),
-    ROW("\"U8\"", "[" HUNDRED("[") HUNDRED("]") "]", "", "arrays and objects nest more than 100 deep"),
+    ROW("\"U8\"", "x", "", "line 1, column 1: text belongs in double quotes"),
+    ROW("\"U8\"", "[" HUNDRED("[") HUNDRED("]") "]", "", "arrays and objects are nested more than 100 levels deep"),
     {OF("{\"SEQ\":\"BOOL\"}"), OF("[true]"), "", "the value has more nodes than --nodes allows, 1", BCS_DEPTH, 1},
     {OF(SHAPE), OF("\"Dot\""), "", "more containers are open than allowed", 0, BCS_NODES},
 };
 
 static const struct refused stops[] = {
-    ROW(POINT, "\x07\x01\x02\x05", ".~/[0]", "wanted 2 bytes of BYTES"),
-    ROW("{\"SEQ\":\"BOOL\"}", "\x02\x01\x02", "[1]", "wanted BOOL"),
-    ROW("\"U8\"", "\x07\x08", ".", "wanted the end"),
-    ROW(SHAPE, "\x01", ".", "wanted number of a variant; found 1; variants: 0 Dot, 2 Circle"),
+    ROW(POINT, "\x07\x01\x02\x05", ".~/[0]", "expected 2 bytes of BYTES, found the end of the input"),
+    ROW("{\"SEQ\":\"BOOL\"}", "\x02\x01\x02", "[1]", "expected BOOL, 00 or 01, found 02"),
+    ROW("\"U8\"", "\x07\x08", ".", "expected the end, found 1 byte more"),
+    ROW(SHAPE, "\x01", ".", "expected number of a variant; found 1; variants: 0 Dot, 2 Circle"),
 };
 
 static const struct refused registries[] = {
-    ROW("", "{\"S\":{\"ENUM\":{\"x\":{\"A\":\"UNIT\"}}}}", "/S/ENUM/x", "wanted a plain decimal number below 4294967296"),
+    ROW("", "{\"S\":{\"ENUM\":{\"x\":{\"A\":\"UNIT\"}}}}", "/S/ENUM/x", "expected the number of a variant: below 4294967296, in decimal digits without leading zeros"),
     ROW("", "{\"S\":{\"STRUCT\":[{\"side\":{\"TYPENAME\":\"Sid\"}}]}}", "S, field side", "no container is called Sid"),
     ROW("", "{\"S\":{\"STRUCT\":[{\"a\":\"U8\"},{\"a\":\"U8\"}]}}", "S", "two fields are called a"),
-    ROW("", "7", "the whole text", "wanted an object of containers"),
+    ROW("", "7", "the whole text", "expected an object of containers, found 7"),
 };
 
 /* What is refused besides a text and bytes, and which fault it has. Names look like the program's lines, aren't ASCII, or are long. */
@@ -58,16 +58,16 @@ struct whole {
 #define ON(what, ...) {.call = what, .registry = OF("{}"), __VA_ARGS__, STANDARD}
 
 static const struct whole wholes[] = {
-    {ON(REGISTRY_REFUSAL, .input = OF("{")), BCS_REGISTRY_NOT_JSON, "line 1, column 1", "the text stops being JSON there"},
+    {ON(REGISTRY_REFUSAL, .input = OF("{")), BCS_REGISTRY_NOT_JSON, "line 1, column 1", "the document ends there; } is missing"},
     {ON(REGISTRY_REFUSAL, .input = OF("{\"" NAME "\":{\"STRUCT\":[{\"" NAME "\":{\"TYPENAME\":\"Z\"}}]}}")), BCS_REGISTRY_UNKNOWN_NAME,
      NAME ", field " NAME, "no container is called Z"},
     {ON(REGISTRY_REFUSAL, .input = OF("{\"" NAME "\":{\"STRUCT\":[{\"" NAME "\":\"u8\"}]}}")), BCS_REGISTRY_BAD_SHAPE,
-     "/" NAME "/STRUCT/0/" NAME, "wanted a format"},
-    {ON(FORMAT_PLACE, .format = OF("{\"TUPLE\":[\"U8\",{\"SEQ\":7}]}")), BCS_REGISTRY_BAD_SHAPE, "/TUPLE/1/SEQ", "wanted a format"},
+     "/" NAME "/STRUCT/0/" NAME, "expected a format"},
+    {ON(FORMAT_PLACE, .format = OF("{\"TUPLE\":[\"U8\",{\"SEQ\":7}]}")), BCS_REGISTRY_BAD_SHAPE, "/TUPLE/1/SEQ", "expected a format, found 7"},
     {ON(FORMAT_PLACE, .format = OF("{\"TYPENAME\":\"x: UnknownName: y\"}")), BCS_REGISTRY_UNKNOWN_NAME, "",
      "no container is called x: UnknownName: y"},
     {ON(PATH_PLACE, .input = OF("inner/" NAME)), BCS_PATH_BAD_PATH, "step 2 " NAME,
-     "wanted a number, inner, or key: and hexadecimal digits"},
+     "expected a number, inner, or key: and hexadecimal digits"},
     {ON(GROWTH_PLACE, .input = OF("{\"" NAME "\":{\"ENUM\":{\"7\":{\"" NAME "\":\"UNIT\"}}}}"),
         .second = OF("{\"" NAME "\":{\"ENUM\":{\"7\":{\"z: VariantChanged: q\":\"UNIT\"}}}}")),
      BCS_GROWTH_VARIANT_CHANGED, NAME ", variant 7 " NAME, "the newer enum has z: VariantChanged: q there"},

@@ -81,26 +81,26 @@ public final class Tests extends Check {
 
     private static void refusals() throws BcsException {
         Registry registry = Registry.open(SHAPES);
-        String wanted = "wanted a whole number from 0 to 255 (U8)";
+        String wanted = "expected an integer from 0 to 255 (U8)";
         byte[] shapes = SHAPES.getBytes(StandardCharsets.UTF_8), none = "{}".getBytes(StandardCharsets.UTF_8);
-        refused(Kind.TEXT, "BadHex", -1, "/~0~1/1", "an odd number of digits",
+        refused(Kind.TEXT, "BadHex", -1, "/~0~1/1", "an odd number of digits; each byte has two",
                 () -> registry.encodeJson("Point", "{\"x\":1,\"~/\":[\"\",\"0\"]}"));
         refused(Kind.TEXT, "BadNumber", -1, "/x", "found 256, " + wanted,
                 () -> registry.normaliseJson("Point", "{\"x\":256,\"~/\":[]}"));
         refused(Kind.TEXT, "BadNumber", -1, "/x", "found \"\", " + wanted,
                 () -> registry.equalJson("Point", "{\"x\":1,\"~/\":[]}", "{\"x\":\"\",\"~/\":[]}"));
         refused(Kind.TEXT, "MissingField", -1, "", "no member is called ~/", () -> registry.encodeJson("Point", "{\"x\":1}"));
-        refused(Kind.BYTES, "EndOfInput", 4, ".~/[0]", "wanted 2 bytes of BYTES", () -> registry.decodeJson("Point", unhex("07010205")));
-        refused(Kind.BYTES, "EndOfInput", 0, ".", "wanted BOOL", () -> registry.decodeJson("\"BOOL\"", NOTHING));
-        refused(Kind.BYTES, "UnknownVariant", 0, ".", "wanted number of a variant; found 1; variants: 0 Dot, 2 Circle",
+        refused(Kind.BYTES, "EndOfInput", 4, ".~/[0]", "expected 2 bytes of BYTES, found the end of the input", () -> registry.decodeJson("Point", unhex("07010205")));
+        refused(Kind.BYTES, "EndOfInput", 0, ".", "expected BOOL, found the end of the input", () -> registry.decodeJson("\"BOOL\"", NOTHING));
+        refused(Kind.BYTES, "UnknownVariant", 0, ".", "expected number of a variant; found 1; variants: 0 Dot, 2 Circle",
                 () -> registry.scan("Shape", new byte[] {1}));
-        refused(Kind.BYTES, "BadBool", 1, "[0]", "wanted BOOL", () -> registry.part("{\"SEQ\":\"BOOL\"}", new byte[] {1, 2}, "."));
+        refused(Kind.BYTES, "BadBool", 1, "[0]", "expected BOOL, 00 or 01, found 02", () -> registry.part("{\"SEQ\":\"BOOL\"}", new byte[] {1, 2}, "."));
         refused(Kind.PATH, "BadPath", -1, "step 2", "an empty step", () -> registry.part("Point", unhex("0700"), "1/"));
-        refused(Kind.PATH, "BadPath", -1, null, "wanted a name such as .payload.args[1]",
+        refused(Kind.PATH, "BadPath", -1, null, "expected a name such as .payload.args[1]",
                 () -> registry.partByName("Point", unhex("0700"), "x"));
-        refused(Kind.PATH, "BadPath", -1, null, "wanted a JSON Pointer such as /payload/args/1",
+        refused(Kind.PATH, "BadPath", -1, null, "expected a JSON Pointer such as /payload/args/1",
                 () -> registry.partByPointer("Point", unhex("0700"), "/~2"));
-        refused(Kind.FORMAT, "BadShape", -1, "/SEQ", "wanted a format", () -> registry.check("{\"SEQ\":\"U7\"}"));
+        refused(Kind.FORMAT, "BadShape", -1, "/SEQ", "expected a format, found \"U7\"; for a container of that name, write {\"TYPENAME\":\"U7\"}", () -> registry.check("{\"SEQ\":\"U7\"}"));
         refused(Kind.FORMAT, "UnknownName", -1, "", "no container is called x: UnknownName: y",
                 () -> registry.decodeJson("{\"SEQ\":{\"TYPENAME\":\"x: UnknownName: y\"}}", none));
         refused(Kind.FORMAT, "UnknownName", -1, "", "no container is called Circle", () -> registry.show("Circle", Form.WAYS));
@@ -123,7 +123,7 @@ public final class Tests extends Check {
         BcsException unknown = thrown(BcsException.class, () -> Registry.open("{\"A\":{\"STRUCT\":[{\"x\":{\"TYPENAME\":\"B\"}}]}}"));
         equal(unknown.reason() + " " + unknown.at(), "UnknownName A, field x");
         equal(thrown(BcsException.class, () -> registry.decodeJson("Point", unhex("07010205"))).getMessage(),
-                "refused: EndOfInput at byte 4, .~/[0]: wanted 2 bytes of BYTES");
+                "refused: EndOfInput at byte 4, .~/[0]: expected 2 bytes of BYTES, found the end of the input");
     }
 
     /** What Java finds wrong before a call is made. */
@@ -185,7 +185,7 @@ public final class Tests extends Check {
         String fields = IntStream.range(0, 20).mapToObj(i -> "{\"" + "n".repeat(500) + i + "\":\"UNIT\"}").collect(joining(","));
         Registry longNames = Registry.open("{\"S\":{\"STRUCT\":[" + fields + "]}}");
         // 16 * 3 + 65,536 nodes, times 64 / 502 bytes of the longest name; a list of structs with 22 nodes each (docs/FORMAT.md)
-        refused(Kind.BYTES, "TooManyNodes", 3, "[380]", "wanted room for S",
+        refused(Kind.BYTES, "TooManyNodes", 3, "[380]", "expected room for S",
                 () -> longNames.decodeJson("{\"SEQ\":{\"TYPENAME\":\"S\"}}", unhex("c0b802")));
         equal(Limits.STANDARD, new Limits(500, 4294967295L));
         equal(thrown(BcsException.class, () -> registry.withLimits(new Limits(0, 3)).encodeJson(format, "[null,null,null]")).reason(),
@@ -223,7 +223,7 @@ public final class Tests extends Check {
                 equal(Arrays.equals(registry.encodeJson("RawTransaction", json), data), true);
                 equal(registry.scan("RawTransaction", data), data.length);
                 refused(Kind.BYTES, "EndOfInput", 100, ".payload::EntryFunction.ty_args[0]::Struct.address",
-                        "wanted 32 x U8", () -> registry.decodeJson("RawTransaction", Arrays.copyOf(data, 100)));
+                        "expected 32 x U8, found the end of the input", () -> registry.decodeJson("RawTransaction", Arrays.copyOf(data, 100)));
             }
         });
     }
@@ -233,7 +233,7 @@ public final class Tests extends Check {
         byte[] damaged = unhex("07010205"), more = unhex("0007");
         return List.of(() -> equal(registry.encodeJson("Shape", "\"Dot\"").length, 1),
                 () -> equal(registry.decodePrefixJson("Shape", more), new Prefix<>("\"Dot\"", 1)),
-                () -> refused(Kind.BYTES, "EndOfInput", 4, ".~/[0]", "wanted 2 bytes of BYTES", () -> registry.decodeJson("Point", damaged)),
+                () -> refused(Kind.BYTES, "EndOfInput", 4, ".~/[0]", "expected 2 bytes of BYTES, found the end of the input", () -> registry.decodeJson("Point", damaged)),
                 () -> equal(registry.explain("Point", damaged, Form.WAYS).damage().at(), ".~/[0]"),
                 () -> refused(Kind.TEXT, "MissingField", -1, "", "no member is called ~/", () -> registry.encodeJson("Point", "{\"x\":1}")),
                 () -> refused(Kind.FORMAT, "UnknownName", -1, "", "no container is called Qq", () -> registry.check("Qq")));
@@ -314,7 +314,7 @@ public final class Tests extends Check {
                 () -> refused(Kind.BYTES, "TooNested", -1, null, null, () -> options.decodeJson("C", far)),
                 () -> equal(chain.explain("C", near, Form.PATHS).damage(), null),
                 () -> refused(Kind.BYTES, "TooNested", -1, null, null, () -> chain.decodeJson("C", near)),
-                () -> refused(Kind.TEXT, "BadShape", -1, "/n", "wanted null, or an object with the one member some",
+                () -> refused(Kind.TEXT, "BadShape", -1, "/n", "expected null, or an object with the one member some, as {\"some\":1}",
                         () -> chain.encodeJson("C", json)));
         for (long kibibytes : new long[] {256, 512, 1024, 16 << 10}) {
             onThreads(1, kibibytes << 10, () -> {

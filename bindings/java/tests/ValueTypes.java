@@ -95,7 +95,7 @@ final class ValueTypes extends Check {
         decodes("{\"OPTION\":\"U8\"}", "0107", short.class, REFUSED + ": OPTION takes an Optional, not short");
         decodes("{\"TUPLE\":[\"U8\",\"STR\"]}", "010178", Samples.Elements.class, "Elements[a=1, b=x]");
         decodes("{\"TUPLE\":[\"U8\",\"STR\"]}", "010178", Object[].class, "Object[1, x]");
-        decodes("{\"MAP\":{\"KEY\":\"STR\",\"VALUE\":\"U8\"}}", "0101610101", Map.class, "BYTES refused: TrailingBytes at byte 4, .: wanted the end");
+        decodes("{\"MAP\":{\"KEY\":\"STR\",\"VALUE\":\"U8\"}}", "0101610101", Map.class, "BYTES refused: TrailingBytes at byte 4, .: expected the end, found 1 byte more");
         decodes("{\"MAP\":{\"KEY\":\"STR\",\"VALUE\":\"U8\"}}", "01016101", HashMap.class,
                 REFUSED + ": MAP takes a Map or a List of Map.Entry, not HashMap");
         decodes("P", P, Samples.Pay.class, "Pay[to=bob, amount=1]");

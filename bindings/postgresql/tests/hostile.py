@@ -16,6 +16,7 @@ from sessions import Database, address_space, process_memory, refusal, run, valu
 
 MOST = 50000  # the default of bcs.max_nodes
 ALL = 4294967295
+BAD_BOOL = "expected BOOL, 00 or 01, found 02"
 
 
 def length(number: int) -> bytes:
@@ -195,7 +196,7 @@ class Faults(Measured):
                     question = registry, format, data
                     fault = value(self.session, "select bcs_fault(%s, %s, %s, 1000000)", *question)
                     self.assertEqual(
-                        (fault["refused"], fault["place"], fault["message"]), ("BadBool", len(data) - 1, "wanted BOOL")
+                        (fault["refused"], fault["place"], fault["message"]), ("BadBool", len(data) - 1, BAD_BOOL)
                     )
                     self.assertTrue(fault["at"].endswith(end))
                     judged = self.cost("select bcs_is(%s, %s, %s, 1000000)", *question)[0]

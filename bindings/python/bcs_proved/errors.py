@@ -20,7 +20,7 @@ __all__ = [
 
 
 class BcsError(Exception):
-    """A refusal. As a string it is one line: "refused: BadNumber at /amount: wanted a whole number ..".
+    """A refusal. As a string it is one line: "refused: BadNumber at /amount: expected an integer ..".
 
     `kind` is what is refused, a word for each subclass. `reason` is the fault's name, such as "BadBool", and empty for
     limits and stacks. `place` is the offset where bytes stop being a value, and None for everything else.

@@ -99,7 +99,7 @@ def json_of(format: Format, value: Any, nodes: int) -> bytes:
     levels = [] if inner is None else [inner]
     while levels:
         if len(levels) > _NESTING:
-            raise Rejected("TooNested", f"arrays and objects nest more than {_NESTING} deep")
+            raise Rejected("TooNested", f"arrays and objects are nested more than {_NESTING} levels deep")
         if len(out) > most:
             raise Rejected("TooManyNodes", f"the value has more nodes than --nodes allows, {nodes}")
         try:
@@ -284,7 +284,7 @@ class _Number(Format):
         return number
 
     def _out_of_range(self) -> Rejected:
-        return Rejected("BadNumber", f"wanted a whole number from {self.least} to {self.most} ({self._word})")
+        return Rejected("BadNumber", f"expected an integer from {self.least} to {self.most} ({self._word})")
 
 
 class _OwnInteger(_Number):

@@ -10,8 +10,8 @@ from bcs_proved import BcsError, ExampleError, FormatError, GrowthError, Limits,
 EXAMPLES = pathlib.Path(__file__).resolve().parents[3] / "examples"
 SHAPE = Registry({"Shape": {"ENUM": {"0": {"Dot": "UNIT"}, "1": {"Ring": {"NEWTYPE": {"OPTION": "U64"}}}}}})
 NEWER = Registry({"Shape": {"ENUM": {"0": {"Dot": {"NEWTYPE": "U8"}}}}, "a: Missing: b": "UNITSTRUCT"})
-NO_FORMAT = "wanted a format"
-PATHS = "wanted a number, inner, or key: and hexadecimal digits"
+NO_FORMAT = "expected a format"
+PATHS = "expected a number, inner, or key: and hexadecimal digits"
 # A call that is refused, its error and reason, where it is refused, and the beginning of the message.
 REFUSED: list[tuple[Callable[[], object], type[BcsError], str, str, str]] = [
     (lambda: SHAPE.check('{"SEQ":"U7"}'), FormatError, "BadShape", "/SEQ", NO_FORMAT),
@@ -49,8 +49,8 @@ REFUSED: list[tuple[Callable[[], object], type[BcsError], str, str, str]] = [
         "the newer registry has no container of that name",
     ),
     (lambda: SHAPE.part("Shape", b"\0", "1/é\0x"), PathError, "BadPath", "step 2 é\0x", PATHS),
-    (lambda: SHAPE.part_by_name("Shape", b"\0", ".b["), PathError, "BadPath", "", "wanted a name such as .payload"),
-    (lambda: SHAPE.part_by_pointer("Shape", b"\0", "b"), PathError, "BadPath", "", "wanted a JSON Pointer such as /"),
+    (lambda: SHAPE.part_by_name("Shape", b"\0", ".b["), PathError, "BadPath", "", "expected a name such as .payload"),
+    (lambda: SHAPE.part_by_pointer("Shape", b"\0", "b"), PathError, "BadPath", "", "expected a JSON Pointer such as /"),
     (lambda: SHAPE.example('"F32"'), ExampleError, "NoValue", "", ""),
     (lambda: SHAPE.example("Shape", variant="Oval"), ExampleError, "UnknownVariant", "", ""),
     (lambda: SHAPE.example("Shape", Limits(nodes=0)), ExampleError, "TooManyNodes", "", ""),

@@ -343,7 +343,7 @@ class Nesting(unittest.TestCase):
         with self.assertRaises(TextError) as raised:
             self.registry.encode(format, value)
         self.assertEqual((raised.exception.reason, raised.exception.at), ("TooNested", ""))
-        self.assertEqual(raised.exception.message, "arrays and objects nest more than 100 deep")
+        self.assertEqual(raised.exception.message, "arrays and objects are nested more than 100 levels deep")
         return False
 
     def test_newtypes(self) -> None:

@@ -27,6 +27,10 @@ REFUSALS: list[type[BcsError]] = [
 # The words that all languages have. A newer registry is refused when it is opened, as "registry".
 KINDS = ["registry", "growth", "format", "limits", "text", "bytes", "path", "example", "value", "stack"]
 
+BAD_BOOL = "expected BOOL, 00 or 01, found 02"
+NO_BYTES = "expected 2 bytes of BYTES, found the end of the input"
+NO_NUMBER = "expected the number of a variant: below 4294967296, in decimal digits without leading zeros"
+
 SHAPES = {
     "Point": {"STRUCT": [{"x": "U8"}, {"~/": {"SEQ": "BYTES"}}]},
     "Shape": {"ENUM": {"0": {"Dot": "UNIT"}, "2": {"Circle": {"NEWTYPE": "U64"}}}},
@@ -44,10 +48,10 @@ class Places(unittest.TestCase):
         return raised.exception
 
     def test_texts(self) -> None:
-        of_u64 = "wanted a whole number from 0 to 18446744073709551615 (U64)"
+        of_u64 = "expected an integer from 0 to 18446744073709551615 (U64)"
         for format, value, at, message in [
-            ("Point", {"x": 1, "~/": [b"", Hex("0")]}, "/~0~1/1", "an odd number of digits"),
-            ("Point", {"x": 256, "~/": []}, "/x", "found 256, wanted a whole number from 0 to 255 (U8)"),
+            ("Point", {"x": 1, "~/": [b"", Hex("0")]}, "/~0~1/1", "an odd number of digits; each byte has two"),
+            ("Point", {"x": 256, "~/": []}, "/x", "found 256, expected an integer from 0 to 255 (U8)"),
             ("Point", {"x": 1}, "", "no member is called ~/"),
             ("Shape", {"Circle": -1}, "/Circle", f"found -1, {of_u64}"),
             ("Shape", "Disc", "", "no variant is called Disc; variants: Dot, Circle"),
@@ -58,9 +62,9 @@ class Places(unittest.TestCase):
             self.tells(TextError, at, message, self.registry.normalise, format, value)
         types = "BYTES takes bytes, or Hex(…) for digits, not int"
         self.tells(ValueTypeError, "/~0~1/1", types, self.registry.encode, "Point", {"x": 1, "~/": [b"", 7]})
-        self.tells(TextError, "", "wanted BOOL, true or false", self.registry.encode_json, '"BOOL"', "7")
+        self.tells(TextError, "", "expected BOOL, true or false", self.registry.encode_json, '"BOOL"', "7")
         told = self.tells(
-            TextError, "", "line 1, column 1: the text stops being JSON there", self.registry.encode_json, '"U8"', "x"
+            TextError, "", "line 1, column 1: text belongs in double quotes", self.registry.encode_json, '"U8"', "x"
         )
         self.assertEqual(told.reason, "NotJson")
 
@@ -68,35 +72,35 @@ class Places(unittest.TestCase):
         told = self.tells(
             TextError,
             "/x",
-            "found -1, wanted a whole number from 0 to 255 (U8)",
+            "found -1, expected an integer from 0 to 255 (U8)",
             self.registry.encode,
             "Point",
             {"x": -1, "~/": []},
         )
-        words = "found -1, wanted a whole number from 0 to 255 (U8)"
+        words = "found -1, expected an integer from 0 to 255 (U8)"
         self.assertEqual(str(told), f"refused: BadNumber at /x: {words}")
         again = pickle.loads(pickle.dumps(told))
         self.assertEqual((str(again), again.at, again.reason), (str(told), "/x", "BadNumber"))
 
     def test_two_texts(self) -> None:
         good, bad = {"x": 1, "~/": []}, {"x": 256, "~/": []}
-        wanted = "found 256, wanted a whole number from 0 to 255 (U8)"
+        wanted = "found 256, expected an integer from 0 to 255 (U8)"
         self.tells(TextError, "/x", wanted, self.registry.equal, "Point", good, bad)
         self.tells(TextError, "/x", wanted, self.registry.equal, "Point", bad, {})
 
     def test_bytes(self) -> None:
         damaged = bytes.fromhex("0701020507")
-        told = self.tells(BytesError, ".~/[0]", "wanted 2 bytes of BYTES", self.registry.decode, "Point", damaged[:-2])
+        told = self.tells(BytesError, ".~/[0]", NO_BYTES, self.registry.decode, "Point", damaged[:-2])
         self.assertEqual(told.place, 3)
         self.tells(
             BytesError,
             ".",
-            "wanted number of a variant; found 1; variants: 0 Dot, 2 Circle",
+            "expected number of a variant; found 1; variants: 0 Dot, 2 Circle",
             self.registry.scan,
             "Shape",
             b"\1",
         )
-        self.tells(BytesError, "[0]", "wanted BOOL", self.registry.part, {"SEQ": "BOOL"}, b"\1\2", ".")
+        self.tells(BytesError, "[0]", BAD_BOOL, self.registry.part, {"SEQ": "BOOL"}, b"\1\2", ".")
 
     def test_strings_are_strings(self) -> None:
         """Whether a string is accepted doesn't depend on what it looks like."""
@@ -125,11 +129,11 @@ class Places(unittest.TestCase):
         kinds = [error.kind for error in REFUSALS]
         self.assertEqual(sorted(kinds), sorted(KINDS))
         for error in REFUSALS:
-            fault = error("BadBool", 7, ".a", "wanted BOOL")
+            fault = error("BadBool", 7, ".a", "expected BOOL, 00 or 01, found 02")
             again = pickle.loads(pickle.dumps(fault))
             self.assertEqual((type(again), again.args, str(again)), (error, fault.args, str(fault)))
         for fault, line in [
-            (BytesError("BadBool", 7, ".a", "wanted BOOL"), "refused: BadBool at byte 7, .a: wanted BOOL"),
+            (BytesError("BadBool", 7, ".a", BAD_BOOL), f"refused: BadBool at byte 7, .a: {BAD_BOOL}"),
             (BytesError("BadBool", 0), "refused: BadBool at byte 0"),
             (TextError("BadNumber", None, "/a", "found 7"), "refused: BadNumber at /a: found 7"),
             (
@@ -142,9 +146,9 @@ class Places(unittest.TestCase):
 
     def test_registries(self) -> None:
         for text, at, message in [
-            ('{"S":{"ENUM":{"x":{"A":"UNIT"}}}}', "/S/ENUM/x", "wanted a plain decimal number below 4294967296"),
+            ('{"S":{"ENUM":{"x":{"A":"UNIT"}}}}', "/S/ENUM/x", NO_NUMBER),
             ({"S": {"STRUCT": [{"side": {"TYPENAME": "Sid"}}]}}, "S, field side", "no container is called Sid"),
-            ("{", "line 1, column 1", "the text stops being JSON there"),
+            ("{", "line 1, column 1", "the document ends there; } is missing"),
         ]:
             self.tells(RegistryError, at, message, Registry, text)
 

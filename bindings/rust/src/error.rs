@@ -11,12 +11,12 @@ use std::fmt;
 /// let error = registry.decode_json("Vote", [2]).unwrap_err();
 /// assert_eq!(error, ErrorKind::Bytes(Stop { reason: Reason::BadBool, place: 0 }));
 /// assert_eq!((error.kind().name(), error.reason(), error.place()), ("bytes", Some("BadBool"), Some(0)));
-/// assert_eq!((error.at(), error.message()), (Some(".yes"), "wanted BOOL"));
-/// assert_eq!(error.to_string(), "refused: BadBool at byte 0, .yes: wanted BOOL");
+/// assert_eq!((error.at(), error.message()), (Some(".yes"), "expected BOOL, 00 or 01, found 02"));
+/// assert_eq!(error.to_string(), "refused: BadBool at byte 0, .yes: expected BOOL, 00 or 01, found 02");
 ///
 /// let error = registry.encode_json("Vote", r#"{"yes":true,"id":"0"}"#).unwrap_err();
 /// assert_eq!(error, ErrorKind::Text(TextFault::BadHex));
-/// assert_eq!(error.to_string(), "refused: BadHex at /id: an odd number of digits");
+/// assert_eq!(error.to_string(), "refused: BadHex at /id: an odd number of digits; each byte has two");
 /// # Ok::<(), Error>(())
 /// ```
 #[derive(Clone, Debug, PartialEq, Eq, Hash)]

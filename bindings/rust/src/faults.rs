@@ -66,7 +66,7 @@ faults! {
     /// Why a JSON text denotes no value of a format.
     TextFault {
         NotJson = 301: "the text isn't JSON in UTF-8, or nests too deep to be read",
-        TooNested = 302: "arrays and objects nest more than 100 deep",
+        TooNested = 302: "arrays and objects are nested more than 100 levels deep",
         Unsupported = 303: "no value has the format F32, F64 or CHAR",
         BadShape = 304: "the JSON is of another kind than the format wants",
         BadNumber = 305: "a number isn't whole, isn't in plain decimal, or is out of range",

@@ -388,8 +388,8 @@ impl Registry {
         name: &[u8],
     ) -> Result<Option<Part<'b>>, Error> {
         let wanted = match notation {
-            sys::NAME => "wanted a name such as .payload.args[1]",
-            _ => "wanted a JSON Pointer such as /payload/args/1",
+            sys::NAME => "expected a name such as .payload.args[1]",
+            _ => "expected a JSON Pointer such as /payload/args/1",
         };
         let answer = self.open.part_named(self.of_bytes(format, bytes), notation, name, bytes);
         let found = done_unless_no(answer).map_err(|error| match error.kind() {

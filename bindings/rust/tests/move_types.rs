@@ -30,7 +30,7 @@ fn addresses_are_parsed_and_printed() {
     }
     for text in ["", "1", "0x", "0x1g", "0X1", "x1", "0x+1", "0xé", " 0x1", &format!("0x{}", "0".repeat(65))] {
         let error = text.parse::<Address>().unwrap_err();
-        assert_eq!(error.to_string(), "wanted 0x and 1 to 64 hexadecimal digits", "{text}");
+        assert_eq!(error.to_string(), "expected 0x and 1 to 64 hexadecimal digits", "{text}");
     }
 }
 
@@ -79,13 +79,13 @@ fn integers_are_parsed_and_printed() {
     for text in ["", "-1", "+1", "0x1", " 1", "1.0", "1e3", &above, &above.repeat(9)] {
         assert_eq!(
             text.parse::<U256>().unwrap_err().to_string(),
-            "wanted a decimal number from 0 to 2^256 - 1",
+            "expected a decimal number from 0 to 2^256 - 1",
             "{text}"
         );
     }
     for text in ["", "-", "--1", "+1", half, greatest, &format!("-{half}0"), &format!("-{greatest}")] {
         let error = text.parse::<I256>().unwrap_err();
-        assert_eq!(error.to_string(), "wanted a decimal number from -2^255 to 2^255 - 1", "{text}");
+        assert_eq!(error.to_string(), "expected a decimal number from -2^255 to 2^255 - 1", "{text}");
     }
     assert_eq!(format!("{:?} {:>5} {:05}", U256::from(5_u8), I256::from(-5_i8), I256::from(-5_i8)), "5    -5 -0005");
 }

@@ -116,7 +116,7 @@ static const struct {
     {"select bcs_scan(" REGISTRY ",'A',x'0701036F6E6500')", "6"},
     {"select bcs_is(" REGISTRY ",'A',x'0701036F6E6500')", "0"},
     {"select bcs_fault(" REGISTRY ",'A',x'0701036F6E')",
-     "{\"refused\":\"EndOfInput\",\"place\":5,\"at\":\".y[0]\",\"message\":\"wanted 3 bytes of STR\"}"},
+     "{\"refused\":\"EndOfInput\",\"place\":5,\"at\":\".y[0]\",\"message\":\"expected 3 bytes of STR, found the end of the input\"}"},
     {"select bcs_fault(" REGISTRY ",'A',x'0701036F6E65')", "null"},
     {"select bcs_explain('{}','\"U8\"',x'07','json')",
      "{\"bytes\":\"07\",\"kind\":\"unsigned\",\"name\":\".\",\"path\":\".\",\"place\":0,\"value\":\"7\",\"what\":\"U8\"}\n{\"end\":1}\n"},
@@ -124,14 +124,14 @@ static const struct {
     {"select hex(bcs_encode('{}','\"U64\"',7))", "0700000000000000"},
     {"select bcs_decode(x'7b7d','\"STR\"',x'02c3a9')", "\"\xc3\xa9\""},
     {"select bcs_encode('{\"A\":{\"STRUCT\":[{\"a/~\":{\"SEQ\":\"BYTES\"}}]}}','A','{\"a/~\":[\"00\",\"0\"]}')",
-     "bcs: refused: BadHex at /a~1~0/1: an odd number of digits"},
+     "bcs: refused: BadHex at /a~1~0/1: an odd number of digits; each byte has two"},
     {"select bcs_equal(" REGISTRY ",'A','{\"x\":7,\"y\":[]}','{\"x\":7}')",
      "bcs: refused: MissingField: no member is called y"},
     {"select bcs_decode(" REGISTRY ",'A',x'0702')", "bcs: refused: EndOfInput at byte 2, .y[0]"},
     {"select bcs_is('{\"A\":{\"STRUCT\":7}}','\"U8\"',x'07')",
-     "bcs: refused: BadShape in the registry at /A/STRUCT: wanted an array of fields"},
+     "bcs: refused: BadShape in the registry at /A/STRUCT: expected an array of fields, found 7"},
     {OF_NAME("replace(hex(zeroblob(100)),'0','~') || 'b'"),
-     "bcs: refused: BadShape at /" TWO_HUNDRED("~0") "...(cut)/0: wanted a whole number from 0 to 255 (U8)"},
+     "bcs: refused: BadShape at /" TWO_HUNDRED("~0") "...(cut)/0: expected an integer from 0 to 255 (U8)"},
 };
 #define COUNT(table) (sizeof(table) / sizeof(table)[0])
 
@@ -160,18 +160,18 @@ static void hostile(void) {
              "bcs: refused: TooManyNodes at byte 5, [999999]");
     is_answered(database, "select bcs_is('{}','{\"SEQ\":\"UNIT\"}',x'ffffffff07')", "0");
     is_error(database, "select bcs_encode('{}','\"U8\"',replace(hex(zeroblob(50000)),'0','[') || replace(hex(zeroblob(50000)),'0',']'))",
-             "bcs: refused: NotJson: line 1, column 129: the text stops being JSON there");
+             "bcs: refused: NotJson: line 1, column 128: arrays and objects are nested more than 127 levels deep; this program reads no more");
     is_error(database, "select bcs_encode('{}','\"U8\"',replace(hex(zeroblob(51)),'0','[') || replace(hex(zeroblob(51)),'0',']'))",
-             "bcs: refused: TooNested: arrays and objects nest more than 100 deep");
+             "bcs: refused: TooNested: arrays and objects are nested more than 100 levels deep");
     is_error(database, "select bcs_decode('{\"L\":{\"NEWTYPESTRUCT\":{\"OPTION\":{\"TYPENAME\":\"L\"}}}}','L',"
              "cast(replace(hex(zeroblob(50000)),'0',char(1)) as blob))",
              "bcs: refused: TooDeep at byte 100, " TEN("??????????"));
     is_answered(database, "select bcs_decode('{}','\"STR\"',x'03610062')", "\"a\\u0000b\"");
     is_answered(database, "select hex(bcs_encode('{}','\"STR\"','\"a\\u0000b\"'))", "03610062");
     is_error(database, "select bcs_encode('{}','\"STR\"',cast(x'226100622200' as text))",
-             "bcs: refused: NotJson: line 1, column 1: the text stops being JSON there");
+             "bcs: refused: NotJson: line 1, column 3: a NUL byte; remove it");
     is_error(database, "select bcs_is(x'7b00','\"U8\"',x'07')",
-             "bcs: refused: NotJson in the registry at line 1, column 2: the text stops being JSON there");
+             "bcs: refused: NotJson in the registry at line 1, column 2: a NUL byte; remove it");
     closed(database);
 }
 
@@ -179,20 +179,20 @@ static void hostile(void) {
 static void places(void) {
     sqlite3 *database = opened();
     is_error(database, "select bcs_equal('{}','{\"SEQ\":\"U8\"}','[1]','[1,256]')",
-             "bcs: refused: BadNumber at /1: found 256, wanted a whole number from 0 to 255 (U8)");
+             "bcs: refused: BadNumber at /1: found 256, expected an integer from 0 to 255 (U8)");
     is_error(database, "select bcs_encode('{\"A\":{\"STRUCT\":[{\"\\u0000\\n\\\\\\\"%s\xc3\xa9\\u20ac\\ud83d\\ude00\":\"U8\"}]}}','A',"
              "'{\"\\u0000\\n\\\\\\\"%s\xc3\xa9\\u20ac\\ud83d\\ude00\":true}')",
              "bcs: refused: BadShape at /\\u0000\\u000a\\\\\\\"%s\\u00e9\\u20ac\\ud83d\\ude00: "
-             "wanted a whole number from 0 to 255 (U8)");
+             "expected an integer from 0 to 255 (U8)");
     /* Names are cut at 200 signs, of which ~0 is one. */
     is_error(database, OF_NAME("replace(hex(zeroblob(100)),'0','~')"),
-             "bcs: refused: BadShape at /" TWO_HUNDRED("~0") "/0: wanted a whole number from 0 to 255 (U8)");
+             "bcs: refused: BadShape at /" TWO_HUNDRED("~0") "/0: expected an integer from 0 to 255 (U8)");
     is_error(database, OF_NAME("replace(hex(zeroblob(98)),'0','b') || '\xc3\xa9' || 'bbb'"),
              "bcs: refused: BadShape at /" TEN(TEN("b")) TEN("bbbbbbbbb") "bbbbbb" "...(cut)/0: "
-             "wanted a whole number from 0 to 255 (U8)");
+             "expected an integer from 0 to 255 (U8)");
     /* What takes more than 16 MB is left out. */
     is_error(database, OF_NAME("printf('%.*c',17000000,'b')"),
-             "bcs: refused: BadShape: wanted a whole number from 0 to 255 (U8)");
+             "bcs: refused: BadShape: expected an integer from 0 to 255 (U8)");
     is_error(database, "select bcs_scan('{\"A\":{\"STRUCT\":[{\"' || printf('%.*c',17000000,'b') || '\":\"U8\"}]}}','A',x'')",
              "bcs: refused: EndOfInput at byte 0");
     is_error(database, "select bcs_is('{\"\xc3\xa9\":{\"STRUCT\":[{\"x\":{\"TYPENAME\":\"\\n\"}}]}}','\"U8\"',x'07')",

@@ -388,7 +388,7 @@ class Faults(unittest.TestCase):
             costs[name] = min(runs) * 1000
         fault = json.loads(answer)
         reported = fault["refused"], fault["place"], fault["message"]
-        self.assertEqual(reported, ("BadBool", len(data) - 1, "wanted BOOL"))
+        self.assertEqual(reported, ("BadBool", len(data) - 1, "expected BOOL, 00 or 01, found 02"))
         self.assertTrue(fault["at"].endswith(end))
         cost, judged = costs["bcs_fault"], costs["bcs_is"]
         print(f"hostile: bcs_fault of {len(data)} bytes took {cost:.1f} ms, and bcs_is {judged:.1f}")

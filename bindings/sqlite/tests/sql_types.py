@@ -151,7 +151,7 @@ class Types(unittest.TestCase):
         ]:
             self.database.execute("delete from t")
             self.database.execute("insert into t values (?1, ?1, ?1, ?1, ?1)", [written])
-            refused = f"found {written}, wanted a whole number from 0 to 18446744073709551615 (U64)"
+            refused = f"found {written}, expected an integer from 0 to 18446744073709551615 (U64)"
             text = digits_of("U64", written) or f"bcs: refused: BadNumber: {refused}"
             if numeric is None:
                 numeric = text

@@ -139,17 +139,18 @@ def ask_refusals(programs: Programs) -> None:
     both = programs.both
     write("input", "-4660\n")
     bad_bool, decode = "refused: BadBool at 1\n", ["registry.json", "S", "bad.hex"]
-    both(2, bad_bool, "at .owner: BadBool: wanted BOOL\n", "decode", *decode)
+    both(2, bad_bool, "at .owner: BadBool: expected BOOL, 00 or 01, found 02\n", "decode", *decode)
     both(2, bad_bool, "", "decode", "--quiet", *decode)
-    too_deep = "at .: TooDeep: wanted room for S; --depth allows 0\n"
+    too_deep = "at .: TooDeep: expected room for S; --depth allows 0\n"
     both(2, "refused: TooDeep at 0\n", too_deep, "scan", "--depth=-0", *decode)
-    bad_hex, no_digits = "refused: BadHex\n", "at /sender: BadHex: 0x isn't part of hexadecimal digits here\n"
+    bad_hex, no_digits = "refused: BadHex\n", "at /sender: BadHex: write 64 digits without 0x\n"
     both(2, bad_hex, no_digits, "encode", "payment.json", "P", "wrong.json")
     both(2, bad_hex, "", "encode", "--quiet", "payment.json", "P", "wrong.json")
     both(2, bad_hex, f"in B, {no_digits}", "same", "payment.json", "P", "right.json", "wrong.json")
     unknown = "at S: UnknownName: no container is called T\n"
     both(2, "refused: UnknownName\n", unknown, "check", '{"S":{"NEWTYPESTRUCT":{"TYPENAME":"T"}}}')
-    both(2, "refused: BadShape\n", "in NEW, at /S: BadShape: wanted a container\n", "grows", "{}", '{"S":7}')
+    no_registry = "expected a container; this looks like a value, and not like a registry\n"
+    both(2, "refused: BadShape\n", f"in NEW, at /S: BadShape: {no_registry}", "grows", "{}", '{"S":7}')
     both(2, bad_bool, "", "scan", "--raw", "registry.json", "S", "bad.bytes")
 
 
@@ -175,7 +176,9 @@ def ask_outputs(programs: Programs) -> None:
 def ask_faults(programs: Programs) -> None:
     both = programs.both
     write("input", "-4660\n")
-    missing = "No such file or directory\n"
+    missing = (
+        "No such file or directory" "; a value itself goes to standard input, and a registry itself starts with {\n"
+    )
     both(4, "", f"fault: open\nin the file no.json: {missing}", "check", "no.json")
     both(4, "", f'fault: open\nin the file no\\"\\u00e9: {missing}', "encode", "{", '"I16"', 'no"é')
     both(4, "", "fault: open\nin the file input/x: Not a directory\n", "encode", "{", '"I16"', "input/x")

@@ -40,7 +40,7 @@ test('the example of the README', () => {
   assert.deepEqual(registry.decode('Payment', bytes), { to: 'bob', amount: 7n });
   assert.equal(registry.decodeText('Payment', bytes), '{"amount":"7","to":"bob"}');
   assert.equal(registry.explain('Payment', bytes).length, 4);
-  assert.throws(() => registry.decode('Payment', bytes.slice(0, 5)), { message: 'refused: EndOfInput at byte 5, .amount: wanted U64' });
+  assert.throws(() => registry.decode('Payment', bytes.slice(0, 5)), { message: 'refused: EndOfInput at byte 5, .amount: expected U64, found the end of the input' });
 });
 
 // (behind the pieces the program prints its refusal and its place, which the calls tell apart from the text)

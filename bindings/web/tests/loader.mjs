@@ -329,22 +329,22 @@ const told = (at, detail) => (error) => {
 
 test('where something is refused, and what was wanted there', () => {
   const registry = bcs.registry('{"Point":{"STRUCT":[{"x":"U8"},{"~/":{"SEQ":"BYTES"}}]}}');
-  const wanted = 'wanted a whole number from 0 to 255 (U8)';
-  assert.throws(() => registry.encodeText('Point', '{"x":1,"~/":["","0"]}'), told('/~0~1/1', 'an odd number of digits'));
+  const wanted = 'expected an integer from 0 to 255 (U8)';
+  assert.throws(() => registry.encodeText('Point', '{"x":1,"~/":["","0"]}'), told('/~0~1/1', 'an odd number of digits; each byte has two'));
   assert.throws(() => registry.encode('Point', { x: 1, '~/': [hex(''), '0102'] }), told('/~0~1/1', 'BYTES takes bytes, or hex(…) for digits, not string'));
   assert.throws(() => registry.encode('Point', { x: 256, '~/': [] }), told('/x', `found 256, ${wanted}`));
   assert.throws(() => registry.normaliseText('Point', '{"x":1}'), told('', 'no member is called ~/'));
   assert.throws(() => registry.equalText('Point', '{"x":1,"~/":[]}', '{"x":"","~/":[]}'), told('/x', `found "", ${wanted}`));
-  assert.throws(() => registry.decode('Point', [7, 1, 2, 5]), told('.~/[0]', 'wanted 2 bytes of BYTES'));
-  assert.throws(() => registry.scan('Point', [7, 1, 2, 5]), told('.~/[0]', 'wanted 2 bytes of BYTES'));
-  assert.throws(() => registry.part('Point', [7, 1, 2, 5], '.'), told('.~/[0]', 'wanted 2 bytes of BYTES'));
+  assert.throws(() => registry.decode('Point', [7, 1, 2, 5]), told('.~/[0]', 'expected 2 bytes of BYTES'));
+  assert.throws(() => registry.scan('Point', [7, 1, 2, 5]), told('.~/[0]', 'expected 2 bytes of BYTES'));
+  assert.throws(() => registry.part('Point', [7, 1, 2, 5], '.'), told('.~/[0]', 'expected 2 bytes of BYTES'));
   for (const call of [() => registry.check('Line'), () => registry.encode('Line', 7), () => registry.decode('Line', []), () => registry.schema('Line')]) {
     assert.throws(call, { kind: 'format', at: '', detail: /^no container is called Line/ });
   }
   assert.throws(() => registry.scan({ SEQ: { TYPENAME: 'x: UnknownName: y' } }, []), told('', 'no container is called x: UnknownName: y'));
-  assert.throws(() => registry.check({ TUPLE: ['U8', {}] }), told('/TUPLE/1', 'wanted a format'));
+  assert.throws(() => registry.check({ TUPLE: ['U8', {}] }), told('/TUPLE/1', 'expected a format, found an empty object'));
   assert.throws(() => registry.show('Line'), { kind: 'format', reason: 'UnknownName', at: '', detail: 'no container is called Line' });
-  const step = 'wanted a number, inner, or key: and hexadecimal digits';
+  const step = 'expected a number, inner, or key: and hexadecimal digits';
   assert.throws(() => registry.part('"U8"', [7], '1/x: BadPath: y'), { kind: 'path', at: 'step 2 x: BadPath: y', detail: step });
   assert.throws(() => bcs.grows('{"a: Missing: b":"UNITSTRUCT"}', '{}'), {
     kind: 'growth', reason: 'Missing', at: 'a: Missing: b', detail: 'the newer registry has no container of that name',
@@ -352,29 +352,29 @@ test('where something is refused, and what was wanted there', () => {
   assert.throws(() => registry.part('"U8"', [7], '1/é\0x'), { kind: 'path', at: 'step 2 é\0x', detail: step });
   assert.throws(() => bcs.grows('{"é\\u0000: Missing: b":"UNITSTRUCT"}', '{}'), { kind: 'growth', at: 'é\0: Missing: b' });
   assert.throws(() => bcs.registry('{"S":{"STRUCT":[{"side":{"TYPENAME":"Sid"}}]}}'), told('S, field side', 'no container is called Sid'));
-  assert.throws(() => bcs.grows('{}', '{"S":7}'), told('/S', 'wanted a container'));
+  assert.throws(() => bcs.grows('{}', '{"S":7}'), told('/S', 'expected a container; this looks like a value, and not like a registry'));
   assert.throws(() => registry.encode('Point', { x: 256, '~/': [] }), { message: `refused: BadNumber at /x: found 256, ${wanted}` });
   assert.throws(() => registry.encode('Point', 7), { message: 'refused: WrongType: Point takes an object, not number' });
-  assert.throws(() => registry.encodeText('Point', '7'), { message: /^refused: BadShape: wanted an object/ });
-  assert.throws(() => registry.decode('Point', []), { message: 'refused: EndOfInput at byte 0, .x: wanted U8' });
+  assert.throws(() => registry.encodeText('Point', '7'), { message: /^refused: BadShape: expected an object/ });
+  assert.throws(() => registry.decode('Point', []), { message: 'refused: EndOfInput at byte 0, .x: expected U8, found the end of the input' });
 });
 
 // A call that is refused, its kind, reason, place, `at`, and the line that begins with the same words in all languages.
 const KINDS = [
   [() => bcs.registry('{"A":{"NEWTYPESTRUCT":{"TYPENAME":"B"}}}'), 'registry', 'UnknownName', undefined, 'A', 'refused: UnknownName at A: no container is called B'],
   [() => bcs.registry('{"the whole text":{"NEWTYPESTRUCT":{"TYPENAME":"B"}}}'), 'registry', 'UnknownName', undefined, 'the whole text', /at the whole text: no/],
-  [() => bcs.registry('{"A":7}'), 'registry', 'BadShape', undefined, '/A', /^refused: BadShape at \/A: wanted a container/],
-  [() => bcs.grows('{}', '7'), 'newer', 'BadShape', undefined, 'the whole text', /^refused: BadShape at the whole text: wanted/],
+  [() => bcs.registry('{"A":7}'), 'registry', 'BadShape', undefined, '/A', /^refused: BadShape at \/A: expected a container/],
+  [() => bcs.grows('{}', '7'), 'newer', 'BadShape', undefined, '', /^refused: BadShape: expected/],
   [() => bcs.grows('{"S":"UNITSTRUCT"}', '{}'), 'growth', 'Missing', undefined, 'S', /^refused: Missing at S: the newer registry has no/],
   [() => none.check({ SEQ: 'U7' }), 'format', 'BadShape', undefined, '/SEQ', /^refused: BadShape at \/SEQ: /],
   [() => none.withLimits({ depth: 501 }).scan('"U8"', [7]), 'limits', undefined, undefined, undefined, 'refused: the depth is above 500'],
-  [() => none.encodeText({ SEQ: 'U8' }, '[1,256]'), 'text', 'BadNumber', undefined, '/1', /^refused: BadNumber at \/1: found 256, wanted /],
-  [() => none.encodeText('"U8"', '256'), 'text', 'BadNumber', undefined, '', /^refused: BadNumber: found 256, wanted /],
-  [() => none.decode({ TUPLE: ['U8', 'BOOL'] }, [7, 2]), 'bytes', 'BadBool', 1, '[1]', 'refused: BadBool at byte 1, [1]: wanted BOOL'],
-  [() => none.decode('"BOOL"', [2]), 'bytes', 'BadBool', 0, '.', 'refused: BadBool at byte 0, .: wanted BOOL'],
-  [() => none.part('"U8"', [7], 'a'), 'path', 'BadPath', undefined, 'step 1 a', /^refused: BadPath at step 1 a: wanted a number/],
-  [() => none.partByName('"U8"', [7], 'a'), 'path', 'BadPath', undefined, undefined, 'refused: BadPath: wanted a name such as .payload.args[1]'],
-  [() => none.partByPointer('"U8"', [7], 'a'), 'path', 'BadPath', undefined, undefined, 'refused: BadPath: wanted a JSON Pointer such as /payload/args/1'],
+  [() => none.encodeText({ SEQ: 'U8' }, '[1,256]'), 'text', 'BadNumber', undefined, '/1', /^refused: BadNumber at \/1: found 256, expected /],
+  [() => none.encodeText('"U8"', '256'), 'text', 'BadNumber', undefined, '', /^refused: BadNumber: found 256, expected /],
+  [() => none.decode({ TUPLE: ['U8', 'BOOL'] }, [7, 2]), 'bytes', 'BadBool', 1, '[1]', 'refused: BadBool at byte 1, [1]: expected BOOL, 00 or 01, found 02'],
+  [() => none.decode('"BOOL"', [2]), 'bytes', 'BadBool', 0, '.', 'refused: BadBool at byte 0, .: expected BOOL, 00 or 01, found 02'],
+  [() => none.part('"U8"', [7], 'a'), 'path', 'BadPath', undefined, 'step 1 a', /^refused: BadPath at step 1 a: expected a number/],
+  [() => none.partByName('"U8"', [7], 'a'), 'path', 'BadPath', undefined, undefined, 'refused: BadPath: expected a name such as .payload.args[1]'],
+  [() => none.partByPointer('"U8"', [7], 'a'), 'path', 'BadPath', undefined, undefined, 'refused: BadPath: expected a JSON Pointer such as /payload/args/1'],
   [() => none.example('"F32"'), 'example', 'NoValue', undefined, undefined, 'refused: NoValue'],
   [() => none.encode({ TUPLE: ['U8'] }, [true]), 'value', 'WrongType', undefined, '/0', 'refused: WrongType at /0: U8 takes an integer, not boolean'],
   [() => none.encode('"U8"', true), 'value', 'WrongType', undefined, '', 'refused: WrongType: U8 takes an integer, not boolean'],

@@ -115,7 +115,7 @@ test('a text that is refused is told, and the other side is marked', async () =>
   await replace(page, 'text', read('aptos_transfer_damaged.json'));
   await page.until(`${verdict}.includes('BadHex')`);
   assert.match(await page.ask(verdict), /Refused at line \d+, column \d+: BadHex\. .*without 0x/);
-  assert.match(await page.ask(verdict), /At \/sender: 0x isn't part of hexadecimal digits here\.$/);
+  assert.match(await page.ask(verdict), /At \/sender: write 64 digits without 0x\.$/);
   const marked = await page.ask("document.querySelector('#text-side mark').textContent");
   assert.equal(JSON.parse(marked), JSON.parse(read('aptos_transfer_damaged.json')).sender);
   // (the cursor goes there, and what is marked is selected)
@@ -285,12 +285,12 @@ test('hostile names in the place of a refusal, and in its words, are text', asyn
   await page.until("document.getElementById('registry-verdict').textContent === '1 container'");
   await choose(page, 'container', IMAGE);
   for (const [value, told] of [
-    [{ [SCRIPT]: { [`<b>${IMAGE}/`]: 7, 'a\u202eb': true } }, `At /<script>alert(4)<~1script>/<b>${IMAGE}~1: wanted BOOL, true or false.`],
+    [{ [SCRIPT]: { [`<b>${IMAGE}/`]: 7, 'a\u202eb': true } }, `At /<script>alert(4)<~1script>/<b>${IMAGE}~1: expected BOOL, true or false.`],
     [{ [SCRIPT]: { 'a\u202eb': true } }, `At /<script>alert(4)<~1script>: no member is called <b>${IMAGE}/.`],
-    [{ [SCRIPT]: { [`<b>${IMAGE}/`]: true, 'a\u202eb': true, [IMAGE]: 0 } }, `no field is called ${IMAGE}; nearest: <b>${IMAGE}/.`],
-    [{ [SCRIPT]: { [`<b>${IMAGE}/`]: true, 'a\u202eb': 7 } }, 'At /<script>alert(4)<~1script>/a\\u{202e}b: wanted'],
+    [{ [SCRIPT]: { [`<b>${IMAGE}/`]: true, 'a\u202eb': true, [IMAGE]: 0 } }, `no field is called ${IMAGE}; did you mean <b>${IMAGE}/?.`],
+    [{ [SCRIPT]: { [`<b>${IMAGE}/`]: true, 'a\u202eb': 7 } }, 'At /<script>alert(4)<~1script>/a\\u{202e}b: expected'],
     [IMAGE, `no variant is called ${IMAGE}; variants: ${SCRIPT}.`],
-    [SCRIPT, `wanted an object with the one member ${SCRIPT}.`],
+    [SCRIPT, `expected an object with the one member ${SCRIPT}.`],
   ]) {
     await replace(page, 'text', JSON.stringify(value));
     await isToldAsText(page, 'verdict', told);
@@ -300,8 +300,8 @@ test('hostile names in the place of a refusal, and in its words, are text', asyn
   await page.until("document.querySelector('#tree .stop')?.textContent.includes('wanted: BOOL')");
   await isToldAsText(page, 'tree', SCRIPT);
   for (const [registry, told] of [
-    [{ [IMAGE]: { STRUCT: [{ [SCRIPT]: 'U9' }] } }, `at /${IMAGE}/STRUCT/0/<script>alert(4)<~1script>, wanted a format`],
-    [{ [IMAGE]: { STRUCT: [{ [SCRIPT]: { TYPENAME: `<b>${IMAGE}` } }] } }, `at ${IMAGE}, field ${SCRIPT}, no container is called <b>${IMAGE}; nearest: ${IMAGE}`],
+    [{ [IMAGE]: { STRUCT: [{ [SCRIPT]: 'U9' }] } }, `at /${IMAGE}/STRUCT/0/<script>alert(4)<~1script>, expected a format`],
+    [{ [IMAGE]: { STRUCT: [{ [SCRIPT]: { TYPENAME: `<b>${IMAGE}` } }] } }, `at ${IMAGE}, field ${SCRIPT}, no container is called <b>${IMAGE}; did you mean ${IMAGE}?`],
     [{ [SCRIPT]: { STRUCT: [{ [IMAGE]: 'U8' }, { [IMAGE]: 'U8' }] } }, `at ${SCRIPT}, two fields are called ${IMAGE}`],
   ]) {
     await replace(page, 'registry', JSON.stringify(registry));

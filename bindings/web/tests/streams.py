@@ -26,6 +26,7 @@ MEGABYTE = 1_000_000
 MOST_INPUT = 268_435_456
 NUMBER = ["encode", "{}", '"I16"']
 BYTES = ["--raw", "{}", '{"SEQ":"U8"}']
+NO_FILE = "No such file or directory" "; a value itself goes to standard input, and a registry itself starts with {"
 WRITE_FAULT = b"fault: write\nin the standard output\n"
 
 
@@ -170,13 +171,13 @@ def names(run: Runner) -> None:
         (room / "link").symlink_to("file")
         (room / "nö 漢").write_text("{}")
         causes = {
-            "none": "open\nin the file none: No such file or directory",
+            "none": f"open\nin the file none: {NO_FILE}",
             "file/x": "open\nin the file file/x: Not a directory",
             "loop": "open\nin the file loop: Too many levels of symbolic links",
             "n" * 256: f"open\nin the file {'n' * 256}: File name too long",
             "m/" * 2500: f"open\nin the file {'m/' * 2500}: File name too long",
             ".": "read\nin the file .",
-            "": "open\nin the file : No such file or directory",
+            "": f"open\nin the file : {NO_FILE}",
         }
         for name, fault in causes.items():
             told = finished(run(["check", name], cwd=room))

@@ -555,7 +555,7 @@ test('values within themselves, deep ones and formats without an end are rejecte
   const nested = (count) => Array.from({ length: count - 1 }).reduce((inner) => [inner], []);
   assert.equal(hexOf(deep.encode('T', nested(100))), '01'.repeat(99) + '00');
   for (const count of [101, 102, 100_000]) assert.throws(() => deep.encode('T', nested(count)), isTooNested);
-  const words = 'arrays and objects nest more than 100 deep';
+  const words = 'arrays and objects are nested more than 100 levels deep';
   assert.throws(() => deep.encode('T', nested(101)), { at: '/0'.repeat(100), detail: words });
   assert.throws(() => deep.encodeText('T', '['.repeat(101) + ']'.repeat(101)), { reason: 'TooNested', detail: words });
   assert.throws(() => deep.encode('X', null), (error) => error.kind === 'text' && error.reason === 'TooDeep');

@@ -14,6 +14,7 @@ import tempfile
 
 REGISTRY = '{"S":{"STRUCT":[{"id":"U8"},{"owner":"BOOL"}]}}'
 # Beyond ASCII, with characters beyond 16 bits, with blanks and in folders.
+NO_FILE = "No such file or directory" "; a value itself goes to standard input, and a registry itself starts with {"
 NAMES = ["é.json", "漢字😀.json", "a b/c d.json", "é/ß.json", "%TEMP%.json", "it's.json", "(1)&^!.json", "-.json"]
 # Windows had a limit of 260 characters for a path.
 LONG = "n" * 100
@@ -62,7 +63,7 @@ def ask_names(program: Program) -> None:
             program.gives(0, "ok 1\n", "", "check", f"./{name}")
             program.gives(0, "ok 1\n", "", "check", name.replace("/", "\\"))
     # A character beyond 16 bits is two units, and the message has each of them.
-    missing = "fault: open\nin the file \\u6f22\\ud83d\\ude00: No such file or directory\n"
+    missing = f"fault: open\nin the file \\u6f22\\ud83d\\ude00: {NO_FILE}\n"
     program.gives(4, "", missing, "check", "漢😀")
     program.gives(4, "", "fault: read\nin the file \\u00e9\n", "check", "é")
 
@@ -80,19 +81,17 @@ def ask_long_names(program: Program, room: str) -> None:
         program.gives(0, "ok 1\n", "", "check", path)
     told = program.run("check", f"{folder}/no.json")
     first, *more = told.stderr.decode().splitlines() or [""]
-    if (told.returncode, first) != (4, "fault: open") or not any(
-        line.endswith(": No such file or directory") for line in more
-    ):
+    if (told.returncode, first) != (4, "fault: open") or not any(line.endswith(f": {NO_FILE}") for line in more):
         fail(f"no such long file: {told}")
 
 
 def ask_devices(program: Program) -> None:
     """And what isn't a name."""
-    not_json = "at line 1, column 0: NotJson: the text stops being JSON there\n"
+    not_json = "at line 1, column 1: NotJson: the document is empty\n"
     program.gives(2, "refused: NotJson\n", not_json, "check", "NUL")
     program.gives(0, "ok 0\n", "", "scan", "--raw", "{}", '"UNIT"', "NUL")
     for name in "a<b", "a|b", "a?", "*":
-        missing = f"fault: open\nin the file {name}: No such file or directory\n"
+        missing = f"fault: open\nin the file {name}: {NO_FILE}\n"
         program.gives(4, "", missing, "check", name)
 
 

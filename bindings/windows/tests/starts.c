@@ -76,7 +76,7 @@ static void answers(const wchar_t *words, const char *input, size_t length, DWOR
 }
 
 static void arguments(void) {
-    const char *const no_utf8 = "error: a word is no UTF-8\n";
+    const char *const no_utf8 = "error: an argument isn't UTF-8\n";
     answers(L"\xd800", "", 0, 3, "", no_utf8);
     answers(L"encode {} \xdc00", "", 0, 3, "", no_utf8);
     answers(L"--help x\xdc00\xd800y", "", 0, 3, "", no_utf8);
@@ -84,7 +84,7 @@ static void arguments(void) {
     answers(L"check {\\\"\xd83d\xde00\\\":{\\\"NEWTYPESTRUCT\\\":{\\\"TYPENAME\\\":\\\"\xe9\\\"}}}", "", 0, 2, "refused: UnknownName\n",
             "at \\ud83d\\ude00: UnknownName: no container is called \\u00e9\n");
     answers(L"check \"{\\\"a b\\\\\\\\\\\":\\\"UNITSTRUCT\\\"}\"", "", 0, 0, "ok 1\n", "");
-    answers(L"check *.*", "", 0, 4, "", "fault: open\nin the file *.*: No such file or directory\n");
+    answers(L"check *.*", "", 0, 4, "", "fault: open\nin the file *.*: No such file or directory; a value itself goes to standard input, and a registry itself starts with {\n");
 }
 
 static void bytes_are_kept(void) {
@@ -133,7 +133,7 @@ static void streams_are_missing(void) {
 }
 
 static void devices(void) {
-    answers(L"encode {} \\\"U8\\\" NUL", "7", 1, 2, "refused: NotJson\n", "at line 1, column 0: NotJson: the text stops being JSON there\n");
+    answers(L"encode {} \\\"U8\\\" NUL", "7", 1, 2, "refused: NotJson\n", "at line 1, column 1: NotJson: the document is empty\n");
     answers(L"scan --raw {} \\\"UNIT\\\" NUL", "7", 1, 0, "ok 0\n", "");
 }
 

@@ -14,6 +14,9 @@ pub(crate) fn container_hint<'a>(
 ) -> Result<Hint<'a>, AllocError> {
     let mut search = NearestName::to(word);
     for name in containers.keys() {
+        if search.is_over() {
+            break;
+        }
         search.consider(alloc, name.as_str())?;
     }
     Ok(Hint::nearest(search.found()))

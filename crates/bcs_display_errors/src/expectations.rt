@@ -11,7 +11,7 @@ use std::fmt;
 pub(crate) enum Expected<'a> {
     /// A fixed message.
     Words(&'static str),
-    /// A whole number in the range of this integer, and not the number that was found.
+    /// An integer in the range of this integer, and not the number that was found.
     Whole(IntegerKind, FoundNumber<'a>),
     /// Nothing: values of this format aren't supported.
     Unsupported(&'static str),
@@ -23,6 +23,8 @@ pub(crate) enum Expected<'a> {
     Parts(&'static str, Count),
     /// This number of parts, where the document has the other number of them.
     Other(Count, u64),
+    /// This number of digits, without the `0x` that the document has before them.
+    Prefixed(Count),
 }
 
 /// A number of parts.
@@ -39,13 +41,17 @@ impl fmt::Display for Expected<'_> {
             Expected::Words(words) => f.write_str(words),
             Expected::Whole(number, found) => {
                 write!(f, "{found}")?;
-                write_whole(*number, f)
+                write_whole(*number, f)?;
+                f.write_str(found.advice())
             }
-            Expected::Unsupported(word) => write!(f, "no value of {word} is supported"),
+            Expected::Unsupported(word) => {
+                write!(f, "no value of {word} is supported; BCS has none")
+            }
             Expected::Named(words, name) => write!(f, "{words} {name}"),
             Expected::Hinted(words, name, hint) => write!(f, "{words} {name}{hint}"),
             Expected::Parts(words, count) => write!(f, "{words} {count}"),
-            Expected::Other(count, found) => write!(f, "wanted {count}, found {found}"),
+            Expected::Other(count, found) => write!(f, "expected {count}, found {found}"),
+            Expected::Prefixed(digits) => write!(f, "write {digits} without 0x"),
         }
     }
 }
@@ -56,14 +62,14 @@ fn write_whole<W: fmt::Write>(number: IntegerKind, f: &mut fmt::Formatter<W>) ->
     match number {
         IntegerKind::Unsigned(width) => {
             let greatest = width.greatest_unsigned();
-            write!(f, "wanted a whole number from 0 to {greatest} ({word})")
+            write!(f, "expected an integer from 0 to {greatest} ({word})")
         }
         IntegerKind::Signed(width) => {
             let greatest = width.greatest_unsigned() / 2;
             let below = greatest.saturating_add(1);
             write!(
                 f,
-                "wanted a whole number from -{below} to {greatest} ({word})"
+                "expected an integer from -{below} to {greatest} ({word})"
             )
         }
     }

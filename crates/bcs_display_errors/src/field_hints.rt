@@ -1,5 +1,6 @@
-//! Hints about a struct's member that is missing, or that is no field.
+//! Hints about a struct's member that is missing, or that isn't a field.
 
+use crate::field_list::FieldList;
 use crate::hints::Hint;
 use crate::nearest::NearestName;
 use bcs_display_refusal::Name;
@@ -8,15 +9,15 @@ use serde_json::{Map, Value as Json};
 use std::alloc::{AllocError, Global};
 use std::collections::BTreeSet;
 
-/// The member that was probably meant to be the missing field: the one with the nearest name, among those that are no
-/// fields.
+/// The member that was probably meant to be the missing field: the one with the nearest name, among those that aren't fields.
+/// If there is none, how to leave an option out.
 pub(crate) fn missing_hint<'a>(
     alloc: Global,
     fields: &BTreeSet<&'a str>,
     members: &'a Map<String, Json>,
-    missing: &'a str,
+    missing: &'a Named<Format>,
 ) -> Result<Hint<'a>, AllocError> {
-    let mut search = NearestName::to(missing);
+    let mut search = NearestName::to(missing.name.as_str());
     for (name, _) in members {
         if !fields.contains(&name.as_str()) {
             search.consider(alloc, name.as_str())?;
@@ -24,11 +25,12 @@ pub(crate) fn missing_hint<'a>(
     }
     match search.found() {
         Some(name) => Ok(Hint::Found(Name::of(name))),
+        None if matches!(missing.value, Format::Opt(_)) => Ok(Hint::Null),
         None => Ok(Hint::Nothing),
     }
 }
 
-/// The field with the nearest name to that of a member that is none.
+/// The field with the nearest name to that of a member that isn't a field, or if none is near, the fields that exist.
 pub(crate) fn unknown_hint<'a>(
     alloc: Global,
     fields: &'a [Named<Format>],
@@ -36,7 +38,13 @@ pub(crate) fn unknown_hint<'a>(
 ) -> Result<Hint<'a>, AllocError> {
     let mut search = NearestName::to(member);
     for field in fields {
+        if search.is_over() {
+            break;
+        }
         search.consider(alloc, field.name.as_str())?;
     }
-    Ok(Hint::nearest(search.found()))
+    match search.found() {
+        Some(name) => Ok(Hint::Nearest(Name::of(name))),
+        None => Ok(Hint::Fields(FieldList(fields))),
+    }
 }

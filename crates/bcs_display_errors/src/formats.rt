@@ -1,6 +1,8 @@
 //! FORMAT, or NAME of `show`, with a name that no container has.
 
 use crate::container_hints::container_hint;
+use crate::hints::Hint;
+use crate::spellings::meant_word;
 use bcs_display_refusal::{Location, Name, Refusal};
 use bcs_registry::{Registry, RegistryFault};
 use bcs_registry_json::format_text::format_from;
@@ -19,13 +21,17 @@ pub fn unknown_word(
     if registry.container(word).is_some() {
         return Ok(None);
     }
-    let (name, hint) = (
-        Name::of(word),
-        container_hint(alloc, registry.containers(), word)?,
-    );
-    let message = format!(in alloc;
-        "no container is called {name}; a format without a name is written as JSON, as '\"U64\"'{hint}"
-    )?;
+    let hint = container_hint(alloc, registry.containers(), word)?;
+    let meant = meant_word(alloc, word)?;
+    let name = Name::of(word);
+    let message = match (hint, meant) {
+        (Hint::Nothing, Some(meant)) => format!(in alloc;
+            "no container is called {name}; did you mean the format '\"{meant}\"', in both quotes?"
+        )?,
+        (hint, _) => format!(in alloc;
+            "no container is called {name}{hint}; a format without a name is JSON, as '\"U64\"' or '{{\"SEQ\":\"U8\"}}'"
+        )?,
+    };
     Ok(Some(unknown("FORMAT", message)))
 }
 
@@ -41,7 +47,12 @@ pub fn container_refusal(
     }
     let hint = container_hint(alloc, registry.containers(), name)?;
     let name = Name::of(name);
-    let message = format!(in alloc; "no container is called {name}{hint}")?;
+    let message = match hint {
+        Hint::Nothing => format!(in alloc;
+            "no container is called {name}; without NAME, show prints all of them"
+        )?,
+        hint => format!(in alloc; "no container is called {name}{hint}")?,
+    };
     Ok(Some(unknown("NAME", message)))
 }
 

@@ -1,5 +1,6 @@
 //! What helps to correct a name that doesn't exist.
 
+use crate::field_list::FieldList;
 use crate::variant_list::VariantList;
 use bcs_display_refusal::Name;
 use std::fmt;
@@ -14,6 +15,10 @@ pub(crate) enum Hint<'a> {
     Found(Name<'a>),
     /// The variants that exist.
     Variants(VariantList<'a>),
+    /// The fields that exist.
+    Fields(FieldList<'a>),
+    /// An absent option is `null`.
+    Null,
 }
 
 impl<'a> Hint<'a> {
@@ -30,9 +35,11 @@ impl fmt::Display for Hint<'_> {
     fn fmt<W: fmt::Write>(&self, f: &mut fmt::Formatter<W>) -> fmt::Result {
         match self {
             Hint::Nothing => Ok(()),
-            Hint::Nearest(name) => write!(f, "; nearest: {name}"),
+            Hint::Nearest(name) => write!(f, "; did you mean {name}?"),
             Hint::Found(name) => write!(f, "; found: {name}"),
             Hint::Variants(list) => write!(f, "{list}"),
+            Hint::Fields(list) => write!(f, "{list}"),
+            Hint::Null => f.write_str("; an absent option is null"),
         }
     }
 }

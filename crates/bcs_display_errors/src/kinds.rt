@@ -1,7 +1,7 @@
 //! What was expected in JSON where a value of a format belongs.
 
 use crate::content::{Content, Enum};
-use crate::digits::wrong_digits;
+use crate::digits::{has_prefix, wrong_digits};
 use crate::expectations::{Count, Expected};
 use crate::field_hints::{missing_hint, unknown_hint};
 use crate::json_outline::Outline;
@@ -24,7 +24,7 @@ pub(crate) fn expectation<'a>(
 ) -> Result<Option<Expected<'a>>, AllocError> {
     let json = &outline.json;
     let expectation = match target {
-        Target::Content(Content::Unit) => Some(Expected::Words("wanted null")),
+        Target::Content(Content::Unit) => Some(Expected::Words("expected null")),
         Target::Content(Content::One(format)) => format_expectation(format, outline),
         Target::Content(Content::Row(formats)) => row_expectation(formats.len() as u64, json),
         Target::Content(Content::Fields(fields)) => struct_expectation(alloc, fields, json)?,
@@ -51,20 +51,27 @@ fn format_expectation<'a>(format: &Format, outline: &'a Outline) -> Option<Expec
 
 fn scalar_expectation<'a>(scalar: Scalar, outline: &'a Outline) -> Option<Expected<'a>> {
     let expectation = match scalar {
-        Scalar::Unit => Expected::Words("wanted null"),
-        Scalar::Bool => Expected::Words("wanted BOOL, true or false"),
+        Scalar::Unit => Expected::Words("expected null"),
+        Scalar::Bool => Expected::Words(words_for_bool(&outline.json)),
         Scalar::Whole(number) => Expected::Whole(number, FoundNumber::of(outline)),
         Scalar::Unsupported(_) => Expected::Unsupported(scalar.word()),
-        Scalar::Str => Expected::Words("wanted STR, a string"),
+        Scalar::Str => Expected::Words("expected STR, a string"),
         Scalar::Bytes => return bytes_expectation(&outline.json),
     };
     Some(expectation)
 }
 
+fn words_for_bool(json: &Json) -> &'static str {
+    match json {
+        Json::String(_) => "expected BOOL, true or false, without quotes",
+        _ => "expected BOOL, true or false",
+    }
+}
+
 fn bytes_expectation<'a>(json: &'a Json) -> Option<Expected<'a>> {
     match json {
         Json::String(text) => digits_expectation(text),
-        _ => Some(Expected::Words("wanted BYTES, a string of hexadecimal digits")),
+        _ => Some(Expected::Words("expected BYTES, a string of hexadecimal digits")),
     }
 }
 
@@ -76,7 +83,9 @@ fn map_expectation<'a>(json: &'a Json) -> Option<Expected<'a>> {
     if json.is_array() {
         None
     } else {
-        Some(Expected::Words("wanted an array of entries, each an array of a key and its value"))
+        Some(Expected::Words(
+            "expected an array of entries, each an array of a key and its value, as [[1,2],[3,4]]",
+        ))
     }
 }
 
@@ -89,7 +98,9 @@ fn option_expectation<'a>(json: &'a Json) -> Option<Expected<'a>> {
     if is_option {
         None
     } else {
-        Some(Expected::Words("wanted null, or an object with the one member some"))
+        Some(Expected::Words(
+            "expected null, or an object with the one member some, as {\"some\":1}",
+        ))
     }
 }
 
@@ -99,14 +110,14 @@ fn list_expectation<'a>(element: &Format, json: &'a Json) -> Option<Expected<'a>
     } else if matches!(element, Format::U8) {
         octets_expectation(json)
     } else {
-        Some(Expected::Words("wanted an array"))
+        Some(Expected::Words("expected an array"))
     }
 }
 
 fn octets_expectation<'a>(json: &'a Json) -> Option<Expected<'a>> {
     match json {
         Json::String(text) => digits_expectation(text),
-        _ => Some(Expected::Words("wanted an array of U8, or a string of hexadecimal digits")),
+        _ => Some(Expected::Words("expected an array of U8, or a string of hexadecimal digits")),
     }
 }
 
@@ -125,14 +136,24 @@ fn all_octets_expectation<'a>(number: u64, json: &'a Json) -> Option<Expected<'a
     };
     match json {
         Json::String(text) => all_digits_expectation(count, text),
-        _ => Some(Expected::Parts("wanted an array or hexadecimal digits of", count)),
+        _ => Some(Expected::Parts("expected an array or hexadecimal digits of", count)),
     }
 }
 
 fn all_digits_expectation<'a>(count: Count, text: &'a str) -> Option<Expected<'a>> {
-    match wrong_digits(text.as_bytes()) {
-        Some(wrong) => Some(Expected::Words(wrong.words)),
-        None => other_expectation(count, (text.len() / 2) as u64),
+    let Some(wrong) = wrong_digits(text.as_bytes()) else {
+        return other_expectation(count, (text.len() / 2) as u64);
+    };
+    let digits = Count {
+        number: count.number.saturating_mul(2),
+        part: "digit",
+    };
+    if has_prefix(text.as_bytes()) {
+        return Some(Expected::Prefixed(digits));
+    }
+    match wrong.place {
+        Some(_) => Some(Expected::Words(wrong.words)),
+        None => other_expectation(digits, text.len() as u64),
     }
 }
 
@@ -143,7 +164,7 @@ fn row_expectation<'a>(number: u64, json: &'a Json) -> Option<Expected<'a>> {
     };
     match json {
         Json::Array(items) => other_expectation(count, items.len() as u64),
-        _ => Some(Expected::Parts("wanted an array of", count)),
+        _ => Some(Expected::Parts("expected an array of", count)),
     }
 }
 
@@ -158,7 +179,7 @@ fn other_expectation<'a>(count: Count, found: u64) -> Option<Expected<'a>> {
 fn entry_expectation<'a>(json: &'a Json) -> Option<Expected<'a>> {
     match json {
         Json::Array(items) if items.len() == 2 => None,
-        _ => Some(Expected::Words("wanted an entry, an array of a key and its value")),
+        _ => Some(Expected::Words("expected an entry, an array of a key and its value")),
     }
 }
 
@@ -168,7 +189,7 @@ fn struct_expectation<'a>(
     json: &'a Json,
 ) -> Result<Option<Expected<'a>>, AllocError> {
     let Json::Object(members) = json else {
-        return Ok(Some(Expected::Words("wanted an object with a member for each field")));
+        return Ok(Some(Expected::Words("expected an object with a member for each field")));
     };
     let names = names_of(alloc, fields)?;
     match missing_field(alloc, fields, &names, members)? {
@@ -199,14 +220,14 @@ fn missing_field<'a>(
     for field in fields {
         let name = field.name.as_str();
         if !members.contains_key(name) {
-            let hint = missing_hint(alloc, names, members, name)?;
+            let hint = missing_hint(alloc, names, members, field)?;
             return Ok(Some(Expected::Hinted("no member is called", Name::of(name), hint)));
         }
     }
     Ok(None)
 }
 
-// The first member that is no field.
+// The first member that isn't a field.
 fn unknown_field<'a>(
     alloc: Global,
     fields: &'a [Named<Format>],
@@ -235,9 +256,7 @@ fn enum_expectation<'a>(
         _ => None,
     };
     let Some(name) = name else {
-        return Ok(Some(Expected::Words(
-            "wanted a variant, its name or an object with one member of that name",
-        )));
+        return Ok(Some(Expected::Words("expected a variant, \"NAME\" or {\"NAME\":CONTENT}")));
     };
     let expected = match choices.payload(registry, name) {
         None => {
@@ -246,7 +265,7 @@ fn enum_expectation<'a>(
         }
         Some(VariantFormat::Unit) => return Ok(None),
         Some(_) if json.is_object() => return Ok(None),
-        Some(_) => Expected::Named("wanted an object with the one member", Name::of(name)),
+        Some(_) => Expected::Named("expected an object with the one member", Name::of(name)),
     };
     Ok(Some(expected))
 }

@@ -5,15 +5,15 @@ use bcs_display_refusal::Name;
 use serde_json::Value as Json;
 use std::fmt;
 
-/// What was found where a whole number was expected, written in front of what was expected.
+/// What was found where an integer was expected, written in front of what was expected.
 #[derive(Clone, Copy)]
 pub(crate) enum FoundNumber<'a> {
     /// A number, as the document writes it, perhaps in a string.
     Number(Name<'a>),
     /// Another string.
     Text(Name<'a>),
-    /// Anything else, which the line doesn't show.
-    Other,
+    /// Anything else, by these words.
+    Other(&'static str),
 }
 
 impl<'a> FoundNumber<'a> {
@@ -22,15 +22,63 @@ impl<'a> FoundNumber<'a> {
             Json::Number(_) => FoundNumber::Number(Name::of(outline.digits.as_str())),
             Json::String(text) if is_whole(text) => FoundNumber::Number(Name::of(text.as_str())),
             Json::String(text) => FoundNumber::Text(Name::of(text.as_str())),
-            _ => FoundNumber::Other,
+            Json::Null => FoundNumber::Other("null"),
+            Json::Bool(true) => FoundNumber::Other("true"),
+            Json::Bool(false) => FoundNumber::Other("false"),
+            Json::Array(_) => FoundNumber::Other("an array"),
+            Json::Object(_) => FoundNumber::Other("an object"),
         }
+    }
+
+    /// What is wrong with the digits of a number, if they spell none of this program's, after what was expected.
+    pub(crate) fn advice(self) -> &'static str {
+        match self {
+            FoundNumber::Number(name) | FoundNumber::Text(name) => advice_for(name.text()),
+            FoundNumber::Other(_) => "",
+        }
+    }
+}
+
+// What to leave out of digits.
+fn advice_for(text: &str) -> &'static str {
+    let digits = text.strip_prefix('-').unwrap_or(text);
+    if text.is_empty() {
+        "; the string is empty"
+    } else if text.starts_with('+') {
+        "; write digits only, without a plus sign"
+    } else if digits.starts_with("0x") || digits.starts_with("0X") {
+        "; write the number in decimal, without 0x"
+    } else if is_decimal(digits) {
+        advice_for_zeros(text, digits)
+    } else if !digits.bytes().any(|byte| byte.is_ascii_digit()) {
+        "; write digits"
+    } else if digits.contains('e') || digits.contains('E') {
+        "; write digits only, without an exponent"
+    } else if digits.contains('.') {
+        "; write digits only, without a point"
+    } else {
+        "; write digits only"
+    }
+}
+
+fn advice_for_zeros(text: &str, digits: &str) -> &'static str {
+    if digits.len() > 1 && digits.starts_with('0') {
+        "; write it without leading zeros"
+    } else if text == "-0" {
+        "; write 0"
+    } else {
+        ""
     }
 }
 
 // Whether a string holds digits, and perhaps a sign before them.
 fn is_whole(text: &str) -> bool {
     let digits = text.strip_prefix('-').unwrap_or(text);
-    !digits.is_empty() && digits.bytes().all(|byte| byte.is_ascii_digit())
+    is_decimal(digits)
+}
+
+fn is_decimal(text: &str) -> bool {
+    !text.is_empty() && text.bytes().all(|byte| byte.is_ascii_digit())
 }
 
 impl fmt::Display for FoundNumber<'_> {
@@ -38,7 +86,7 @@ impl fmt::Display for FoundNumber<'_> {
         match self {
             FoundNumber::Number(number) => write!(f, "found {number}, "),
             FoundNumber::Text(text) => write!(f, "found \"{text}\", "),
-            FoundNumber::Other => Ok(()),
+            FoundNumber::Other(words) => write!(f, "found {words}, "),
         }
     }
 }

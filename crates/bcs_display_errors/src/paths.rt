@@ -41,6 +41,6 @@ fn bad_step(alloc: Global, number: u64, text: &str) -> Result<Refusal, AllocErro
 fn message_of(text: &str) -> &'static str {
     match text.strip_prefix("key:") {
         Some(digits) if has_prefix(digits.as_bytes()) => PREFIX,
-        _ => "wanted a number, inner, or key: and hexadecimal digits",
+        _ => "expected a number, inner, or key: and hexadecimal digits",
     }
 }

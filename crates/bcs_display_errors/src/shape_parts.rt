@@ -95,14 +95,15 @@ impl fmt::Display for Part {
             Part::Field => "a field, an object with one member",
             Part::Variants => "an object of variants",
             Part::Variant => "a variant, an object with one member",
-            Part::VariantNumber => "a plain decimal number below 4294967296",
+            Part::VariantNumber =>
+                "the number of a variant: below 4294967296, in decimal digits without leading zeros",
             Part::Payload => "a variant's payload",
             Part::Format => "a format",
             Part::Formats => "an array of formats",
             Part::Name => "a string, the name of a container",
             Part::Map => "an object with KEY and VALUE",
             Part::TupleArray => "an object with CONTENT and SIZE",
-            Part::Size => "a whole number below 18446744073709551616",
+            Part::Size => "an integer below 18446744073709551616",
         })
     }
 }

@@ -1,6 +1,7 @@
 //! Where the JSON of a registry or a format has a wrong shape or a wrong number.
 
 use crate::locations::location_of;
+use crate::shape_hints::{VALUE, looks_like_value, put_found};
 use crate::shape_parts::Part;
 use bcs_display_refusal::{Location, Refusal};
 use bcs_json_spec::JsonStep;
@@ -17,7 +18,7 @@ pub fn registry_misfit(alloc: Global, text: &[u8]) -> Result<Option<Refusal>, Re
     let Some(place) = misshapen(alloc, &json, Part::Registry)? else {
         return Ok(None);
     };
-    Ok(Some(place.refusal(alloc, Location::WholeText)?))
+    Ok(Some(place.refusal(alloc, &json, Location::WholeText)?))
 }
 
 /// The same for a FORMAT that is JSON.
@@ -26,7 +27,7 @@ pub fn format_misfit(alloc: Global, word: &str) -> Result<Option<Refusal>, Regis
     let Some(place) = misshapen(alloc, &json, Part::Format)? else {
         return Ok(None);
     };
-    let refusal = place.refusal(alloc, Location::Whole)?;
+    let refusal = place.refusal(alloc, &json, Location::Whole)?;
     Ok(Some(refusal.in_argument("FORMAT")))
 }
 
@@ -39,17 +40,47 @@ struct ShapePlace {
 }
 
 impl ShapePlace {
-    // The refusal, at this location if there are no steps.
-    fn refusal(self, alloc: Global, whole: Location) -> Result<Refusal, AllocError> {
+    // The refusal of this JSON, at this location if there are no steps.
+    fn refusal(self, alloc: Global, json: &Value, whole: Location) -> Result<Refusal, AllocError> {
         let ShapePlace { steps, part, fault } = self;
+        let mut message = format!(in alloc; "expected {part}")?.into_bytes();
+        put_cause(alloc, json, part, &steps, &mut message)?;
         let location = if steps.is_empty() {
             whole
         } else {
             location_of(alloc, &steps)?
         };
-        let message = format!(in alloc; "wanted {part}")?;
-        Ok(Refusal::of(fault.name(), location, message.into_bytes()))
+        Ok(Refusal::of(fault.name(), location, message))
     }
+}
+
+// Appends what was found at the end of these steps in place of this part, and what to write.
+fn put_cause(
+    alloc: Global,
+    json: &Value,
+    part: Part,
+    steps: &[JsonStep],
+    out: &mut Vec<u8>,
+) -> Result<(), AllocError> {
+    if part == Part::Container && looks_like_value(json) {
+        return out.extend_from_slice(VALUE.as_bytes());
+    }
+    match value_at(json, steps) {
+        Some(found) if part != Part::VariantNumber => put_found(alloc, part, found, out),
+        _ => Ok(()),
+    }
+}
+
+// The value at the end of these steps.
+fn value_at<'a>(json: &'a Value, steps: &[JsonStep]) -> Option<&'a Value> {
+    let mut found = json;
+    for step in steps {
+        found = match step {
+            JsonStep::Item(number) => found.as_array()?.get(*number as usize)?,
+            JsonStep::Member(name) => found.as_object()?.get(name.as_str())?,
+        };
+    }
+    Some(found)
 }
 
 // Looks for a wrong shape in all of the JSON before it looks at numbers, like the reader of registries.

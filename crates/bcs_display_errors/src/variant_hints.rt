@@ -48,6 +48,9 @@ fn nearest_variant<'a>(
 ) -> Result<Option<&'a str>, AllocError> {
     let mut search = NearestName::to(word);
     for variant in variants.values() {
+        if search.is_over() {
+            break;
+        }
         search.consider(alloc, variant.name.as_str())?;
     }
     Ok(search.found())

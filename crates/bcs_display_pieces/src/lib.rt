@@ -3,6 +3,7 @@
 
 mod error_line;
 mod explanation;
+mod found;
 mod halt;
 mod lines;
 mod listing;

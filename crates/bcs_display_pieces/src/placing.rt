@@ -5,6 +5,7 @@ ghost use Rattle.bcs_registry_model.specs.WellFormed.{Admits};
 ghost use Rattle.bcs_decode_spec.specs.declared.stop.Stop as declared;
 ghost use Rattle.bcs_display_pieces.specs.EndsAt.{EndsAt};
 
+use crate::found::put_found;
 use crate::halt::Halt;
 use crate::steps::container_name;
 use crate::stopping::stop_of;
@@ -16,8 +17,8 @@ use bcs_value::Limits;
 use std::alloc::{AllocError, Global};
 
 /// Describes in ASCII, without a line end, where the bytes stop being a value and what was expected there: `at .owner:
-/// BadBool: wanted BOOL`. For an unknown variant, it adds the number that was found and the variants that exist. Returns
-/// `None` if they encode a value. Fails only if memory runs out.
+/// BadBool: expected BOOL, 00 or 01, found 02`. For an unknown variant, it adds the number that was found and the variants that
+/// exist. Returns `None` if they encode a value. Fails only if memory runs out.
 pub fn stop_place(
     alloc: Global,
     registry: &Registry,
@@ -72,15 +73,16 @@ pub fn stop_refusal(
         ..
     } = keeper;
     let mut refusal = refusal_of(alloc, stop.reason, halt)?;
+    let rest = bytes.get(stop.place as usize..).unwrap_or(b"");
+    put_found(stop.reason, rest, &mut refusal.message)?;
     if stop.reason == Reason::UnknownVariant {
-        let rest = bytes.get(stop.place as usize..).unwrap_or(b"");
         put_variants(registry, container.as_str(), rest, &mut refusal.message)?;
     }
     Ok(Some(Stopped { stop, refusal }))
 }
 
 fn refusal_of(alloc: Global, reason: Reason, halt: Halt) -> Result<Refusal, AllocError> {
-    let mut message = Vec::from_slice(alloc, b"wanted ")?;
+    let mut message = Vec::from_slice(alloc, b"expected ")?;
     message.extend_from_slice(&halt.expected)?;
     Ok(Refusal::of(reason.name(), Location::Part(halt.way), message))
 }

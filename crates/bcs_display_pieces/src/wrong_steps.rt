@@ -7,15 +7,15 @@ use bcs_part_names::wrong_step;
 use std::alloc::{AllocError, Global};
 use std::str::from_utf8;
 
-/// The first invalid step of a text that isn't a name: `at --name, step 1 args: BadPath: wanted ..`.
+/// The first invalid step of a text that isn't a name: `at --name, step 1 args: BadPath: expected ..`.
 pub fn wrong_name(alloc: Global, name: &str) -> Result<Refusal, AllocError> {
     let (index, rest) = wrong_step(alloc, name)?;
     let number = (index as u64).saturating_add(1);
-    let wanted = b"wanted ., .NAME, ::NAME, ?, [NUMBER], [key:DIGITS] or [value NUMBER]";
-    bad_step(alloc, Notation::Name, number, first_of(rest), wanted)
+    let expected = b"expected ., .NAME, ::NAME, ?, [NUMBER], [key:DIGITS] or [value NUMBER]";
+    bad_step(alloc, Notation::Name, number, first_of(rest), expected)
 }
 
-// The text before the next step, as far as the signs show it.
+// The text before the next step, as far as its characters show it.
 fn first_of(rest: &[u8]) -> &str {
     let text = from_utf8(rest).unwrap_or("");
     if text.starts_with('[') {
@@ -41,7 +41,7 @@ pub fn wrong_pointer(alloc: Global, pointer: &str) -> Result<Refusal, AllocError
     let mut number: u64 = 0;
     for step in pointer.split('/') {
         if number == 0 && !step.is_empty() {
-            return bad_step(alloc, notation, 1, step, b"wanted / before each step");
+            return bad_step(alloc, notation, 1, step, b"expected / before each step");
         }
         if has_lone_tilde(step) {
             return bad_step(
@@ -49,7 +49,7 @@ pub fn wrong_pointer(alloc: Global, pointer: &str) -> Result<Refusal, AllocError
                 notation,
                 number,
                 step,
-                b"wanted ~0 for ~, or ~1 for /",
+                b"expected ~0 for ~, or ~1 for /",
             );
         }
         number = number.saturating_add(1);
@@ -63,9 +63,9 @@ fn bad_step(
     notation: Notation,
     number: u64,
     step: &str,
-    wanted: &[u8],
+    expected: &[u8],
 ) -> Result<Refusal, AllocError> {
-    let message = Vec::from_slice(alloc, wanted)?;
+    let message = Vec::from_slice(alloc, expected)?;
     Ok(Refusal {
         fault: Some("BadPath"),
         ..at_step(alloc, notation, number, step, message)?

@@ -21,6 +21,11 @@ impl<'a> Name<'a> {
     pub fn of(text: &'a str) -> Name<'a> {
         Name { text }
     }
+
+    /// The name as it is.
+    pub fn text(self) -> &'a str {
+        self.text
+    }
 }
 
 impl fmt::Display for Name<'_> {

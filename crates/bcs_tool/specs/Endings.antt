@@ -54,7 +54,7 @@ module _ {O E : Type 0} (taken : O → Option (List ℕ)) (is_failed : O → Boo
 
 -- why the system returns no arguments: one isn't UTF-8, or memory ran out
 abbrev pub IsWordsFault : LineFault → Type 0
-IsWordsFault (Usage text) = string_bytes text ≡ line_of (codes "error: a word is no UTF-8")
+IsWordsFault (Usage text) = string_bytes text ≡ line_of (codes "error: an argument isn't UTF-8")
 IsWordsFault (Help text) = ⊥
 IsWordsFault OutOfMemory = Unit {0}
 

@@ -12,7 +12,7 @@ use crate::reporting::print_report;
 use crate::running::failed;
 use crate::storing::put_in_place;
 use bcs_io::{ByteSink, ByteSource, SinkFailed, put_all};
-use bcs_tool_command_line::{Job, OpenCause, Outcome, UnreadFile, place_of_file};
+use bcs_tool_command_line::{Job, OpenCause, Outcome, place_of_output};
 use std::alloc::Global;
 
 /// Does a job, writes its answer to standard output, or to the file of `--output`, and returns the status.
@@ -114,7 +114,7 @@ fn unopened(alloc: Global, quiet: bool, name: &str, why: OpenFailed) -> Outcome
 fn unwritten(alloc: Global, quiet: bool, name: &str, cause: OpenCause) -> Outcome
     ensures { IsUnwritten quiet name.now (cause_text cause) result }
 {
-    let place = place_of_file(alloc, quiet, UnreadFile::OpenFailed(cause), name);
+    let place = place_of_output(alloc, quiet, cause, name);
     failed("fault: write", place)
 }
 

@@ -94,7 +94,7 @@ pub fn args_of<R: Env + AllocGlobal>(rt: &R) -> Result<Vec<String>, LineFault>
         Err(error) => match error.kind() {
             ErrorKind::InvalidData => Err(LineFault::Usage(String::from_str(
                 rt.alloc(),
-                "error: a word is no UTF-8\n",
+                "error: an argument isn't UTF-8\n",
             )?)),
             _ => Err(LineFault::OutOfMemory),
         },

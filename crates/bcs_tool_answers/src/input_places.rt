@@ -4,7 +4,7 @@ ghost use Rattle.bcs_tool_answers.specs.Places.{MayReport};
 use crate::blanks::{blanks_before, without_blanks};
 use crate::places::{place_in_input, reports_place};
 use base64::DecodeError;
-use bcs_display_errors::{WrongText, input_refusal, wrong_digits};
+use bcs_display_errors::{WrongText, input_refusal, wrong_input_digits};
 use bcs_tool_command_line::Work;
 use std::alloc::Global;
 
@@ -12,7 +12,7 @@ use std::alloc::Global;
 pub fn place_of_digits(alloc: Global, work: &Work, input: &[u8]) -> Vec<u8>
     ensures { MayReport work.now result.items }
 {
-    match wrong_digits(without_blanks(input)) {
+    match wrong_input_digits(without_blanks(input)) {
         Some(wrong) => place_of_input(alloc, work, input, "BadHex", wrong),
         None => Vec::new(alloc),
     }
@@ -28,23 +28,31 @@ pub fn place_of_base64(alloc: Global, work: &Work, input: &[u8], fault: DecodeEr
 
 fn wrong_base64(fault: DecodeError) -> WrongText {
     let (place, words) = match fault {
-        DecodeError::InvalidByte(place, b'=') => (Some(place), "padding where none belongs"),
-        DecodeError::InvalidByte(place, b'-' | b'_') => (
-            Some(place),
-            "a sign of the URL alphabet: wanted + and /",
-        ),
-        DecodeError::InvalidByte(place, _) => (
-            Some(place),
-            "a character that is no sign of base64",
-        ),
+        DecodeError::InvalidByte(place, byte) => (Some(place), words_for_base64(byte)),
         DecodeError::InvalidLastSymbol { offset, .. } => (
             Some(offset),
-            "bits are left over in the last character",
+            "bits are left over in the last character; a character is missing or wrong",
         ),
-        DecodeError::InvalidLength(_) => (None, "a lone character at the end"),
-        DecodeError::InvalidPadding => (None, "padding is missing"),
+        DecodeError::InvalidLength(_) => (
+            None,
+            "a lone character at the end; a character is missing, or one is too many",
+        ),
+        DecodeError::InvalidPadding => (None, "padding is missing; write = or == at the end"),
     };
     WrongText { place, words }
+}
+
+// What is wrong with a character of base64.
+fn words_for_base64(byte: u8) -> &'static str {
+    match byte {
+        b'=' => "padding where none belongs; = is only at the end",
+        b'-' | b'_' => "a character of the URL alphabet; write + for -, and / for _",
+        b'\n' | b'\r' => "a line feed; join the lines (base64 -w0), or read each with --lines",
+        b' ' | b'\t' => "a space; remove it",
+        b'{' | b'[' | b'"' => "not a base64 character; encode reads JSON",
+        0..=0x1f | 0x7f..=0xff => "not a base64 character; --raw reads bytes as they are",
+        _ => "not a base64 character",
+    }
 }
 
 fn place_of_input(

@@ -33,6 +33,11 @@ cause_text LongName = codes ": File name too long"
 cause_text BadName = codes ": Invalid argument"
 cause_text Other = []
 
+-- behind that, where a reader may have given the content in place of a name
+abbrev pub advice_text : OpenCause → List ℕ
+advice_text Missing = codes "; a value itself goes to standard input, and a registry itself starts with {"
+advice_text _ = []
+
 -- ---- the line
 
 abbrev pub file_text : List ℕ → List ℕ
@@ -53,7 +58,7 @@ take_place OutOfMemory text = []
 
 -- of the file of this name, which was not read
 abbrev pub file_place : UnreadFile → List ℕ → List ℕ
-file_place (OpenFailed cause) name = file_text name ++ cause_text cause
+file_place (OpenFailed cause) name = (file_text name ++ cause_text cause) ++ advice_text cause
 file_place (ReadFailed fault) name = take_place fault (file_text name)
 
 -- what is told of a place: it, if the job isn't quiet; or nothing

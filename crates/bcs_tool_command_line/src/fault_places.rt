@@ -1,6 +1,6 @@
 //! Where faults occurred: the line after the note.
 ghost use Rattle.std.specs.Prelude.{◌≡◌, ◌++◌, IfOk};
-ghost use Rattle.bcs_tool_command_line.specs.FaultPlaces.{ReportsPlace, cause_text, file_place, file_text, origin_text, output_text, take_place};
+ghost use Rattle.bcs_tool_command_line.specs.FaultPlaces.{ReportsPlace, advice_text, cause_text, file_place, file_text, origin_text, output_text, take_place};
 
 use crate::open_cause::OpenCause;
 use crate::origin::Origin;
@@ -9,7 +9,7 @@ use bcs_display_text::escaping::put_escaped;
 use bcs_io::TakeFault;
 use std::alloc::{AllocError, Global};
 
-/// The file of this name, which couldn't be read or written, and why it couldn't be opened. It is empty for a quiet job, if
+/// The file of this name, which couldn't be read, and why it couldn't be opened. It is empty for a quiet job, if
 /// memory ran out, or if no memory is left for it.
 pub fn place_of_file(alloc: Global, quiet: bool, unread: UnreadFile, name: &str) -> Vec<u8>
     ensures { ReportsPlace quiet (file_place unread name.now) result.items }
@@ -18,6 +18,20 @@ pub fn place_of_file(alloc: Global, quiet: bool, unread: UnreadFile, name: &str)
         return Vec::new(alloc);
     }
     match unread_line(alloc, unread, name) {
+        Ok(line) => line,
+        Err(AllocError) => Vec::new(alloc),
+    }
+}
+
+/// The file of this name, which couldn't be written, and why it couldn't be opened. It is empty for a quiet job, or if no
+/// memory is left for it.
+pub fn place_of_output(alloc: Global, quiet: bool, cause: OpenCause, name: &str) -> Vec<u8>
+    ensures { ReportsPlace quiet (file_text name.now ++ cause_text cause) result.items }
+{
+    if quiet {
+        return Vec::new(alloc);
+    }
+    match caused_line(alloc, name, cause) {
         Ok(line) => line,
         Err(AllocError) => Vec::new(alloc),
     }
@@ -54,8 +68,17 @@ fn unread_line(alloc: Global, unread: UnreadFile, name: &str) -> Result<Vec<u8>,
     }
 }
 
-// The file, and why the system couldn't open it.
+// The file, why the system couldn't open it, and what to do.
 fn unopened_line(alloc: Global, name: &str, cause: OpenCause) -> Result<Vec<u8>, AllocError>
+    ensures { IfOk result (λ line. line.items ≡ (file_text name.now ++ cause_text cause) ++ advice_text cause) }
+{
+    let mut line = caused_line(alloc, name, cause)?;
+    line.extend_from_slice(cause.advice().as_bytes())?;
+    Ok(line)
+}
+
+// The file, and why the system couldn't open it.
+fn caused_line(alloc: Global, name: &str, cause: OpenCause) -> Result<Vec<u8>, AllocError>
     ensures { IfOk result (λ line. line.items ≡ file_text name.now ++ cause_text cause) }
 {
     let mut line = file_line(alloc, name)?;

@@ -1,6 +1,6 @@
 //! Why a file couldn't be opened.
 ghost use Rattle.std.specs.Prelude.{◌≡◌};
-ghost use Rattle.bcs_tool_command_line.specs.FaultPlaces.{cause_of, cause_text};
+ghost use Rattle.bcs_tool_command_line.specs.FaultPlaces.{advice_text, cause_of, cause_text};
 
 use std::io::ErrorKind;
 
@@ -51,6 +51,17 @@ impl OpenCause {
             OpenCause::LongName => ": File name too long",
             OpenCause::BadName => ": Invalid argument",
             OpenCause::Other => "",
+        }
+    }
+
+    /// The text after that for a file that should be read: what to do with content in place of a file's name.
+    pub fn advice(self) -> &'static str
+        ensures { result.now ≡ advice_text self }
+    {
+        match self {
+            OpenCause::Missing =>
+                "; a value itself goes to standard input, and a registry itself starts with {",
+            _ => "",
         }
     }
 }

@@ -14,6 +14,7 @@ use crate::job::Job;
 use crate::line_fault::LineFault;
 use crate::misuse::{Misuse, misuse_in};
 use crate::spelling::spelled;
+use crate::tips::usage_text;
 use clap::Error;
 use clap::error::ErrorKind;
 use std::alloc::Global;
@@ -50,7 +51,7 @@ fn refusal(alloc: Global, error: &Error) -> LineFault
     if error.kind() == ErrorKind::OutOfMemory {
         return LineFault::OutOfMemory;
     }
-    let Ok(text) = error.to_string(alloc) else {
+    let Ok(text) = usage_text(alloc, error) else {
         return LineFault::OutOfMemory;
     };
     match error.kind() {

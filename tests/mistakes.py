@@ -1,0 +1,82 @@
+#!/usr/bin/env python3
+"""Makes each typical mistake of rows/mistakes.rows, and checks that the message says what to do.
+
+    tests/mistakes.py [FOLDER]
+
+FOLDER has the program `bcs`; without it, the proved one is tested, as `rt ci` or `rt run` left it. The expected words
+were written from the wording rules, and never by the program.
+"""
+
+import os
+import pathlib
+import subprocess
+import sys
+import tempfile
+from collections.abc import Iterator
+from typing import NamedTuple
+
+ROOT = pathlib.Path(__file__).resolve().parent.parent
+TABLE = ROOT / "tests/rows/mistakes.rows"
+SECONDS = 30
+# Of so many mistakes, one may have a message that doesn't say what to do.
+SPARED = 10
+PAYMENT = '{"Payment":{"STRUCT":[{"to":"STR"},{"amount":"U64"}]}}'
+KIND = '{"Kind":{"ENUM":{"0":{"Stop":"UNIT"},"1":{"Move":{"STRUCT":[{"x":"U8"}]}},"2":{"Pay":{"NEWTYPE":"U64"}}}}}'
+
+
+class Mistake(NamedTuple):
+    """What people did, the command, its status, and words of its message."""
+
+    name: str
+    command: str
+    status: int
+    words: str
+
+    def is_spared(self) -> bool:
+        """Whether its message doesn't say what to do."""
+        return self.words == "-"
+
+
+def mistakes() -> Iterator[Mistake]:
+    for line in TABLE.read_text(encoding="utf-8").splitlines():
+        if not line.startswith("#"):
+            name, command, status, words = line.split("\t")
+            yield Mistake(name, command, int(status), words)
+
+
+def faults_of(mistake: Mistake) -> Iterator[str]:
+    ended = subprocess.run(
+        ["bash", "-c", mistake.command], stdin=subprocess.DEVNULL, capture_output=True, timeout=SECONDS
+    )
+    error = ended.stderr.decode(errors="replace")
+    if ended.returncode != mistake.status:
+        yield f"{mistake.name}: status {ended.returncode}, {error}"
+    elif mistake.words == "accepted":
+        if error:
+            yield f"{mistake.name}: {error}"
+    elif not mistake.is_spared() and mistake.words not in error:
+        yield f"{mistake.name}: {error}"
+
+
+def main(folder: str) -> int:
+    program = pathlib.Path(folder).resolve() / "bcs"
+    os.chdir(ROOT)
+    if not os.access(program, os.X_OK):
+        sys.exit(f"mistakes: FAILED: {program} isn't a program")
+    registries = {"A": "examples/aptos_registry.json", "S": "examples/sui_registry.json", "P": PAYMENT, "E": KIND}
+    os.environ |= registries | {"PATH": f"{program.parent}:{os.environ['PATH']}", "LC_ALL": "C"}
+    rows = list(mistakes())
+    with tempfile.TemporaryDirectory() as room:
+        os.environ["T"] = room
+        faults = [fault for mistake in rows for fault in faults_of(mistake)]
+    spared = sum(mistake.is_spared() for mistake in rows)
+    if spared * SPARED > len(rows):
+        faults.append(f"{spared} of {len(rows)} messages don't say what to do")
+    for fault in faults:
+        print(f"mistakes: FAILED: {fault}")
+    print(f"mistakes: {len(rows)} tried, {len(faults)} failed; {spared} messages don't say what to do")
+    return 0 if rows and not faults else 1
+
+
+if __name__ == "__main__":
+    sys.exit(main(sys.argv[1] if len(sys.argv) > 1 else str(ROOT / "crates/bcs/out")))
