@@ -54,18 +54,18 @@ def place_of_job(driver: Driver, name: str, words: list[str], wanted: str) -> tu
     words = words[len(options) :]
     of_registry = place_told(driver, "registry_place", bytes_of(words[line["of"] == "NEW"]))
     if name in ON_REGISTRIES or of_registry:
-        return Place(unescaped(line["place"]), line["words"]), of_registry
+        return as_told(line), of_registry
     given = words[3 if name == "part" else 2 :]
     limits = given[2 if name == "same" else 1 :] or STANDARD_LIMITS
     question, data = (bytes_of(words[0]), format_of(words[1]), *limits), bytes_of(given[line["of"] == "B"])
     if name not in ON_BYTES:
-        return as_told_of_text(line), place_told(driver, "text_place", *question, data)
+        return as_told(line), place_told(driver, "text_place", *question, data)
     data = data if "--raw" in options else bytes_of_digits(data)
     return Place(line["place"], LIMIT.sub("", line["words"])), place_told(driver, "stop_place", *question, data)
 
 
-def as_told_of_text(line: re.Match[str]) -> Place:
-    """The calls tell a pointer, and line and column of what is no JSON in the words."""
+def as_told(line: re.Match[str]) -> Place:
+    """The place that the calls report. They report the line and the column of text that isn't JSON in the message."""
     place, words = line["place"], LIMIT.sub("", line["words"])
     if place.startswith("line "):
         return Place("", f"{place}: {words}")

@@ -280,9 +280,8 @@ bcs_answer bcs_handle_example(bcs_handle *handle, const uint8_t *format, size_t 
 bcs_answer bcs_handle_show(bcs_handle *handle, uint32_t form, const uint8_t *name, size_t name_length, uint8_t *out,
                            size_t out_length);
 
-/* The same for a registry: BCS_DONE, or BCS_NO if it is valid. The place is that of bcs_registry_place, but with names as they are:
-   Shape, variant 2 Circle, field side. It is empty if the whole registry is refused. If it isn't JSON, the message begins with the
-   line and the column. */
+/* The same for a registry: BCS_DONE, or BCS_NO if it is valid: what bcs_registry_place writes with BCS_WHERE, a NUL, and with
+   BCS_WANTED. */
 bcs_answer bcs_registry_refusal(const uint8_t *registry, size_t registry_length, uint8_t *out, size_t out_length);
 
 /* The same for a format. The place is a JSON Pointer into it, which is empty for the whole format: /SEQ, a NUL, expected a format. The

@@ -44,7 +44,7 @@ static const struct refused registries[] = {
     ROW("", "{\"S\":{\"ENUM\":{\"x\":{\"A\":\"UNIT\"}}}}", "/S/ENUM/x", "expected the number of a variant: below 4294967296, in decimal digits without leading zeros"),
     ROW("", "{\"S\":{\"STRUCT\":[{\"side\":{\"TYPENAME\":\"Sid\"}}]}}", "S, field side", "no container is called Sid"),
     ROW("", "{\"S\":{\"STRUCT\":[{\"a\":\"U8\"},{\"a\":\"U8\"}]}}", "S", "two fields are called a"),
-    ROW("", "7", "the whole text", "expected an object of containers, found 7"),
+    ROW("", "7", "", "expected an object of containers, found 7"),
 };
 
 /* What is refused besides a text and bytes, and which fault it has. Names look like the program's lines, aren't ASCII, or are long. */

@@ -118,7 +118,7 @@ pub(crate) fn place_of_stop(
     ensures untouched { result.status ≢ status_number Done → out.new ≡ out.old }
 {
     match stop_refusal(alloc, asked.registry, asked.format, &asked.limits, bytes) {
-        Ok(Some(stopped)) => match half_of(alloc, what, stopped.refusal) {
+        Ok(Some(stopped)) => match half_of(alloc, what, &stopped.refusal) {
             Ok(half) => put(&half, out),
             Err(AllocError) => Answer::plain(Status::Memory),
         },
@@ -127,12 +127,12 @@ pub(crate) fn place_of_stop(
     }
 }
 
-/// The place of a refusal as the program prints it, or with 1 the message.
-fn half_of(alloc: Global, what: u32, refusal: Refusal) -> Result<Vec<u8>, AllocError> {
+/// The place of a refusal, or with 1 the message.
+fn half_of(alloc: Global, what: u32, refusal: &Refusal) -> Result<Vec<u8>, AllocError> {
     if what == WANTED {
-        Ok(refusal.message)
+        refusal.words(alloc)
     } else {
-        refusal.shown_place(alloc)
+        refusal.place(alloc)
     }
 }
 
@@ -168,5 +168,5 @@ fn told_of_registry(
     fault: RegistryFault,
 ) -> Option<Vec<u8>> {
     let refusal = registry_refusal(alloc, text, fault).ok()??;
-    half_of(alloc, what, refusal).ok()
+    half_of(alloc, what, &refusal).ok()
 }

@@ -99,11 +99,4 @@ impl Refusal {
         words.extend_from_slice(&self.message)?;
         Ok(words)
     }
-
-    /// The text of the location, as the line shows it.
-    pub fn shown_place(&self, alloc: Global) -> Result<Vec<u8>, AllocError> {
-        let mut place = Vec::new(alloc);
-        self.location.put(Spelling::Shown, &mut place)?;
-        Ok(place)
-    }
 }
