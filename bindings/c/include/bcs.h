@@ -196,8 +196,9 @@ bcs_answer bcs_stop_place(const uint8_t *registry, size_t registry_length, const
                           uint32_t depth, uint32_t nodes, uint32_t what, const uint8_t *bytes, size_t bytes_length,
                           uint8_t *out, size_t out_length);
 
-/* Where the text of a registry is refused: BCS_DONE, or BCS_NO if it isn't. With BCS_WHERE it is the place as the program
-   `bcs` prints it: Shape, variant 2 Circle, field side. It is printable ASCII. */
+/* Where the text of a registry is refused: BCS_DONE, or BCS_NO if it isn't. With BCS_WHERE it is a definition, with names as they are:
+   Shape, variant 2 Circle, field side; or a JSON Pointer; or nothing if the whole text is refused. If it isn't JSON, the text of
+   BCS_WANTED begins with the line and the column. */
 bcs_answer bcs_registry_place(uint32_t what, const uint8_t *registry, size_t registry_length, uint8_t *out,
                               size_t out_length);
 
