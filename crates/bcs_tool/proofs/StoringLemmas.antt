@@ -19,6 +19,11 @@ unstored_stage empty last name (inl h) (inr next) = inl (true, next ∙ ap (λ (
 unstored_stage empty last name (inr h) (inl next) = inr (next ∙ ap unsynced h)
 unstored_stage empty last name (inr h) (inr next) = inr (next ∙ ap (λ (at : Stage). synced (unsynced at)) h)
 
+-- all bytes were written, and then a call failed
+part_stage : (old mid new : Stage) → mid ≡ unsynced old → (new ≡ mid) ⊎ (new ≡ synced mid) → (new ≡ unsynced old) ⊎ (new ≡ synced (unsynced old))
+part_stage old mid new next (inl h) = inl (h ∙ next)
+part_stage old mid new next (inr h) = inr (h ∙ ap synced next)
+
 module _ {T : Type 0} (stage : T → Stage) (received : T → Option (List ℕ)) {A E : Type 0} (bytes : List ℕ) (old mid new : T) (got : Receives stage received bytes old mid) where
   -- all bytes were written, and then the file got its name
   pub put_all : (r : Result A E) → IfOk r (λ (x : A). IsCommitted stage received mid new) → IfOk r (λ (x : A). IsPut stage received bytes old new)
@@ -27,10 +32,6 @@ module _ {T : Type 0} (stage : T → Stage) (received : T → Option (List ℕ))
     next = is.0 ∙ ap (λ (at : Stage). renamed (synced at)) got.next;
   }
   put_all (Err e) is = tt
-
-  part_stage : (stage new ≡ stage mid) ⊎ (stage new ≡ synced (stage mid)) → (stage new ≡ unsynced (stage old)) ⊎ (stage new ≡ synced (unsynced (stage old)))
-  part_stage (inl h) = inl (h ∙ got.next)
-  part_stage (inr h) = inr (h ∙ ap synced got.next)
 
   -- all bytes were written, and then a call failed
   pub put_part : (r : Result A E) → IfErr r (λ (e : E). IsCommittedInPart stage received mid new) → IfErr r (λ (e : E). IsPutInPart stage received bytes old new)
@@ -41,5 +42,5 @@ module _ {T : Type 0} (stage : T → Stage) (received : T → Option (List ℕ))
       record {
         n = length bytes;
         appended = subst (λ (known : Option (List ℕ)). Appends (received old) known (take (length bytes) bytes)) (sym is.1) all;
-        next = part_stage is.0;
+        next = part_stage (stage old) (stage mid) (stage new) got.next is.0;
       }

@@ -26,4 +26,4 @@ returns-in-Err-put_in_place-clause-fault g c =
       n = part.n;
       appended = part.appended;
       last = unstored_stage _ _ _ c.in_default.ensures.opened part.next;
-    }) c.unwritten-in-Err-put_in_place.ensures
+    }) c.unwritten.ensures
