@@ -66,7 +66,7 @@ SELECT told($$bcs_part('{}', '"U8"', '\x07', '0x')$$);
 SELECT told($$bcs_part_by_name('{}', '"U8"', '\x07', 'x')$$);
 SELECT told($$bcs_part_by_pointer('{}', '"U8"', '\x07', '/~2')$$);
 SELECT told($$bcs_explain('{}', '"U8"', '\x07', 'xml')$$);
--- Where a text or a registry is refused, and as a detail what was wanted there. Names are told in ASCII, also those that would
+-- Where a text or a registry is refused, and as a detail what was expected there. Names are in ASCII, also those that would
 -- break the line.
 SELECT bcs_encode_json('{"A":{"STRUCT":[{"a/~":{"SEQ":"BYTES"}}]}}', 'A', '{"a/~":["00","0"]}');
 SELECT bcs_encode('{"A":{"STRUCT":[{"a/~":{"SEQ":"BYTES"}}]}}', 'A', '{"a/~":["00","0"]}');

@@ -217,7 +217,7 @@ fn faults_turn_into_errors() {
     );
 }
 
-/// Where something is refused and what was wanted there, as the program `bcs` says it.
+/// Where something is refused and what was expected there, as the program `bcs` says it.
 #[test]
 fn errors_tell_the_place() {
     let text = r#"{"Point":{"STRUCT":[{"x":"U8"},{"~/":{"SEQ":"BYTES"}}]},"Shape":{"ENUM":{"2":{"Circle":{"NEWTYPE":"U64"}}}}}"#;

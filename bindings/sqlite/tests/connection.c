@@ -171,11 +171,11 @@ static void hostile(void) {
     is_error(database, "select bcs_encode('{}','\"STR\"',cast(x'226100622200' as text))",
              "bcs: refused: NotJson: line 1, column 3: a NUL byte; remove it");
     is_error(database, "select bcs_is(x'7b00','\"U8\"',x'07')",
-             "bcs: refused: NotJson in the registry at line 1, column 2: a NUL byte; remove it");
+             "bcs: refused: NotJson in the registry: line 1, column 2: a NUL byte; remove it");
     closed(database);
 }
 
-/* Where a text or a registry is refused, and what was wanted there; names that would break a line or end the text of C. */
+/* Where a text or a registry is refused, and what was expected there; names that would break a line or end the text of C. */
 static void places(void) {
     sqlite3 *database = opened();
     is_error(database, "select bcs_equal('{}','{\"SEQ\":\"U8\"}','[1]','[1,256]')",
