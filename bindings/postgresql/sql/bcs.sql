@@ -74,6 +74,7 @@ SELECT bcs_normalise(payments(), 'Payment', '{"to":"bob"}');
 SELECT bcs_equal('{}', '{"SEQ":"U8"}', '[1]', '[1,256]');
 SELECT bcs_encode_json('{"A":{"STRUCT":[{"\u0000\n\\\"%sé\u20ac\ud83d\ude00":"U8"}]}}', 'A', '{"\u0000\n\\\"%sé\u20ac\ud83d\ude00":true}');
 SELECT bcs_is('{"é":{"STRUCT":[{"x":{"TYPENAME":"\n%s"}}]}}', '"U8"', '\x07');
+SELECT bcs_is('{"a~é/\u0000":{"STRUCT":[{"\n":{"TYPENAME":"Z"}}]}}', '"U8"', '\x07');
 SELECT bcs_is('7', '"U8"', '\x07');
 -- A name is cut at 200 signs, and so long a pointer has more room than at first.
 SELECT replace(told(format($$bcs_encode_json('{"A":{"STRUCT":[{"%1$s":"U8"}]}}', 'A', '{"%1$s":true}')$$, repeat('~', 201))), repeat('~0', 200), '..');

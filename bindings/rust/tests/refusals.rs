@@ -226,7 +226,7 @@ fn errors_tell_the_place() {
         ("Point", r#"{"x":1,"~/":["","0"]}"#, "/~0~1/1", "an odd number of digits; each byte has two"),
         ("Point", r#"{"x":256,"~/":[]}"#, "/x", "found 256, expected an integer from 0 to 255 (U8)"),
         ("Point", r#"{"x":1}"#, "", "no member is called ~/"),
-        ("Shape", r#"{"Circle":true}"#, "/Circle", "expected an integer from 0 to 18446744073709551615 (U64)"),
+        ("Shape", r#"{"Circle":true}"#, "/Circle", "found true, expected an integer from 0 to 18446744073709551615 (U64)"),
         (r#"{"MAP":{"KEY":"U8","VALUE":"U8"}}"#, "[[1,2],[1,3]]", "", "two keys of a map are equal"),
         (r#""U8""#, "x", "", "line 1, column 1: text belongs in double quotes"),
     ];

@@ -410,7 +410,7 @@ function tellVerdict(state, strong, text, ...between) {
 
 /** From where to where the JSON goes that is refused, if that is told. */
 function rangeOf(text, { reason, at, detail }) {
-  const told = /line (\d+), column (\d+)/.exec(reason === 'NotJson' ? `${at} ${detail}` : '');
+  const told = /^line (\d+), column (\d+): /.exec(reason === 'NotJson' ? detail : '');
   if (told) return rangeOfLine(text, Number(told[1]), Number(told[2]));
   return reason !== 'NotJson' && at?.startsWith('/') ? rangeAt(text, at) : undefined;
 }

@@ -335,9 +335,9 @@ test('where something is refused, and what was expected there', () => {
   assert.throws(() => registry.encode('Point', { x: 256, '~/': [] }), told('/x', `found 256, ${expected}`));
   assert.throws(() => registry.normaliseText('Point', '{"x":1}'), told('', 'no member is called ~/'));
   assert.throws(() => registry.equalText('Point', '{"x":1,"~/":[]}', '{"x":"","~/":[]}'), told('/x', `found "", ${expected}`));
-  assert.throws(() => registry.decode('Point', [7, 1, 2, 5]), told('.~/[0]', 'expected 2 bytes of BYTES'));
-  assert.throws(() => registry.scan('Point', [7, 1, 2, 5]), told('.~/[0]', 'expected 2 bytes of BYTES'));
-  assert.throws(() => registry.part('Point', [7, 1, 2, 5], '.'), told('.~/[0]', 'expected 2 bytes of BYTES'));
+  assert.throws(() => registry.decode('Point', [7, 1, 2, 5]), told('.~/[0]', 'expected 2 bytes of BYTES, found the end of the input'));
+  assert.throws(() => registry.scan('Point', [7, 1, 2, 5]), told('.~/[0]', 'expected 2 bytes of BYTES, found the end of the input'));
+  assert.throws(() => registry.part('Point', [7, 1, 2, 5], '.'), told('.~/[0]', 'expected 2 bytes of BYTES, found the end of the input'));
   for (const call of [() => registry.check('Line'), () => registry.encode('Line', 7), () => registry.decode('Line', []), () => registry.schema('Line')]) {
     assert.throws(call, { kind: 'format', at: '', detail: /^no container is called Line/ });
   }
