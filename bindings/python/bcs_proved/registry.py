@@ -409,7 +409,7 @@ class Registry:
         question = self._question(format, limits, data)
         answer = question.ask("bcs_handle_part_named", notation, text, len(text), data, len(data))
         if answer.status == Status.PATH:
-            raise PathError("BadPath", message=f"wanted {_NOTATIONS[notation]}")
+            raise PathError("BadPath", message=f"expected {_NOTATIONS[notation]}")
         return self._part(question, answer, data)
 
     def _part(self, question: Question, answer: Answer, data: bytes) -> Optional[Part]:
