@@ -1,16 +1,36 @@
 //! Bytes as hexadecimal digits.
 
+/// The two lower-case digits of each byte.
+#[cfg(any(feature = "serde_json", test))]
+const PAIRS: [[u8; 2]; 256] = {
+    const DIGITS: &[u8; 16] = b"0123456789abcdef";
+    let mut pairs = [[0; 2]; 256];
+    let mut byte = 0;
+    while byte < 256 {
+        pairs[byte] = [DIGITS[byte >> 4], DIGITS[byte & 15]];
+        byte += 1;
+    }
+    pairs
+};
+
 /// Adds two lower-case digits for each byte.
 #[cfg(any(feature = "serde_json", test))]
 pub(crate) fn push_digits(out: &mut String, bytes: &[u8]) {
-    const DIGITS: &[u8; 16] = b"0123456789abcdef";
-    let mut room = [0; 512];
-    for bytes in bytes.chunks(room.len() / 2) {
-        for (pair, byte) in room.chunks_exact_mut(2).zip(bytes) {
-            pair.copy_from_slice(&[DIGITS[usize::from(byte >> 4)], DIGITS[usize::from(byte & 15)]]);
+    let mut room = [[0; 2]; 256];
+    out.reserve(2 * bytes.len());
+    for bytes in bytes.chunks(room.len()) {
+        let pairs = &mut room[..bytes.len()];
+        for (pair, byte) in pairs.iter_mut().zip(bytes) {
+            *pair = PAIRS[usize::from(*byte)];
         }
-        out.push_str(std::str::from_utf8(&room[..2 * bytes.len()]).expect("digits are ASCII"));
+        out.push_str(std::str::from_utf8(pairs.as_flattened()).expect("digits are ASCII"));
     }
+}
+
+/// Adds the two digits of a byte.
+#[cfg(feature = "serde_json")]
+pub(crate) fn push_byte(out: &mut String, byte: u8) {
+    out.extend(PAIRS[usize::from(byte)].map(char::from));
 }
 
 /// The bytes of digits of either case, two for each byte. `None`: these aren't such digits.
