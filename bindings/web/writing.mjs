@@ -11,9 +11,12 @@ const MOST_NESTED = 100;
 const MOST_OPEN = 500;
 // An array may have a length of billions and take no memory, and a value may hold another one many times.
 const MOST_COUNTED = 1_000_000;
-const MOST_JSON = 1 << 30;
+// (about the longest string of V8, so that what is encoded can be decoded)
+const MOST_JSON = 1 << 29;
 const MOST_SHOWN = 80;
 const BITS_SHOWN = 512;
+// JSON has such a string as it is.
+const PLAIN_TEXT = /^[ !#-[\]-~]{0,200}$/;
 const OCTET = { kind: 'INTEGER', name: 'U8' };
 const TAKES = {
   INTEGER: 'an integer',
@@ -119,7 +122,7 @@ class Writer {
   #option(shape, value) {
     if (!this.#shapes.isPlainOption(shape) || value === undefined) return this.#members(shape, value);
     const inner = shape.members.get('some');
-    if (typeof value !== 'object' || tagOf(value) !== 'Object') return this.#some(() => this.#value(inner, value));
+    if (!hasMembers(value)) return this.#some(() => this.#value(inner, value));
     const names = Object.keys(value);
     const isExact = (names.length === 1 && names[0] === 'some') || !this.#shapes.hasMembers(inner);
     return isExact ? this.#members(shape, value, names) : this.#some(() => this.#object(inner, value, names));
@@ -128,7 +131,9 @@ class Writer {
   #some(write) {
     this.#nest();
     this.#out.put('{"some":');
-    this.#within('some', write);
+    this.#path.push('some');
+    write();
+    this.#path.pop();
     this.#out.put('}');
   }
 
@@ -170,7 +175,7 @@ class Writer {
   }
 
   #members(shape, value, known) {
-    if (typeof value !== 'object' || tagOf(value) !== 'Object') this.#reject(shape, value);
+    if (!hasMembers(value)) this.#reject(shape, value);
     this.#nest();
     const names = known ?? Object.keys(value);
     if (shape.kind === 'STRUCT' && shape.members.size + names.length === 0 && !isEmpty(value)) {
@@ -183,11 +188,13 @@ class Writer {
 
   #member(shape, value, name, comma) {
     const text = stringText(name) ?? this.#reject(shape, value, 'one with a lone surrogate in a name');
-    this.#out.put(`${comma}${text}:`);
     const part = shape.members.get(name);
-    if (part === undefined) return this.#out.put('null');
+    if (part === undefined) return this.#out.put(`${comma}${text}:null`);
+    this.#out.put(`${comma}${text}:`);
     const held = value[name];
-    return this.#within(name, () => this.#value(part, held));
+    this.#path.push(name);
+    this.#value(part, held);
+    return this.#path.pop();
   }
 
   /** The path has a step for each open array or object. A value within itself ends here, too. */
@@ -196,16 +203,10 @@ class Writer {
     throw this.#error('TooNested', `arrays and objects nest more than ${MOST_NESTED} deep`);
   }
 
-  #within(step, write) {
-    this.#path.push(step);
-    write();
-    this.#path.pop();
-  }
-
   /** Values that hold others many times end here: they take little memory, and their JSON much. */
   #count() {
     if (this.#nodes-- === 0) throw this.#error('TooManyNodes', 'the value has more nodes than the limits allow');
-    if (this.#out.length > MOST_JSON) throw this.#error('TooLong', 'the JSON of the value is above 1 GiB');
+    if (this.#out.length > MOST_JSON) throw this.#error('TooLong', 'the JSON of the value is above 512 MiB');
   }
 
   #text(shape, value) {
@@ -298,7 +299,12 @@ function isLong(number) {
   return BigInt.asIntN(BITS_SHOWN, number) !== number;
 }
 
-/** What `Object.prototype.toString` says: `Date` for a date, `Object` for plain objects and instances of most classes. */
+/** Whether this is a plain object or an instance of most classes, by what `Object.prototype.toString` says. */
+function hasMembers(value) {
+  return typeof value === 'object' && Object.prototype.toString.call(value) === '[object Object]';
+}
+
+/** What `Object.prototype.toString` says: `Date` for a date. */
 function tagOf(object) {
   return Object.prototype.toString.call(object).slice('[object '.length, -1);
 }
@@ -317,5 +323,6 @@ function entriesOf(map) {
 
 /** The JSON of a string, or `undefined` where a lone surrogate is in it, which UTF-8 doesn't have. */
 function stringText(string) {
+  if (PLAIN_TEXT.test(string)) return `"${string}"`;
   return isWellFormed(string) ? JSON.stringify(string) : undefined;
 }

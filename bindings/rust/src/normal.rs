@@ -16,20 +16,24 @@ impl<'t> Normal<'t> {
     }
 
     /// The byte at this offset, or 0 at the end.
+    #[inline]
     pub(crate) fn sign(&self, place: usize) -> u8 {
         self.text.as_bytes().get(place).copied().unwrap_or_default()
     }
 
+    #[inline]
     pub(crate) fn has(&self, place: usize, part: &str) -> bool {
         self.text.as_bytes().get(place..).is_some_and(|rest| rest.starts_with(part.as_bytes()))
     }
 
     /// Notes where a value ends that was read.
+    #[inline]
     pub(crate) fn note(&self, start: usize, end: usize) {
         self.last.set((start, end));
     }
 
     /// Where the value ends that begins here.
+    #[inline]
     pub(crate) fn end_of(&self, start: usize) -> usize {
         match self.last.get() {
             (last, end) if last == start => end,
@@ -38,6 +42,7 @@ impl<'t> Normal<'t> {
     }
 
     /// Where the next element or member begins, or the sign that ends the list.
+    #[inline]
     pub(crate) fn next(&self, start: usize) -> usize {
         let end = self.end_of(start);
         end + usize::from(self.sign(end) == b',')
@@ -114,7 +119,8 @@ mod tests {
 
     #[test]
     fn values_end_where_they_end() {
-        let texts = ["null", "true", "-17", r#""""#, r#""a\"\\""#, r#""\\\\""#, r#""é[{""#, "[]", "{}", r#"[[],{"]":"\"]"}]"#];
+        let texts =
+            ["null", "true", "-17", r#""""#, r#""a\"\\""#, r#""\\\\""#, r#""é[{""#, "[]", "{}", r#"[[],{"]":"\"]"}]"#];
         for value in texts {
             for behind in ["", ",1]", "}", "]"] {
                 let text = format!("[{value}{behind}");

@@ -85,6 +85,7 @@ fn visit_text<'de, V: Visitor<'de>>(text: Cow<str>, visitor: V) -> Result<V::Val
 }
 
 impl<'w> Reader<'w> {
+    #[inline]
     fn entered(self) -> Reader<'w> {
         Reader { at: self.at.entered(), ..self }
     }
@@ -101,6 +102,17 @@ impl<'w> Reader<'w> {
     fn visit_as_requested<'de, V: Visitor<'de>>(self, visitor: V) -> Result<V::Value, Mismatch> {
         let shape = self.at.shape;
         self.visit(visitor).map_err(|error: Mismatch| error.of_format(shape))
+    }
+
+    /// An integer type has to hold all numbers of the format, whatever this one is. The bytes of `BYTES` are each a `u8`, and no
+    /// other integer.
+    fn visit_integer_as<'de, V: Visitor<'de>>(self, integer: Integer, visitor: V) -> Result<V::Value, Mismatch> {
+        let reader = self.entered();
+        match reader.at.shape {
+            Shape::Integer(format) if !integer.holds(*format) => Err(Mismatch::narrow(integer.rust, format.format)),
+            Shape::Octet if integer != U8 => reader.unfit(&integer.found()),
+            _ => reader.visit_as_requested(visitor),
+        }
     }
 
     fn visit<'de, V: Visitor<'de>>(self, visitor: V) -> Result<V::Value, Mismatch> {
@@ -177,15 +189,8 @@ fn text_at<'t>(normal: &Normal<'t>, start: usize) -> Result<Cow<'t, str>, Mismat
 
 macro_rules! integers {
     ($($name:ident: $integer:ident,)*) => {
-        /// An integer type has to hold all numbers of the format, whatever this one is. The bytes of `BYTES` are each a `u8`, and
-        /// no other integer.
         $(fn $name<V: Visitor<'de>>(self, visitor: V) -> Result<V::Value, Mismatch> {
-            let (reader, integer) = (self.entered(), integers::$integer);
-            match reader.at.shape {
-                Shape::Integer(format) if !integer.holds(*format) => Err(Mismatch::narrow(integer.rust, format.format)),
-                Shape::Octet if integer != U8 => reader.unfit(&integer.found()),
-                _ => reader.visit_as_requested(visitor),
-            }
+            self.visit_integer_as(integers::$integer, visitor)
         })*
     };
 }
@@ -224,7 +229,15 @@ impl<'de> Deserializer<'de> for Reader<'_> {
 
     integers! {
         deserialize_i8: I8, deserialize_i16: I16, deserialize_i32: I32, deserialize_i64: I64, deserialize_i128: I128,
-        deserialize_u8: U8, deserialize_u16: U16, deserialize_u32: U32, deserialize_u64: U64, deserialize_u128: U128,
+        deserialize_u16: U16, deserialize_u32: U32, deserialize_u64: U64, deserialize_u128: U128,
+    }
+
+    /// Most often a byte of a byte string.
+    fn deserialize_u8<V: Visitor<'de>>(self, visitor: V) -> Result<V::Value, Mismatch> {
+        match self.json {
+            Json::Byte(byte) => visitor.visit_u8(byte).map_err(|error: Mismatch| error.of_format(self.at.shape)),
+            _ => self.visit_integer_as(U8, visitor),
+        }
     }
 
     nothing! { deserialize_f32: "an f32", deserialize_f64: "an f64", deserialize_char: "a char", }
@@ -353,6 +366,7 @@ enum Values<'w> {
 }
 
 impl<'w> Values<'w> {
+    #[inline]
     fn peek(&self) -> Option<Json<'w>> {
         match self {
             Values::Json(normal, place) => (normal.sign(*place) != b']').then_some(Json::Value(normal, *place)),
@@ -360,6 +374,7 @@ impl<'w> Values<'w> {
         }
     }
 
+    #[inline]
     fn advance(&mut self) {
         match self {
             Values::Json(normal, place) => *place = normal.next(*place),

@@ -66,6 +66,7 @@ impl<'w> Writer<'w> {
         self.put_by(kind, found, |out| out.push_str(json))
     }
 
+    #[inline]
     fn put_by(self, kind: Kind, found: &str, put: impl FnOnce(&mut String)) -> Result<(), Mismatch> {
         match self.at.entered().shape {
             Shape::Void => self.out.push_str(NO_VALUE),
@@ -235,6 +236,7 @@ impl<'w> Serializer for Writer<'w> {
         false
     }
 
+    #[inline]
     fn serialize_u8(self, number: u8) -> Result<(), Mismatch> {
         match self.at.shape {
             Shape::Octet | Shape::Integer(U8) if self.is_octet => hex::push_byte(self.out, number),

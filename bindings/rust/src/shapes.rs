@@ -70,11 +70,13 @@ impl Members {
     }
 
     /// The member of this name. It is found fastest if it is the next one in the order of the registry.
+    #[inline]
     pub(crate) fn find(&self, name: &str, next: usize) -> Option<&Member> {
         self.find_sorted(name, self.places.get(next).copied().unwrap_or_default())
     }
 
     /// The same for the next one in the order of names.
+    #[inline]
     pub(crate) fn find_sorted(&self, name: &str, next: usize) -> Option<&Member> {
         self.sorted.get(next).filter(|member| member.name == name).or_else(|| {
             let place = self.sorted.binary_search_by(|member| member.name.as_str().cmp(name)).ok()?;
@@ -247,11 +249,13 @@ impl<'w> At<'w> {
     }
 
     /// At another format of the same level: a variant's payload, or a name.
+    #[inline]
     pub(crate) fn to(self, shape: &'w Shape) -> At<'w> {
         At { shape, ..self }
     }
 
     /// At a part. Each level calls the code of a type, so the stack is checked every few levels, except at the last one.
+    #[inline]
     pub(crate) fn part(self, shape: &'w Shape) -> Result<At<'w>, Mismatch> {
         let levels = self.levels + 1;
         if levels % 8 == 0 && !matches!(shape, Shape::Integer(_) | Shape::Octet) && !(self.walk.has_stack)() {
@@ -261,6 +265,7 @@ impl<'w> At<'w> {
     }
 
     /// At what the containers hold that open here.
+    #[inline]
     pub(crate) fn entered(mut self) -> At<'w> {
         while let Shape::Name(place) = self.shape {
             self.shape = if self.depth > 0 { &self.walk.shapes.containers[*place] } else { &VOID };
