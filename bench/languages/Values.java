@@ -20,7 +20,7 @@ import java.util.function.Supplier;
 /** Times the calls of bindings/java for bench/values.py: {@code java Values EXAMPLES}. */
 public final class Values {
     private static final int RUNS = 7;
-    private static final long RUN = 100_000_000; // nanoseconds that a run takes
+    private static final long RUN = 300_000_000; // nanoseconds that a run takes. The clock ticks every 10,000,000
     private static final long WARMING = 1_500_000_000;
     private static final byte ENTRY_FUNCTION = 2;
     private static final byte STRUCT = 7;
@@ -209,7 +209,7 @@ public final class Values {
             measure(10, call);
         }
         int count = 1;
-        while (measure(count, call) < RUN / 10) {
+        while (measure(count, call) < RUN / 3) {
             count *= 2;
         }
         count = (int) (count * RUN / measure(count, call)) + 1;
@@ -229,7 +229,7 @@ public final class Values {
     private static void transfer(Path examples) throws Exception {
         String format = "RawTransaction";
         byte[] chain = Files.readAllBytes(examples.resolve("aptos_registry.json"));
-        byte[] text = Files.readAllBytes(examples.resolve("aptos_transfer.json"));
+        String text = Files.readString(examples.resolve("aptos_transfer.json"));
         byte[] data = HexFormat.of().parseHex(Files.readString(examples.resolve("aptos_transfer.hex")).strip());
         try (Registry registry = Registry.open(chain, Names.STANDARD.withAddresses("AccountAddress"))) {
             Transaction value = registry.decode(format, data, Transaction.class);

@@ -8,11 +8,19 @@ const FIRST = Uint16Array.from({ length: 128 }, (_, code) => valueOfDigit(code, 
 const SECOND = Uint16Array.from({ length: 128 }, (_, code) => valueOfDigit(code, 1));
 // Appending to a string costs memory for each piece, so more bytes than this become an array of digits first.
 const FEW = 256;
+// Node has more bytes than half of this in a buffer of their own.
+const LONG = 1 << 15;
 const ascii = new TextDecoder();
 
 function valueOfDigit(code, factor) {
   const character = String.fromCharCode(code);
   return /[0-9a-fA-F]/.test(character) ? parseInt(character, 16) * factor : NONE;
+}
+
+/** The same by Node, which is several times as fast, and ends before what isn't a digit. */
+function byNode(digits) {
+  const { buffer, byteOffset, length } = globalThis.Buffer.from(digits, 'hex');
+  return 2 * length === digits.length ? new Uint8Array(buffer, byteOffset, length) : undefined;
 }
 
 /** Two digits for each byte, in lower case. */
@@ -41,6 +49,7 @@ export function hex(digits) {
 
 /** The bytes of digits of either case, or `undefined` where the text is no even number of digits. */
 export function bytesOfHex(digits) {
+  if (digits.length > LONG && globalThis.Buffer !== undefined) return byNode(digits);
   const bytes = new Uint8Array(digits.length >> 1);
   let all = digits.length % 2 === 0 ? 0 : NONE;
   for (let i = 0; i < bytes.length; i++) {

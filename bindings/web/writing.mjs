@@ -2,7 +2,7 @@
 // JSON, which rejects a document that is not a value's.
 import { BcsError } from './errors.mjs';
 import { JsonOutput } from './json_output.mjs';
-import { bytesOfAddress, bytesOfWide } from './move_types.mjs';
+import { bytesOfWide, digitsOfAddress } from './move_types.mjs';
 import { copyOfBytes, copyOfIntegers, isMap } from './octets.mjs';
 import { isWellFormed } from './texts.mjs';
 
@@ -69,7 +69,7 @@ class Writer {
     this.#count();
     switch (shape.kind) {
       case 'TYPENAME':
-        return this.#container(shape.name, (held) => this.#value(held, value));
+        return this.#held(shape, value);
       case 'OPTION':
         return value === null ? this.#out.put('null') : this.#option(shape, value);
       case 'SEQ':
@@ -111,11 +111,16 @@ class Writer {
   }
 
   /** Writes what a container holds. */
-  #container(name, write) {
+  #held(shape, value) {
     if (this.#open === MOST_OPEN) return this.#out.put('null');
     this.#open++;
-    write(this.#shapes.container(name));
-    this.#open--;
+    this.#value(this.#containerOf(shape), value);
+    return this.#open--;
+  }
+
+  #containerOf(shape) {
+    shape.held ??= this.#shapes.container(shape.name);
+    return shape.held;
   }
 
   /** `{ some: value }`, or the value alone where it can't be mistaken for that. The names of members are read once. */
@@ -140,7 +145,10 @@ class Writer {
   /** A struct or a variant, perhaps within containers, whose members have these names. */
   #object(shape, value, names) {
     if (shape.kind !== 'TYPENAME') return this.#members(shape, value, names);
-    return this.#container(shape.name, (held) => this.#object(held, value, names));
+    if (this.#open === MOST_OPEN) return this.#out.put('null');
+    this.#open++;
+    this.#object(this.#containerOf(shape), value, names);
+    return this.#open--;
   }
 
   #list(shape, value) {
@@ -182,15 +190,17 @@ class Writer {
       this.#reject(shape, value, 'a class instance or one with hidden members');
     }
     this.#out.put('{');
-    names.forEach((name, i) => this.#member(shape, value, name, i === 0 ? '' : ','));
+    for (let i = 0; i < names.length; i++) this.#member(shape, value, names[i], i === 0 ? '' : ',');
     this.#out.put('}');
   }
 
   #member(shape, value, name, comma) {
-    const text = stringText(name) ?? this.#reject(shape, value, 'one with a lone surrogate in a name');
     const part = shape.members.get(name);
-    if (part === undefined) return this.#out.put(`${comma}${text}:null`);
-    this.#out.put(`${comma}${text}:`);
+    if (part === undefined) {
+      const text = stringText(name) ?? this.#reject(shape, value, 'one with a lone surrogate in a name');
+      return this.#out.put(`${comma}${text}:null`);
+    }
+    this.#out.put(comma + headOf(shape, name));
     const held = value[name];
     this.#path.push(name);
     this.#value(part, held);
@@ -231,8 +241,9 @@ class Writer {
   }
 
   #address(shape, value) {
-    const found = value.length <= MOST_SHOWN ? JSON.stringify(value) : 'a longer string';
-    this.#out.putHex(bytesOfAddress(value) ?? this.#reject(shape, value, found));
+    const digits = digitsOfAddress(value);
+    if (digits !== undefined) return this.#out.put(`"${digits}"`);
+    return this.#reject(shape, value, value.length <= MOST_SHOWN ? JSON.stringify(value) : 'a longer string');
   }
 
   /** Bytes, or a list of integers from 0 to 255. A string is neither, so that bytes never depend on what it looks like. */
@@ -302,6 +313,12 @@ function isLong(number) {
 /** Whether this is a plain object or an instance of most classes, by what `Object.prototype.toString` says. */
 function hasMembers(value) {
   return typeof value === 'object' && Object.prototype.toString.call(value) === '[object Object]';
+}
+
+/** The JSON of a member's name, and a colon. It is made once. */
+function headOf(shape, name) {
+  shape.heads ??= new Map(Array.from(shape.members.keys(), (known) => [known, `${stringText(known)}:`]));
+  return shape.heads.get(name);
 }
 
 /** What `Object.prototype.toString` says: `Date` for a date. */

@@ -37,12 +37,23 @@ fn report<T>(name: &str, call: impl Fn() -> T) {
     println!("{name} {}", least / f64::from(count));
 }
 
+/// Digits as the crate `hex` makes and reads them.
 fn digits(bytes: &[u8]) -> String {
-    bytes.iter().map(|byte| format!("{byte:02x}")).collect()
+    const DIGITS: &[u8; 16] = b"0123456789abcdef";
+    bytes.iter().flat_map(|byte| [DIGITS[usize::from(byte >> 4)], DIGITS[usize::from(byte & 15)]]).map(char::from).collect()
+}
+
+fn digit(sign: u8) -> Option<u8> {
+    match sign {
+        b'0'..=b'9' => Some(sign - b'0'),
+        b'a'..=b'f' => Some(sign - b'a' + 10),
+        b'A'..=b'F' => Some(sign - b'A' + 10),
+        _ => None,
+    }
 }
 
 fn bytes_of(digits: &str) -> Vec<u8> {
-    (0..digits.len()).step_by(2).map(|place| u8::from_str_radix(&digits[place..place + 2], 16).unwrap()).collect()
+    digits.as_bytes().chunks(2).map(|pair| digit(pair[0]).unwrap() << 4 | digit(pair[1]).unwrap()).collect()
 }
 
 fn transfer(registry: &Registry, json: &str, data: &[u8]) {
