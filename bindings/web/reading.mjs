@@ -1,5 +1,5 @@
 // Values in JavaScript's own types, from normal JSON. This is a convenience and not proved.
-import { bytesOfHex } from './hex.mjs';
+import { bytesOfDigits } from './hex.mjs';
 import { wideOfBytes } from './move_types.mjs';
 
 const WIDE = new Set(['U64', 'U128', 'I64', 'I128']);
@@ -85,12 +85,12 @@ function leafReader({ kind, name }) {
     case 'INTEGER':
       return WIDE.has(name) ? BigInt : unchanged;
     case 'BYTES':
-      return bytesOfHex;
+      return bytesOfDigits;
     case 'ADDRESS':
       return (json) => `0x${json}`;
     case 'U256':
     case 'I256':
-      return (json) => wideOfBytes(bytesOfHex(json), kind === 'I256');
+      return (json) => wideOfBytes(bytesOfDigits(json), kind === 'I256');
     default:
       return unchanged;
   }
