@@ -155,8 +155,8 @@ def section(all_times: dict[str, Times], rounds: int, load: list[float]) -> str:
 none.
 - **JSON**: the call alone, on a text that is ready; decoding returns the text.
 - **JSON, made and read**: what you do if you have values and use the calls for JSON. The language's usual code makes \
-or parses the text (`serde_json`, `json`, `JSON`, `encoding/json`), and turns bytes into digits or back. C and Java \
-have no JSON of their own.
+or parses the text (`serde_json`, `json`, `JSON`, `encoding/json`), and turns bytes into digits or back. C and \
+Java have no JSON of their own.
 - **by hand**: a codec for this one type, which checks less.
 """
 
