@@ -210,7 +210,7 @@ class Calls:
 
 
 def is_the_same(fault: dict[str, Any] | None, last: dict[str, Any]) -> bool:
-    """Whether bcs_fault reports what the last line of bcs_explain does, with what was found behind what was expected."""
+    """Whether bcs_fault reports what the last line of bcs_explain does, and what was found."""
     if fault is None or "refused" not in last:
         return fault is None and "refused" not in last
     expected, message = f"expected {last['want']}", fault.get("message", "")
