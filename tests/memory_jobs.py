@@ -70,8 +70,8 @@ WORDS_AND_ANSWERS = [
         2,
         "refused: BadBase64",
         ["decode", "--base64", "{}", I16, "@bytes"],
-        place="at byte 0 of the input: BadBase64: not a base64 character",
-        left_out=5,
+        place="at byte 0 of the input: BadBase64: not a base64 character; --raw reads bytes as they are",
+        left_out=7,
     ),
     Job(0, "-4660", ["normalise", "{}", I16, "@number"]),
     Job(0, "equal", ["same", "--depth=0", "{}", I16, "@number", "@number"]),
@@ -102,9 +102,9 @@ DISPLAYS = [
         2,
         "refused: UnknownName",
         ["show", "@registry", "T"],
-        place="at NAME: UnknownName: no container is called T",
+        place="at NAME: UnknownName: no container is called T; without NAME, show prints all of them",
         hints=3,
-        left_out=20,
+        left_out=22,
     ),
     Job(0, '*"type": "boolean"*', ["schema", "@registry", BOOL]),
     Job(0, '*"#/$defs/I16"*', ["schema", "@registry", "S"]),
@@ -129,8 +129,8 @@ VERDICTS = [
         2,
         "refused: BadHex",
         ["scan", "{}", I16, "@digits"],
-        place="at byte 4 of the input: BadHex: not a hexadecimal digit",
-        left_out=4,
+        place="at byte 4 of the input: BadHex: a line feed; join the lines (xxd -p -c0), or read each with --lines",
+        left_out=7,
     ),
 ]
 LINES = [
@@ -157,21 +157,21 @@ REFUSALS = [
         "refused: TooManyNodes at 0",
         ["decode", "--raw", "@registry", "S", "--nodes", "1", "@bytes"],
         place=TOO_MANY_NODES,
-        left_out=15,
+        left_out=17,
     ),
     Job(
         2,
         "refused: TooManyNodes at 0",
         ["part", "--raw", "@registry", "S", ".", "--nodes", "1", "@bytes"],
         place=TOO_MANY_NODES,
-        left_out=15,
+        left_out=17,
     ),
     Job(
         2,
         "refused: BadPath",
         ["part", "{}", I16, "key:00/07"],
         place="at PATH, step 2 07: BadPath: expected a number, inner, or key: and hexadecimal digits",
-        left_out=6,
+        left_out=10,
     ),
     Job(
         2,
@@ -179,7 +179,7 @@ REFUSALS = [
         ["encode", "{}", LIST, "@large"],
         place=f"at /1: {WRONG_NUMBER}",
         hints=2,
-        left_out=14,
+        left_out=15,
     ),
     Job(
         2,
@@ -201,7 +201,7 @@ REFUSALS = [
         "refused: NotJson",
         ["normalise", "{}", I16, "@open"],
         place="at line 1, column 1: NotJson: the document ends there; ] is missing",
-        left_out=5,
+        left_out=8,
     ),
     Job(
         2,
@@ -218,15 +218,15 @@ REFUSALS = [
         place=f"in A, at the whole text: {DEPTH}",
         left_out=17,
     ),
-    Job(2, "refused: NotJson", ["check", "{"], place=NOT_JSON, hints=3, left_out=5),
-    Job(2, "refused: NotJson", ["check", "@yaml"], place=YAML, hints=3, left_out=6),
+    Job(2, "refused: NotJson", ["check", "{"], place=NOT_JSON, hints=3, left_out=8),
+    Job(2, "refused: NotJson", ["check", "@yaml"], place=YAML, hints=3, left_out=8),
     Job(
         2,
         "refused: BadShape",
         ["check", '{"S":7}'],
         place="at /S: BadShape: expected a container; this looks like a value, and not like a registry",
         hints=6,
-        left_out=9,
+        left_out=14,
     ),
     Job(
         2,
@@ -241,13 +241,13 @@ REFUSALS = [
         "refused: BadShape",
         ["decode", "{}", '{"SEQ":7}'],
         place="at FORMAT, /SEQ: BadShape: expected a format, found 7",
-        left_out=9,
+        left_out=17,
     ),
 ]
 # Files that aren't there, or can't be read.
 REFUSED_FILES = [
-    Job(4, "", ["check", "no.file"], place=f"{OPENED}\n{NO_FILE}", left_out=3),
-    Job(4, "", ["encode", "{}", I16, "no.file"], place=f"{OPENED}\n{NO_FILE}", left_out=3),
+    Job(4, "", ["check", "no.file"], place=f"{OPENED}\n{NO_FILE}", left_out=4),
+    Job(4, "", ["encode", "{}", I16, "no.file"], place=f"{OPENED}\n{NO_FILE}", left_out=4),
     Job(4, "", ["same", "{}", I16, ".", "no.file"], place="fault: read\nin the file .", left_out=2),
 ]
 # The texts of help, of the version and of usage.
