@@ -6,7 +6,7 @@ import { bytesForCall, stringOfUtf8 } from './texts.mjs';
 import { jsonOfValue } from './writing.mjs';
 
 // What a name of a part looks like, by its notation.
-const NOTATIONS = { name: 'a name such as .payload.args[1]', pointer: 'a JSON Pointer such as /payload/args/1' };
+const EXAMPLES = { name: 'a name such as .payload.args[1]', pointer: 'a JSON Pointer such as /payload/args/1' };
 
 /** Calls on one format within limits. They get texts as bytes, and run no code of the caller except to read a value. */
 export class FormatCalls {
@@ -80,7 +80,7 @@ export class FormatCalls {
 
   /** The part with a name. `notation` is `name` or `pointer`. */
   partNamed(bytes, notation, name) {
-    const placing = () => ({ detail: `expected ${NOTATIONS[notation]}` });
+    const placing = () => ({ detail: `expected ${EXAMPLES[notation]}` });
     return this.#partBy(bytes, (calls, ask) => calls.partNamed(ask, notation, name, bytes), placing);
   }
 
