@@ -17,7 +17,7 @@ class BcsError extends Error {
   }
 }
 
-/** The same first words as everywhere: `refused: BadNumber at /amount: wanted ..`, and for bytes `refused: BadBool at byte 5, .a: ..`. */
+/** The same first words as everywhere: `refused: BadNumber at /amount: expected ..`, and for bytes `refused: BadBool at byte 5, .a: ..`. */
 function lineOf(reason, place, at, detail) {
   const where = [place === undefined ? '' : `byte ${place}`, at ?? ''].filter((part) => part !== '').join(', ');
   const fault = where === '' ? reason : `${reason} at ${where}`;
@@ -34,6 +34,9 @@ const FIRST = Uint16Array.from({ length: 128 }, (_, code) => valueOfDigit(code, 
 const SECOND = Uint16Array.from({ length: 128 }, (_, code) => valueOfDigit(code, 1));
 // Appending to a string costs memory for each piece, so more bytes than this become an array of digits first.
 const FEW = 256;
+// Node has more bytes than half of this in a buffer of their own.
+const LONG = 1 << 15;
+const PIECE = 1 << 20;
 const ascii = new TextDecoder();
 
 function valueOfDigit(code, factor) {
@@ -55,7 +58,16 @@ function hexOf(bytes) {
 
 /** Writes these digits in ASCII, two for each item of an array. */
 function putHex(bytes, pairs) {
+  if (bytes.length > LONG && globalThis.Buffer !== undefined) return putByNode(bytes, pairs);
   for (let i = 0; i < bytes.length; i++) pairs[i] = PAIRS[bytes[i]];
+  return undefined;
+}
+
+/** The same in Node, whose own code is several times as fast. Its strings take memory, so it goes piece by piece. */
+function putByNode(bytes, pairs) {
+  const bufferOf = ({ buffer, byteOffset, byteLength }) => globalThis.Buffer.from(buffer, byteOffset, byteLength);
+  const [from, to] = [bufferOf(bytes), bufferOf(pairs)];
+  for (let i = 0; i < from.length; i += PIECE) to.write(from.toString('hex', i, i + PIECE), 2 * i, 'latin1');
 }
 
 /** The bytes of hexadecimal digits, for values that have them: `hex('0aff')`. */
@@ -75,6 +87,16 @@ function bytesOfHex(digits) {
     bytes[i] = byte;
   }
   return all < NONE ? bytes : undefined;
+}
+
+/**
+ * The bytes of digits that the module returned, which are nothing else. Node's own code is several times as fast, and takes some
+ * other characters for digits.
+ */
+function bytesOfDigits(digits) {
+  if (digits.length <= LONG || globalThis.Buffer === undefined) return bytesOfHex(digits);
+  const { buffer, byteOffset, length } = globalThis.Buffer.from(digits, 'hex');
+  return new Uint8Array(buffer, byteOffset, length);
 }
 
 // What callers pass as bytes and as typed arrays, and base64.
@@ -200,6 +222,7 @@ function isWellFormed(string) {
 // Types of Move that a registry has as newtypes of 32 bytes: addresses and integers of 256 bits.
 
 const SIZE = 32;
+const IS_ADDRESS = /^0x[0-9a-fA-F]{1,64}$/;
 const BITS = 8 * SIZE;
 // How `bcs from-move` calls the containers.
 const DEFAULT_NAMES = { address: ['address'], u256: ['u256'], i256: ['i256'] };
@@ -245,10 +268,9 @@ function isOf32Bytes(container) {
   return array?.CONTENT === 'U8' && array.SIZE === SIZE;
 }
 
-/** The bytes of an address: `0x` and 1 to 64 hexadecimal digits. `undefined` for any other string. */
-function bytesOfAddress(string) {
-  const [, digits] = /^0x([0-9a-fA-F]{1,64})$/.exec(string) ?? [];
-  return digits && bytesOfHex(digits.padStart(2 * SIZE, '0'));
+/** All digits of an address, which is `0x` and 1 to 64 hexadecimal digits. `undefined` for any other string. */
+function digitsOfAddress(string) {
+  return IS_ADDRESS.test(string) ? string.slice(2).padStart(2 * SIZE, '0') : undefined;
 }
 
 /** The bytes of an integer of 256 bits, the lowest first, or `undefined` if it has more. */
@@ -469,9 +491,12 @@ const MOST_NESTED = 100;
 const MOST_OPEN = 500;
 // An array may have a length of billions and take no memory, and a value may hold another one many times.
 const MOST_COUNTED = 1_000_000;
-const MOST_JSON = 1 << 30;
+// (about the longest string of V8, so that what is encoded can be decoded)
+const MOST_JSON = 1 << 29;
 const MOST_SHOWN = 80;
 const BITS_SHOWN = 512;
+// JSON has such a string as it is.
+const PLAIN_TEXT = /^[ !#-[\]-~]{0,200}$/;
 const OCTET = { kind: 'INTEGER', name: 'U8' };
 const TAKES = {
   INTEGER: 'an integer',
@@ -524,7 +549,7 @@ class Writer {
     this.#count();
     switch (shape.kind) {
       case 'TYPENAME':
-        return this.#container(shape.name, (held) => this.#value(held, value));
+        return this.#held(shape, value);
       case 'OPTION':
         return value === null ? this.#out.put('null') : this.#option(shape, value);
       case 'SEQ':
@@ -566,18 +591,23 @@ class Writer {
   }
 
   /** Writes what a container holds. */
-  #container(name, write) {
+  #held(shape, value) {
     if (this.#open === MOST_OPEN) return this.#out.put('null');
     this.#open++;
-    write(this.#shapes.container(name));
-    this.#open--;
+    this.#value(this.#containerOf(shape), value);
+    return this.#open--;
+  }
+
+  #containerOf(shape) {
+    shape.held ??= this.#shapes.container(shape.name);
+    return shape.held;
   }
 
   /** `{ some: value }`, or the value alone where it can't be mistaken for that. The names of members are read once. */
   #option(shape, value) {
     if (!this.#shapes.isPlainOption(shape) || value === undefined) return this.#members(shape, value);
     const inner = shape.members.get('some');
-    if (typeof value !== 'object' || tagOf(value) !== 'Object') return this.#some(() => this.#value(inner, value));
+    if (!hasMembers(value)) return this.#some(() => this.#value(inner, value));
     const names = Object.keys(value);
     const isExact = (names.length === 1 && names[0] === 'some') || !this.#shapes.hasMembers(inner);
     return isExact ? this.#members(shape, value, names) : this.#some(() => this.#object(inner, value, names));
@@ -586,14 +616,19 @@ class Writer {
   #some(write) {
     this.#nest();
     this.#out.put('{"some":');
-    this.#within('some', write);
+    this.#path.push('some');
+    write();
+    this.#path.pop();
     this.#out.put('}');
   }
 
   /** A struct or a variant, perhaps within containers, whose members have these names. */
   #object(shape, value, names) {
     if (shape.kind !== 'TYPENAME') return this.#members(shape, value, names);
-    return this.#container(shape.name, (held) => this.#object(held, value, names));
+    if (this.#open === MOST_OPEN) return this.#out.put('null');
+    this.#open++;
+    this.#object(this.#containerOf(shape), value, names);
+    return this.#open--;
   }
 
   #list(shape, value) {
@@ -628,42 +663,40 @@ class Writer {
   }
 
   #members(shape, value, known) {
-    if (typeof value !== 'object' || tagOf(value) !== 'Object') this.#reject(shape, value);
+    if (!hasMembers(value)) this.#reject(shape, value);
     this.#nest();
     const names = known ?? Object.keys(value);
     if (shape.kind === 'STRUCT' && shape.members.size + names.length === 0 && !isEmpty(value)) {
       this.#reject(shape, value, 'a class instance or one with hidden members');
     }
     this.#out.put('{');
-    names.forEach((name, i) => this.#member(shape, value, name, i === 0 ? '' : ','));
+    for (let i = 0; i < names.length; i++) this.#member(shape, value, names[i], i === 0 ? '' : ',');
     this.#out.put('}');
   }
 
   #member(shape, value, name, comma) {
-    const text = stringText(name) ?? this.#reject(shape, value, 'one with a lone surrogate in a name');
-    this.#out.put(`${comma}${text}:`);
     const part = shape.members.get(name);
-    if (part === undefined) return this.#out.put('null');
+    if (part === undefined) {
+      const text = stringText(name) ?? this.#reject(shape, value, 'one with a lone surrogate in a name');
+      return this.#out.put(`${comma}${text}:null`);
+    }
+    this.#out.put(comma + headOf(shape, name));
     const held = value[name];
-    return this.#within(name, () => this.#value(part, held));
+    this.#path.push(name);
+    this.#value(part, held);
+    return this.#path.pop();
   }
 
   /** The path has a step for each open array or object. A value within itself ends here, too. */
   #nest() {
     if (this.#path.length < MOST_NESTED) return;
-    throw this.#error('TooNested', `arrays and objects nest more than ${MOST_NESTED} deep`);
-  }
-
-  #within(step, write) {
-    this.#path.push(step);
-    write();
-    this.#path.pop();
+    throw this.#error('TooNested', `arrays and objects are nested more than ${MOST_NESTED} levels deep`);
   }
 
   /** Values that hold others many times end here: they take little memory, and their JSON much. */
   #count() {
     if (this.#nodes-- === 0) throw this.#error('TooManyNodes', 'the value has more nodes than the limits allow');
-    if (this.#out.length > MOST_JSON) throw this.#error('TooLong', 'the JSON of the value is above 1 GiB');
+    if (this.#out.length > MOST_JSON) throw this.#error('TooLong', 'the JSON of the value is above 512 MiB');
   }
 
   #text(shape, value) {
@@ -688,8 +721,9 @@ class Writer {
   }
 
   #address(shape, value) {
-    const found = value.length <= MOST_SHOWN ? JSON.stringify(value) : 'a longer string';
-    this.#out.putHex(bytesOfAddress(value) ?? this.#reject(shape, value, found));
+    const digits = digitsOfAddress(value);
+    if (digits !== undefined) return this.#out.put(`"${digits}"`);
+    return this.#reject(shape, value, value.length <= MOST_SHOWN ? JSON.stringify(value) : 'a longer string');
   }
 
   /** Bytes, or a list of integers from 0 to 255. A string is neither, so that bytes never depend on what it looks like. */
@@ -756,7 +790,18 @@ function isLong(number) {
   return BigInt.asIntN(BITS_SHOWN, number) !== number;
 }
 
-/** What `Object.prototype.toString` says: `Date` for a date, `Object` for plain objects and instances of most classes. */
+/** Whether this is a plain object or an instance of most classes, by what `Object.prototype.toString` says. */
+function hasMembers(value) {
+  return typeof value === 'object' && Object.prototype.toString.call(value) === '[object Object]';
+}
+
+/** The JSON of a member's name, and a colon. It is made once. */
+function headOf(shape, name) {
+  shape.heads ??= new Map(Array.from(shape.members.keys(), (known) => [known, `${stringText(known)}:`]));
+  return shape.heads.get(name);
+}
+
+/** What `Object.prototype.toString` says: `Date` for a date. */
 function tagOf(object) {
   return Object.prototype.toString.call(object).slice('[object '.length, -1);
 }
@@ -775,6 +820,7 @@ function entriesOf(map) {
 
 /** The JSON of a string, or `undefined` where a lone surrogate is in it, which UTF-8 doesn't have. */
 function stringText(string) {
+  if (PLAIN_TEXT.test(string)) return `"${string}"`;
   return isWellFormed(string) ? JSON.stringify(string) : undefined;
 }
 
@@ -784,64 +830,105 @@ const WIDE = new Set(['U64', 'U128', 'I64', 'I128']);
 
 /** The value of this shape that normal JSON represents; with `plainOptions`, options are their values where that is clear. */
 function valueOf(shapes, shape, json, plainOptions = false) {
-  return new Reader(shapes, plainOptions).value(shape, JSON.parse(json));
+  return readerOf(shapes, shape, plainOptions)(JSON.parse(json));
 }
 
-/** Goes through a shape and the JSON of one of its values together. */
-class Reader {
-  constructor(shapes, plainOptions) {
-    this.shapes = shapes;
-    this.plainOptions = plainOptions;
-  }
+/** The function that makes a value from parsed JSON of this shape. It is made once, and calls nothing of the caller's. */
+function readerOf(shapes, shape, plainOptions) {
+  const own = plainOptions ? 'readPlain' : 'read';
+  shape[own] ??= newReader(shapes, shape, plainOptions);
+  return shape[own];
+}
 
-  value(shape, json) {
-    switch (shape.kind) {
-      case 'TYPENAME':
-        return this.value(this.shapes.container(shape.name), json);
-      case 'OPTION':
-        return json === null ? null : this.option(shape, json.some);
-      case 'SEQ':
-        return json.map((item) => this.value(shape.item, item));
-      case 'TUPLE':
-        return shape.parts.map((part, i) => this.value(part, json[i]));
-      case 'MAP':
-        return new Map(json.map((entry) => this.value(shape.entry, entry)));
-      case 'STRUCT':
-        // (`fromEntries` makes members, also one called __proto__, where an assignment would not)
-        return Object.fromEntries(Array.from(shape.members, ([name, part]) => [name, this.value(part, json[name])]));
-      case 'ENUM':
-        return this.variant(shape, json);
-      default:
-        return leaf(shape, json);
-    }
+function newReader(shapes, shape, plainOptions) {
+  const partReader = (part) => readerOf(shapes, part, plainOptions);
+  switch (shape.kind) {
+    case 'TYPENAME':
+      return containerReader(shapes, shape.name, plainOptions);
+    case 'OPTION':
+      return optionReader(partReader(shape.members.get('some')), plainOptions && shapes.isPlainOption(shape));
+    case 'SEQ':
+      return listReader(partReader(shape.item));
+    case 'TUPLE':
+      return tupleReader(shape.parts.map(partReader));
+    case 'MAP':
+      return mapReader(partReader(shape.entry));
+    case 'STRUCT':
+      return structReader([...shape.members.keys()], [...shape.members.values()].map(partReader));
+    case 'ENUM':
+      return variantReader(new Map(Array.from(shape.members, ([name, part]) => [name, partReader(part)])));
+    default:
+      return leafReader(shape);
   }
+}
 
-  option(shape, json) {
-    const value = this.value(shape.members.get('some'), json);
-    return this.plainOptions && this.shapes.isPlainOption(shape) ? value : { some: value };
-  }
+/** The reader of a container's content is made with its first value, since containers may hold one another. */
+function containerReader(shapes, name, plainOptions) {
+  let read;
+  return (json) => {
+    read ??= readerOf(shapes, shapes.container(name), plainOptions);
+    return read(json);
+  };
+}
 
-  variant(shape, json) {
+function optionReader(read, isPlain) {
+  if (isPlain) return (json) => (json === null ? null : read(json.some));
+  return (json) => (json === null ? null : { some: read(json.some) });
+}
+
+function listReader(read) {
+  return read === unchanged ? unchanged : (json) => json.map((item) => read(item));
+}
+
+function tupleReader(reads) {
+  return (json) => reads.map((read, i) => read(json[i]));
+}
+
+function mapReader(readEntry) {
+  return (json) => new Map(json.map((entry) => readEntry(entry)));
+}
+
+function structReader(names, reads) {
+  return (json) => {
+    const made = {};
+    for (let i = 0; i < names.length; i++) put(made, names[i], reads[i](json[names[i]]));
+    return made;
+  };
+}
+
+function variantReader(reads) {
+  return (json) => {
     if (typeof json === 'string') return json;
-    const [[name, payload]] = Object.entries(json);
-    return Object.fromEntries([[name, this.value(shape.members.get(name), payload)]]);
-  }
+    const [name] = Object.keys(json);
+    return put({}, name, reads.get(name)(json[name]));
+  };
 }
 
-function leaf({ kind, name }, json) {
+function leafReader({ kind, name }) {
   switch (kind) {
     case 'INTEGER':
-      return WIDE.has(name) ? BigInt(json) : json;
+      return WIDE.has(name) ? BigInt : unchanged;
     case 'BYTES':
-      return bytesOfHex(json);
+      return bytesOfDigits;
     case 'ADDRESS':
-      return `0x${json}`;
+      return (json) => `0x${json}`;
     case 'U256':
     case 'I256':
-      return wideOfBytes(bytesOfHex(json), kind === 'I256');
+      return (json) => wideOfBytes(bytesOfDigits(json), kind === 'I256');
     default:
-      return json;
+      return unchanged;
   }
+}
+
+function unchanged(json) {
+  return json;
+}
+
+/** Adds a member. (An assignment to `__proto__` would make none.) */
+function put(made, name, value) {
+  if (name === '__proto__') Object.defineProperty(made, name, { value, writable: true, enumerable: true, configurable: true });
+  else made[name] = value;
+  return made;
 }
 
 // Calls that the engine breaks off.
@@ -1064,7 +1151,7 @@ function asked({ format, depth, nodes }) {
 }
 
 /**
- * The calls. What is asked for has `registry`, a text or one that is `Opened`, `format`, `depth` and `nodes`. An answer has
+ * The calls. What is asked for has `registry`, which is `Opened`, `format`, `depth` and `nodes`. An answer has
  * `status`, `fault` (its number), `place`, `length` and, where there is one, `output`.
  */
 class Calls {
@@ -1138,29 +1225,28 @@ class Calls {
     return this.#onHandle('show', registry, [FORMS.indexOf(form), name], FIRST_DOCUMENT);
   }
 
-  /** Where a format is refused, and why, in a line of the program on this `input`. */
+  /** The same of a format. */
   formatPlace(ask) {
-    return this.#line('FORMAT', 'bcs_c_format_place', [ask.registry.text, ask.format]);
+    return this.#run((room) => wholeCall(room, 'bcs_c_format_place', [ask.registry.text, ask.format], FIRST_PLACE));
   }
 
-  /** The same of a path, and of growth. */
+  /** The same of a path. */
   pathPlace(path) {
-    return this.#line('PATH', 'bcs_c_path_place', [path]);
+    return this.#run((room) => wholeCall(room, 'bcs_c_path_place', [path], FIRST_PLACE));
   }
 
+  /** The same of growth. */
   growthPlace(older, newer) {
-    return this.#line('', 'bcs_c_growth_place', [older, newer]);
+    return this.#run((room) => wholeCall(room, 'bcs_c_growth_place', [older, newer], FIRST_PLACE));
   }
 
   growthList(older, newer) {
     return this.#run((room) => wholeCall(room, 'bcs_c_growth_list', [older, newer], FIRST_DOCUMENT));
   }
 
-  /** Where the text of a registry is refused with a fault, and what was expected there, with a NUL between them. */
-  registryRefusal(text, fault) {
-    const [where, wanted] = [0, 1].map((what) => this.#run((room) => wholeCall(room, 'bcs_c_registry_place', [what, text], FIRST_PLACE)));
-    const output = [where, wanted].flatMap(({ output: told = [] }, i) => (i === 0 ? [...told] : [0, ...told]));
-    return { ...where, fault, output: Uint8Array.from(output) };
+  /** The same of the text of a registry. */
+  registryRefusal(text) {
+    return this.#run((room) => wholeCall(room, 'bcs_c_registry_refusal', [text], FIRST_PLACE));
   }
 
   faultName(fault) {
@@ -1182,17 +1268,8 @@ class Calls {
     });
   }
 
-  #on(name, { registry, format, depth, nodes }, parts, outLength) {
-    return this.#run((room) => {
-      if (!(registry instanceof Opened)) {
-        return wholeCall(room, `bcs_c_${name}`, [{ slices: [registry, format], depth, nodes }, ...parts], outLength);
-      }
-      return handleCall(room, name, registry, [{ slices: [format], depth, nodes }, ...parts], outLength);
-    });
-  }
-
-  #line(input, name, parts) {
-    return { ...this.#run((room) => wholeCall(room, name, parts, FIRST_PLACE)), input };
+  #on(name, ask, parts, outLength) {
+    return this.#onHandle(name, ask.registry, [asked(ask), ...parts], outLength);
   }
 
   #onHandle(name, registry, parts, outLength) {
@@ -1358,33 +1435,21 @@ function textOfFormat(format) {
 
 // What the module reports of a refusal.
 
-// How the program calls a whole registry. Where these faults are, that is the name of a container.
-const WHOLE = 'the whole text';
-const FAULTS_OF_NAMES = ['UnknownName', 'RepeatedName'];
-
 /**
- * Takes an answer of the module apart: where a refusal is, and what is wrong there. No other function knows how the two are
- * joined: by a NUL; or, where the answer names the `input`, in a line of the program such as
- * `at FORMAT, /SEQ: BadShape: wanted a format`. A name in it may contain anything.
+ * Takes an answer of the module apart: where a refusal is, and what is wrong there, with a NUL between them. A name in the place
+ * may contain others. The output is empty if there is nothing to say besides the fault.
  */
-function reported({ status, fault, output, input }, names) {
+function reported({ status, output }) {
   if (status !== 'done' || output.length === 0) return {};
-  if (input === undefined) {
-    // (the words have no NUL, but a pointer may)
-    const end = output.lastIndexOf(0);
-    const [at, detail] = [output.subarray(0, end), output.subarray(end + 1)].map(stringOfUtf8);
-    const isWhole = at === WHOLE && !FAULTS_OF_NAMES.includes(names.faultName(fault));
-    return { at: isWhole ? '' : at, detail };
-  }
-  const [line, middle] = [stringOfUtf8(output).replace(/^at /, ''), `: ${names.faultName(fault)}`];
-  // (only the words of UnknownName have a name in them, and only the place of the others)
-  const end = middle === ': UnknownName' ? line.indexOf(middle) : line.lastIndexOf(middle);
-  const where = line.slice(0, end);
-  const at = where.startsWith(input) ? where.slice(input.length).replace(/^, /, '') : where;
-  return { at, detail: line.slice(end + middle.length).replace(/^: /, '') };
+  const end = output.lastIndexOf(0);
+  const [at, detail] = [output.subarray(0, end), output.subarray(end + 1)].map(stringOfUtf8);
+  return { at, detail };
 }
 
 // The calls on one format of an open registry.
+
+// What a name of a part looks like, by its notation.
+const EXAMPLES = { name: 'a name such as .payload.args[1]', pointer: 'a JSON Pointer such as /payload/args/1' };
 
 /** Calls on one format within limits. They get texts as bytes, and run no code of the caller except to read a value. */
 class FormatCalls {
@@ -1428,7 +1493,7 @@ class FormatCalls {
   areEqual(first, second) {
     const placing = (calls, ask) => {
       const told = calls.textRefusal(ask, first);
-      return reported(told.status === 'no' ? calls.textRefusal(ask, second) : told, this.#bcs);
+      return reported(told.status === 'no' ? calls.textRefusal(ask, second) : told);
     };
     return this.#answer(ALL_NODES, (calls, ask) => calls.compare(ask, first, second), placing).status === 'done';
   }
@@ -1453,17 +1518,17 @@ class FormatCalls {
 
   /** The part to which a path leads. */
   part(bytes, path) {
-    const placing = (calls) => reported(calls.pathPlace(path), this.#bcs);
-    return this.#partBy(bytes, (calls, ask) => calls.part(ask, bytes, path), placing);
+    return this.#partBy(bytes, (calls, ask) => calls.part(ask, bytes, path), (calls) => reported(calls.pathPlace(path)));
   }
 
   /** The part with a name. `notation` is `name` or `pointer`. */
   partNamed(bytes, notation, name) {
-    return this.#partBy(bytes, (calls, ask) => calls.partNamed(ask, notation, name, bytes));
+    const placing = () => ({ detail: `expected ${EXAMPLES[notation]}` });
+    return this.#partBy(bytes, (calls, ask) => calls.partNamed(ask, notation, name, bytes), placing);
   }
 
   #partBy(bytes, call, placing) {
-    const placed = (calls, ask, { status }) => (status === 'path' ? placing?.(calls) : reported(calls.stopRefusal(ask, bytes), this.#bcs));
+    const placed = (calls, ask, { status }) => (status === 'path' ? placing(calls) : reported(calls.stopRefusal(ask, bytes)));
     const { status, place, length } = this.#answer(this.#nodesFor(bytes), call, placed);
     return status === 'no' ? undefined : { place, bytes: bytes.slice(place, place + length) };
   }
@@ -1481,18 +1546,18 @@ class FormatCalls {
   }
 
   #ofText(text, call) {
-    return this.#answer(ALL_NODES, call, (calls, ask) => reported(calls.textRefusal(ask, text), this.#bcs));
+    return this.#answer(ALL_NODES, call, (calls, ask) => reported(calls.textRefusal(ask, text)));
   }
 
   #ofBytes(bytes, call, nodes = this.#nodesFor(bytes)) {
-    return this.#answer(nodes, call, (calls, ask) => reported(calls.stopRefusal(ask, bytes), this.#bcs));
+    return this.#answer(nodes, call, (calls, ask) => reported(calls.stopRefusal(ask, bytes)));
   }
 
   #answer(nodes, call, placing) {
     const limits = { depth: this.#limits.depth, nodes: this.#limits.nodes ?? nodes };
     const ask = { registry: this.#holder.opened, format: this.#format.bytes, ...limits };
     const placed = (calls, answer) => {
-      if (answer.status === 'format') return reported(calls.formatPlace(ask), this.#bcs);
+      if (answer.status === 'format') return reported(calls.formatPlace(ask));
       return placing?.(calls, ask, answer);
     };
     return this.#bcs.answerOf((calls) => call(calls, ask), placed);
@@ -1726,7 +1791,7 @@ class Bcs {
   registry(text, { names } = {}) {
     const [bytes, moveTypes] = [bytesOf(text), new MoveTypes(names)];
     const holder = new Holder(this.#calls, bytes, moveTypes);
-    this.answerOf((calls) => calls.open(holder.opened), (calls, { fault }) => reported(calls.registryRefusal(bytes, fault), this));
+    this.answerOf((calls) => calls.open(holder.opened), (calls) => reported(calls.registryRefusal(bytes)));
     holder.checkNames();
     return new Registry(this, holder, { depth: MOST_DEPTH });
   }
@@ -1734,17 +1799,17 @@ class Bcs {
   /** Returns if the newer registry keeps all that the older one has; else it is refused, the first fault being told. */
   grows(older, newer) {
     const [first, second] = [bytesOf(older), bytesOf(newer)];
-    this.answerOf((calls) => calls.grows(first, second), (calls, answer) => {
-      if (answer.status === 'refused') return reported(calls.growthPlace(first, second), this);
-      return reported(calls.registryRefusal(answer.status === 'newer' ? second : first, answer.fault), this);
+    this.answerOf((calls) => calls.grows(first, second), (calls, { status }) => {
+      if (status === 'refused') return reported(calls.growthPlace(first, second));
+      return reported(calls.registryRefusal(status === 'newer' ? second : first));
     });
   }
 
   /** All differences from an older registry to a newer one, a line for each. */
   differences(older, newer) {
     const [first, second] = [bytesOf(older), bytesOf(newer)];
-    const { output } = this.answerOf((calls) => calls.growthList(first, second), (calls, { status, fault }) =>
-      reported(calls.registryRefusal(status === 'newer' ? second : first, fault), this));
+    const { output } = this.answerOf((calls) => calls.growthList(first, second), (calls, { status }) =>
+      reported(calls.registryRefusal(status === 'newer' ? second : first)));
     return stringOfUtf8(output).split('\n').slice(0, -1);
   }
 

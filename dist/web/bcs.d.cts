@@ -128,7 +128,7 @@ export type Kind =
   /** Too little memory, or too little stack is left for the value's depth. */
   | 'memory' | 'stack';
 
-/** A refusal. Its `message` is a line such as `refused: BadNumber at /amount: found 256, wanted ..`. */
+/** A refusal. Its `message` is a line such as `refused: BadNumber at /amount: found 256, expected ..`. */
 export class BcsError extends Error {
   constructor(kind: Kind, parts?: { reason?: string; place?: number; at?: string; detail?: string; cause?: unknown });
   /** What is refused. */
@@ -139,8 +139,8 @@ export class BcsError extends Error {
   readonly place?: number;
   /**
    * Where the fault is: in a value or JSON a JSON Pointer, such as `/payload/args/1`; in bytes the field path to where they stop,
-   * such as `.payload.args[1]`; in a format a JSON Pointer; in a registry, a path or growth the location as the program `bcs`
-   * prints it. It is empty for a whole document.
+   * such as `.payload.args[1]`; in a format a JSON Pointer; in a registry or growth a definition, such as `Shape, field side`; in a
+   * path a step, such as `step 2 x`. Names are as they are, never escaped or cut. It is empty for a whole document.
    */
   readonly at?: string;
   /** What is wrong there, or what was expected, in words for people, which may change: `U64 takes an integer, not Uint8Array`. */

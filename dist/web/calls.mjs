@@ -187,7 +187,7 @@ function asked({ format, depth, nodes }) {
 }
 
 /**
- * The calls. What is asked for has `registry`, a text or one that is `Opened`, `format`, `depth` and `nodes`. An answer has
+ * The calls. What is asked for has `registry`, which is `Opened`, `format`, `depth` and `nodes`. An answer has
  * `status`, `fault` (its number), `place`, `length` and, where there is one, `output`.
  */
 export class Calls {
@@ -261,29 +261,28 @@ export class Calls {
     return this.#onHandle('show', registry, [FORMS.indexOf(form), name], FIRST_DOCUMENT);
   }
 
-  /** Where a format is refused, and why, in a line of the program on this `input`. */
+  /** The same of a format. */
   formatPlace(ask) {
-    return this.#line('FORMAT', 'bcs_c_format_place', [ask.registry.text, ask.format]);
+    return this.#run((room) => wholeCall(room, 'bcs_c_format_place', [ask.registry.text, ask.format], FIRST_PLACE));
   }
 
-  /** The same of a path, and of growth. */
+  /** The same of a path. */
   pathPlace(path) {
-    return this.#line('PATH', 'bcs_c_path_place', [path]);
+    return this.#run((room) => wholeCall(room, 'bcs_c_path_place', [path], FIRST_PLACE));
   }
 
+  /** The same of growth. */
   growthPlace(older, newer) {
-    return this.#line('', 'bcs_c_growth_place', [older, newer]);
+    return this.#run((room) => wholeCall(room, 'bcs_c_growth_place', [older, newer], FIRST_PLACE));
   }
 
   growthList(older, newer) {
     return this.#run((room) => wholeCall(room, 'bcs_c_growth_list', [older, newer], FIRST_DOCUMENT));
   }
 
-  /** Where the text of a registry is refused with a fault, and what was expected there, with a NUL between them. */
-  registryRefusal(text, fault) {
-    const [where, wanted] = [0, 1].map((what) => this.#run((room) => wholeCall(room, 'bcs_c_registry_place', [what, text], FIRST_PLACE)));
-    const output = [where, wanted].flatMap(({ output: told = [] }, i) => (i === 0 ? [...told] : [0, ...told]));
-    return { ...where, fault, output: Uint8Array.from(output) };
+  /** The same of the text of a registry. */
+  registryRefusal(text) {
+    return this.#run((room) => wholeCall(room, 'bcs_c_registry_refusal', [text], FIRST_PLACE));
   }
 
   faultName(fault) {
@@ -305,17 +304,8 @@ export class Calls {
     });
   }
 
-  #on(name, { registry, format, depth, nodes }, parts, outLength) {
-    return this.#run((room) => {
-      if (!(registry instanceof Opened)) {
-        return wholeCall(room, `bcs_c_${name}`, [{ slices: [registry, format], depth, nodes }, ...parts], outLength);
-      }
-      return handleCall(room, name, registry, [{ slices: [format], depth, nodes }, ...parts], outLength);
-    });
-  }
-
-  #line(input, name, parts) {
-    return { ...this.#run((room) => wholeCall(room, name, parts, FIRST_PLACE)), input };
+  #on(name, ask, parts, outLength) {
+    return this.#onHandle(name, ask.registry, [asked(ask), ...parts], outLength);
   }
 
   #onHandle(name, registry, parts, outLength) {

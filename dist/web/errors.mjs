@@ -15,7 +15,7 @@ export class BcsError extends Error {
   }
 }
 
-/** The same first words as everywhere: `refused: BadNumber at /amount: wanted ..`, and for bytes `refused: BadBool at byte 5, .a: ..`. */
+/** The same first words as everywhere: `refused: BadNumber at /amount: expected ..`, and for bytes `refused: BadBool at byte 5, .a: ..`. */
 function lineOf(reason, place, at, detail) {
   const where = [place === undefined ? '' : `byte ${place}`, at ?? ''].filter((part) => part !== '').join(', ');
   const fault = where === '' ? reason : `${reason} at ${where}`;

@@ -5,6 +5,9 @@ import { valueOf } from './reading.mjs';
 import { bytesForCall, stringOfUtf8 } from './texts.mjs';
 import { jsonOfValue } from './writing.mjs';
 
+// What a name of a part looks like, by its notation.
+const EXAMPLES = { name: 'a name such as .payload.args[1]', pointer: 'a JSON Pointer such as /payload/args/1' };
+
 /** Calls on one format within limits. They get texts as bytes, and run no code of the caller except to read a value. */
 export class FormatCalls {
   #bcs;
@@ -47,7 +50,7 @@ export class FormatCalls {
   areEqual(first, second) {
     const placing = (calls, ask) => {
       const told = calls.textRefusal(ask, first);
-      return reported(told.status === 'no' ? calls.textRefusal(ask, second) : told, this.#bcs);
+      return reported(told.status === 'no' ? calls.textRefusal(ask, second) : told);
     };
     return this.#answer(ALL_NODES, (calls, ask) => calls.compare(ask, first, second), placing).status === 'done';
   }
@@ -72,17 +75,17 @@ export class FormatCalls {
 
   /** The part to which a path leads. */
   part(bytes, path) {
-    const placing = (calls) => reported(calls.pathPlace(path), this.#bcs);
-    return this.#partBy(bytes, (calls, ask) => calls.part(ask, bytes, path), placing);
+    return this.#partBy(bytes, (calls, ask) => calls.part(ask, bytes, path), (calls) => reported(calls.pathPlace(path)));
   }
 
   /** The part with a name. `notation` is `name` or `pointer`. */
   partNamed(bytes, notation, name) {
-    return this.#partBy(bytes, (calls, ask) => calls.partNamed(ask, notation, name, bytes));
+    const placing = () => ({ detail: `expected ${EXAMPLES[notation]}` });
+    return this.#partBy(bytes, (calls, ask) => calls.partNamed(ask, notation, name, bytes), placing);
   }
 
   #partBy(bytes, call, placing) {
-    const placed = (calls, ask, { status }) => (status === 'path' ? placing?.(calls) : reported(calls.stopRefusal(ask, bytes), this.#bcs));
+    const placed = (calls, ask, { status }) => (status === 'path' ? placing(calls) : reported(calls.stopRefusal(ask, bytes)));
     const { status, place, length } = this.#answer(this.#nodesFor(bytes), call, placed);
     return status === 'no' ? undefined : { place, bytes: bytes.slice(place, place + length) };
   }
@@ -100,18 +103,18 @@ export class FormatCalls {
   }
 
   #ofText(text, call) {
-    return this.#answer(ALL_NODES, call, (calls, ask) => reported(calls.textRefusal(ask, text), this.#bcs));
+    return this.#answer(ALL_NODES, call, (calls, ask) => reported(calls.textRefusal(ask, text)));
   }
 
   #ofBytes(bytes, call, nodes = this.#nodesFor(bytes)) {
-    return this.#answer(nodes, call, (calls, ask) => reported(calls.stopRefusal(ask, bytes), this.#bcs));
+    return this.#answer(nodes, call, (calls, ask) => reported(calls.stopRefusal(ask, bytes)));
   }
 
   #answer(nodes, call, placing) {
     const limits = { depth: this.#limits.depth, nodes: this.#limits.nodes ?? nodes };
     const ask = { registry: this.#holder.opened, format: this.#format.bytes, ...limits };
     const placed = (calls, answer) => {
-      if (answer.status === 'format') return reported(calls.formatPlace(ask), this.#bcs);
+      if (answer.status === 'format') return reported(calls.formatPlace(ask));
       return placing?.(calls, ask, answer);
     };
     return this.#bcs.answerOf((calls) => call(calls, ask), placed);

@@ -52,7 +52,7 @@ class Bcs {
   registry(text, { names } = {}) {
     const [bytes, moveTypes] = [bytesOf(text), new MoveTypes(names)];
     const holder = new Holder(this.#calls, bytes, moveTypes);
-    this.answerOf((calls) => calls.open(holder.opened), (calls, { fault }) => reported(calls.registryRefusal(bytes, fault), this));
+    this.answerOf((calls) => calls.open(holder.opened), (calls) => reported(calls.registryRefusal(bytes)));
     holder.checkNames();
     return new Registry(this, holder, { depth: MOST_DEPTH });
   }
@@ -60,17 +60,17 @@ class Bcs {
   /** Returns if the newer registry keeps all that the older one has; else it is refused, the first fault being told. */
   grows(older, newer) {
     const [first, second] = [bytesOf(older), bytesOf(newer)];
-    this.answerOf((calls) => calls.grows(first, second), (calls, answer) => {
-      if (answer.status === 'refused') return reported(calls.growthPlace(first, second), this);
-      return reported(calls.registryRefusal(answer.status === 'newer' ? second : first, answer.fault), this);
+    this.answerOf((calls) => calls.grows(first, second), (calls, { status }) => {
+      if (status === 'refused') return reported(calls.growthPlace(first, second));
+      return reported(calls.registryRefusal(status === 'newer' ? second : first));
     });
   }
 
   /** All differences from an older registry to a newer one, a line for each. */
   differences(older, newer) {
     const [first, second] = [bytesOf(older), bytesOf(newer)];
-    const { output } = this.answerOf((calls) => calls.growthList(first, second), (calls, { status, fault }) =>
-      reported(calls.registryRefusal(status === 'newer' ? second : first, fault), this));
+    const { output } = this.answerOf((calls) => calls.growthList(first, second), (calls, { status }) =>
+      reported(calls.registryRefusal(status === 'newer' ? second : first)));
     return stringOfUtf8(output).split('\n').slice(0, -1);
   }
 
