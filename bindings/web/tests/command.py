@@ -139,11 +139,11 @@ def ask_refusals(programs: Programs) -> None:
     both = programs.both
     write("input", "-4660\n")
     bad_bool, decode = "refused: BadBool at 1\n", ["registry.json", "S", "bad.hex"]
-    both(2, bad_bool, "at .owner: BadBool: expected BOOL, 00 or 01, found 02\n", "decode", *decode)
+    both(2, bad_bool, "at .owner: BadBool: expected BOOL, 00 or 01, found 05\n", "decode", *decode)
     both(2, bad_bool, "", "decode", "--quiet", *decode)
     too_deep = "at .: TooDeep: expected room for S; --depth allows 0\n"
     both(2, "refused: TooDeep at 0\n", too_deep, "scan", "--depth=-0", *decode)
-    bad_hex, no_digits = "refused: BadHex\n", "at /sender: BadHex: write 64 digits without 0x\n"
+    bad_hex, no_digits = "refused: BadHex\n", "at /sender: BadHex: 0x isn't part of the digits; remove it\n"
     both(2, bad_hex, no_digits, "encode", "payment.json", "P", "wrong.json")
     both(2, bad_hex, "", "encode", "--quiet", "payment.json", "P", "wrong.json")
     both(2, bad_hex, f"in B, {no_digits}", "same", "payment.json", "P", "right.json", "wrong.json")
