@@ -143,7 +143,7 @@ def files(program: Program) -> None:
     (room / "loop").symlink_to("loop")
     (room / "folder").mkdir()
     for name, reason in {
-        f"{room}/none": "No such file or directory",
+        f"{room}/none": "No such file or directory; a value itself goes to standard input, and a registry itself starts with {",
         f"{program.number}/none": "Not a directory",
         f"{room}/loop": "Too many levels of symbolic links",
         "n" * 4096: "File name too long",

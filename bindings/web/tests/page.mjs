@@ -296,7 +296,7 @@ test('hostile names in the place of a refusal, and in its words, are text', asyn
     await isToldAsText(page, 'verdict', told);
   }
   await replace(page, 'bytes', '0002');
-  await isToldAsText(page, 'verdict', `Expected there: BOOL, at ::${SCRIPT}.<b>${IMAGE}/.`);
+  await isToldAsText(page, 'verdict', `Expected there: BOOL, at ::${SCRIPT}."<b>${IMAGE}/".`);
   await page.until("document.querySelector('#tree .stop')?.textContent.includes('expected: BOOL')");
   await isToldAsText(page, 'tree', SCRIPT);
   for (const [registry, told] of [
