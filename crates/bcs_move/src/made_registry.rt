@@ -1,0 +1,104 @@
+//! Registries that are made from modules.
+ghost use Rattle.std.specs.Prelude.{IfOk, string_bytes};
+ghost use Rattle.bcs_move.specs.Made.{WritesSome};
+
+use crate::maker::Maker;
+use crate::missing::refuse_missing;
+use crate::requests::put_request;
+use crate::waiting::make_waiting;
+use bcs_move_types::answers::modules_of;
+use bcs_move_types::modules_json::modules_value;
+use bcs_move_types::place::Place;
+use bcs_move_types::refusal::{MoveFault, MoveRefusalName, refusal_with};
+use bcs_registry::{Registry, RegistryFault};
+use std::alloc::{AllocError, Global};
+use std::collections::BTreeMap;
+
+/// A registry that was made from modules.
+#[derive(Debug, Drop)]
+pub struct MadeRegistry {
+    /// The registry's JSON: compact, with members sorted by the bytes of their names.
+    pub json: String,
+    /// What a reader of the registry has to know, a line in ASCII each.
+    pub notes: Vec<String>,
+}
+
+/// Makes the registry that has the containers of all `types`, and everything that these need.
+///
+/// `modules` is JSON: a module of Aptos or Sui, an array of modules, Sui's object of modules, or a chain's whole answer
+/// with one of these. Each of `types` is a type, such as `0x1::coin::Coin<0x1::aptos_coin::AptosCoin>`, or a function,
+/// such as `0x1::coin::transfer<0x1::aptos_coin::AptosCoin>`. A type has a container of its name, and a function a
+/// struct of its arguments, in addition to a container for each of them, such as `0x1::coin::transfer::arg0`.
+///
+/// If modules are missing, one refusal lists all that are known to be missing.
+pub fn registry_of_modules(
+    alloc: Global,
+    modules: &str,
+    types: &[&str],
+) -> Result<MadeRegistry, MoveFault>
+    ensures { IfOk result (λ made. WritesSome (string_bytes made.json)) }
+{
+    let draft = draft_of_modules(alloc, modules, types)?;
+    let json = checked_json(alloc, draft.json.as_str())?;
+    Ok(MadeRegistry {
+        json,
+        notes: draft.notes,
+    })
+}
+
+/// The same, before the registry is checked.
+fn draft_of_modules(
+    alloc: Global,
+    modules: &str,
+    types: &[&str],
+) -> Result<MadeRegistry, MoveFault> {
+    let value = modules_value(alloc, modules)?;
+    let index = modules_of(alloc, &value)?;
+    let mut maker = Maker::new(alloc, &index);
+    for text in types {
+        put_request(alloc, &mut maker, *text)?;
+    }
+    make_waiting(alloc, &mut maker)?;
+    refuse_missing(alloc, &maker)?;
+    if let Some(note) = maker.ascii.note(alloc)? {
+        maker.notes.push(note)?;
+    }
+    let json = containers_json(alloc, &maker.containers)?;
+    let Maker { notes, .. } = maker;
+    Ok(MadeRegistry { json, notes })
+}
+
+/// The containers as members of an object. Their names need no escapes.
+fn containers_json(
+    alloc: Global,
+    containers: &BTreeMap<String, String>,
+) -> Result<String, AllocError> {
+    let mut json = String::new(alloc);
+    let mut before = "{\"";
+    for (name, container) in containers {
+        json.push_str(before)?;
+        json.push_str(name.as_str())?;
+        json.push_str("\":")?;
+        json.push_str(container.as_str())?;
+        before = ",\"";
+    }
+    json.push_str(if json.is_empty() { "{}" } else { "}" })?;
+    Ok(json)
+}
+
+/// The JSON of the registry that this is, as `Registry` prints it.
+fn checked_json(alloc: Global, json: &str) -> Result<String, MoveFault>
+    ensures { IfOk result (λ made. WritesSome (string_bytes made)) }
+{
+    match Registry::read(alloc, json.as_bytes()) {
+        Ok(registry) => {
+            registry.recall();
+            Ok(registry.print(alloc)?)
+        }
+        Err(RegistryFault::OutOfMemory) => Err(MoveFault::OutOfMemory),
+        Err(fault) => {
+            let message = format!(in alloc; "the containers aren't a registry: {fault}");
+            Err(refusal_with(alloc, MoveRefusalName::TooLarge, &Place::At(""), message))
+        }
+    }
+}
