@@ -7,8 +7,8 @@ use bcs_move_types::place::{Place, member};
 use bcs_move_types::refusal::{MoveFault, MoveRefusalName, refusal};
 use bcs_move_types::words::is_name;
 use serde_json::{Map, Value};
-use std::alloc::Global;
-use std::collections::BTreeSet;
+use std::alloc::{AllocError, Global};
+use std::collections::{BTreeMap, BTreeSet};
 
 /// Above, the number of a variant would have two bytes, which Sui doesn't allow.
 const VARIANTS: usize = 127;
@@ -25,15 +25,29 @@ pub(crate) fn put_enum(
     let variants = object_in(alloc, value, "variants", place)?;
     let names = names_in_order(alloc, value, variants, place)?;
     let place = member(place, "variants");
-    out.push_str("{\"ENUM\":{")?;
-    for (number, name) in names.iter().enumerate() {
-        let comma = if number == 0 { "" } else { "," };
-        let start = format!(in alloc; "{comma}\"{number}\":")?;
-        out.push_str(start.as_str())?;
+    out.push_str("{\"ENUM\":")?;
+    let mut before = "{\"";
+    for (number, name) in &numbered(alloc, &names)? {
+        out.push_str(before)?;
+        out.push_str(number.as_str())?;
+        out.push_str("\":")?;
         let fields = variants.get(*name);
         put_variant(alloc, maker, given, fields, &member(&place, *name), out)?;
+        before = ",\"";
     }
     Ok(out.push_str("}}")?)
+}
+
+/// The names by their numbers, in the order in which registries are printed: 10 comes before 2.
+fn numbered<'v>(
+    alloc: Global,
+    names: &[&'v str],
+) -> Result<BTreeMap<String, &'v str>, AllocError> {
+    let mut numbered = BTreeMap::new(alloc);
+    for (number, name) in names.iter().enumerate() {
+        drop(numbered.insert(format!(in alloc; "{number}")?, *name)?);
+    }
+    Ok(numbered)
 }
 
 /// The names of the variants, by their numbers.

@@ -1,5 +1,5 @@
 //! Registries that are made from modules.
-ghost use Rattle.std.specs.Prelude.{IfOk, string_bytes};
+ghost use Rattle.std.specs.Prelude.{IfOk, OnOk, string_bytes};
 ghost use Rattle.bcs_move.specs.Made.{WritesSome};
 
 use crate::maker::Maker;
@@ -17,7 +17,7 @@ use std::collections::BTreeMap;
 /// A registry that was made from modules.
 #[derive(Debug, Drop)]
 pub struct MadeRegistry {
-    /// The registry's JSON: compact, with members sorted by the bytes of their names.
+    /// The registry's JSON, as `Registry::print` prints it.
     pub json: String,
     /// What a reader of the registry has to know, a line in ASCII each.
     pub notes: Vec<String>,
@@ -38,16 +38,13 @@ pub fn registry_of_modules(
 ) -> Result<MadeRegistry, MoveFault>
     ensures { IfOk result (λ made. WritesSome (string_bytes made.json)) }
 {
-    let draft = draft_of_modules(alloc, modules, types)?;
-    let json = checked_json(alloc, draft.json.as_str())?;
-    Ok(MadeRegistry {
-        json,
-        notes: draft.notes,
-    })
+    let made = unchecked_registry(alloc, modules, types)?;
+    require_registry(alloc, made.json.as_str())?;
+    Ok(made)
 }
 
-/// The same, before the registry is checked.
-fn draft_of_modules(
+/// The same, without the check that this is a registry.
+fn unchecked_registry(
     alloc: Global,
     modules: &str,
     types: &[&str],
@@ -86,15 +83,12 @@ fn containers_json(
     Ok(json)
 }
 
-/// The JSON of the registry that this is, as `Registry` prints it.
-fn checked_json(alloc: Global, json: &str) -> Result<String, MoveFault>
-    ensures { IfOk result (λ made. WritesSome (string_bytes made)) }
+/// Refuses JSON that isn't a registry.
+fn require_registry(alloc: Global, json: &str) -> Result<(), MoveFault>
+    ensures { OnOk result (WritesSome json.now) }
 {
     match Registry::read(alloc, json.as_bytes()) {
-        Ok(registry) => {
-            registry.recall();
-            Ok(registry.print(alloc)?)
-        }
+        Ok(_registry) => Ok(()),
         Err(RegistryFault::OutOfMemory) => Err(MoveFault::OutOfMemory),
         Err(fault) => {
             let message = format!(in alloc; "the containers aren't a registry: {fault}");
