@@ -12,6 +12,7 @@ mod growing;
 mod handle;
 mod handles;
 mod known;
+mod modules;
 mod named_parts;
 mod naming;
 mod numbered;

@@ -26,14 +26,13 @@ pub(crate) fn put_enum(
     let names = names_in_order(alloc, value, variants, place)?;
     let place = member(place, "variants");
     out.push_str("{\"ENUM\":")?;
-    let mut before = "{\"";
-    for (number, name) in &numbered(alloc, &names)? {
-        out.push_str(before)?;
-        out.push_str(number.as_str())?;
-        out.push_str("\":")?;
+    for (index, (number, name)) in numbered(alloc, &names)?.iter().enumerate() {
+        out.push(if index == 0 { '{' } else { ',' })?;
+        let number = number.as_str();
+        let start = format!(in alloc; "\"{number}\":")?;
+        out.push_str(start.as_str())?;
         let fields = variants.get(*name);
         put_variant(alloc, maker, given, fields, &member(&place, *name), out)?;
-        before = ",\"";
     }
     Ok(out.push_str("}}")?)
 }

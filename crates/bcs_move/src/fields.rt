@@ -32,7 +32,7 @@ pub(crate) fn put_fields(
     out: &mut String,
 ) -> Result<(), MoveFault> {
     let mut names = BTreeSet::new(alloc);
-    let mut before = '[';
+    out.push('[')?;
     for (number, value) in values.iter().enumerate() {
         let place = item(place, number);
         let name = field_name(alloc, value, &place)?;
@@ -41,9 +41,10 @@ pub(crate) fn put_fields(
             let message = "another field before it has this name";
             return Err(refusal(alloc, MoveRefusalName::RepeatedName, &place, message));
         }
-        out.push(before)?;
+        if number > 0 {
+            out.push(',')?;
+        }
         put_field(alloc, maker, given, value, &place, out)?;
-        before = ',';
     }
     Ok(out.push(']')?)
 }

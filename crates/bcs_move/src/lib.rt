@@ -4,6 +4,7 @@
 mod budget;
 mod closed_type;
 mod containers;
+mod display;
 mod enums;
 mod fields;
 mod formats;
@@ -18,4 +19,5 @@ mod waiting;
 
 pub use bcs_move_types::place::MovePlace;
 pub use bcs_move_types::refusal::{MoveFault, MoveRefusal, MoveRefusalName};
-pub use made_registry::{MadeRegistry, registry_of_modules};
+pub use display::{notes_line, shown_refusal};
+pub use made_registry::{MadeRegistry, registry_of_bytes, registry_of_modules};

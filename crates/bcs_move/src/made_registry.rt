@@ -9,10 +9,11 @@ use crate::waiting::make_waiting;
 use bcs_move_types::answers::modules_of;
 use bcs_move_types::modules_json::modules_value;
 use bcs_move_types::place::Place;
-use bcs_move_types::refusal::{MoveFault, MoveRefusalName, refusal_with};
+use bcs_move_types::refusal::{MoveFault, MoveRefusalName, refusal, refusal_with};
 use bcs_registry::{Registry, RegistryFault};
 use std::alloc::{AllocError, Global};
 use std::collections::BTreeMap;
+use std::str::from_utf8;
 
 /// A registry that was made from modules.
 #[derive(Debug, Drop)]
@@ -43,6 +44,23 @@ pub fn registry_of_modules(
     Ok(made)
 }
 
+/// The same, of the bytes of a file: JSON is in UTF-8.
+pub fn registry_of_bytes(
+    alloc: Global,
+    modules: &[u8],
+    types: &[&str],
+) -> Result<MadeRegistry, MoveFault>
+    ensures { IfOk result (λ made. WritesSome (string_bytes made.json)) }
+{
+    match from_utf8(modules) {
+        Ok(text) => registry_of_modules(alloc, text, types),
+        Err(_) => {
+            let message = "this isn't JSON, since it isn't UTF-8";
+            Err(refusal(alloc, MoveRefusalName::NotJson, &Place::At(""), message))
+        }
+    }
+}
+
 /// The same, without the check that this is a registry.
 fn unchecked_registry(
     alloc: Global,
@@ -70,16 +88,14 @@ fn containers_json(
     alloc: Global,
     containers: &BTreeMap<String, String>,
 ) -> Result<String, AllocError> {
-    let mut json = String::new(alloc);
-    let mut before = "{\"";
-    for (name, container) in containers {
-        json.push_str(before)?;
+    let mut json = String::from_str(alloc, "{")?;
+    for (number, (name, container)) in containers.iter().enumerate() {
+        json.push_str(if number == 0 { "\"" } else { ",\"" })?;
         json.push_str(name.as_str())?;
         json.push_str("\":")?;
         json.push_str(container.as_str())?;
-        before = ",\"";
     }
-    json.push_str(if json.is_empty() { "{}" } else { "}" })?;
+    json.push('}')?;
     Ok(json)
 }
 

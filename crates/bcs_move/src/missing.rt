@@ -26,25 +26,32 @@ pub(crate) fn note_missing(
 
 /// Refuses the request if modules are missing, with a list of all.
 pub(crate) fn refuse_missing(alloc: Global, maker: &Maker<'_, '_>) -> Result<(), MoveFault> {
-    if maker.missing.is_empty() {
+    let Some((_, first)) = maker.missing.first_key_value() else {
         return Ok(());
-    }
-    let mut message = String::from_str(alloc, "add these modules:")?;
-    let mut first = "";
-    for (module, place) in &maker.missing {
-        if first.is_empty() {
-            first = place.as_str();
-        } else {
-            message.push(';')?;
-        }
-        put_missing(alloc, maker, module.as_str(), place.as_str(), &mut message)?;
-    }
-    let place = if first.starts_with('/') {
-        Place::At(first)
-    } else {
-        Place::Requested(first)
     };
+    let message = missing_list(alloc, maker)?;
+    let place = noted_place(first.as_str());
     Err(refusal(alloc, MoveRefusalName::MissingModule, &place, message.as_str()))
+}
+
+/// The place with this text: a JSON Pointer, or what was requested.
+fn noted_place(text: &str) -> Place<'_> {
+    if text.starts_with('/') {
+        Place::At(text)
+    } else {
+        Place::Requested(text)
+    }
+}
+
+fn missing_list(alloc: Global, maker: &Maker<'_, '_>) -> Result<String, AllocError> {
+    let mut list = String::from_str(alloc, "add these modules:")?;
+    for (number, (module, place)) in maker.missing.iter().enumerate() {
+        if number > 0 {
+            list.push(';')?;
+        }
+        put_missing(alloc, maker, module.as_str(), place.as_str(), &mut list)?;
+    }
+    Ok(list)
 }
 
 /// Appends which module is missing, where it is needed, and how to fetch it.

@@ -90,11 +90,9 @@ fn put_types(
     arguments: &[String],
     out: &mut String,
 ) -> Result<(), PrintFault> {
-    let mut before = "<";
-    for kind in kinds {
-        put_word(before, out)?;
+    for (number, kind) in kinds.iter().enumerate() {
+        put_word(if number == 0 { "<" } else { ", " }, out)?;
         put_type(kind, arguments, out)?;
-        before = ", ";
     }
     if kinds.is_empty() {
         return Ok(());

@@ -8,6 +8,7 @@ mod bytes_answers;
 mod ending;
 mod examples;
 mod explanations;
+mod from_move;
 mod growing;
 mod input_places;
 mod job_fault;
