@@ -24,13 +24,12 @@ import time
 from concurrent.futures import ThreadPoolExecutor
 from typing import Any, NamedTuple
 
-sys.path.insert(0, str(pathlib.Path(__file__).resolve().parent / "move"))
-import independent
-import make
+from move import independent, make
 
 AC = "0x1::aptos_coin::AptosCoin"
 CAFE = f"0x{'cafe'.rjust(64, '0')}"
 ADDRESS = {"NEWTYPESTRUCT": {"TUPLEARRAY": {"CONTENT": "U8", "SIZE": 32}}}
+OBJECT = ": an object or another call's result, without bytes here"
 SECONDS = 2
 MEMORY = 64 << 20
 NAMES = [
@@ -69,7 +68,9 @@ class Program:
     def made(self, modules: Any, *types: str) -> Any:
         done = self.make(modules, *types)
         require(done.status == 0, f"{types}: {done}")
-        shown = subprocess.run([self.bcs, "show", "--json", self.file(done.output)], capture_output=True, encoding="utf-8")
+        shown = subprocess.run(
+            [self.bcs, "show", "--json", self.file(done.output)], capture_output=True, encoding="utf-8"
+        )
         require(shown.stdout == done.output, f"{types}: this isn't as show --json prints it: {done.output}")
         return json.loads(done.output)
 
@@ -135,9 +136,7 @@ DEEP = "vector<" * 40 + "u8" + ">" * 40
 SUI_DEEP: Any = "U8"
 for _ in range(40):
     SUI_DEEP = {"Vector": SUI_DEEP}
-NESTED = {
-    "Struct": {"address": "0x1", "module": "m", "name": "S", "typeArguments": [{"Vector": {"TypeParameter": 0}}]}
-}
+NESTED = {"Struct": {"address": "0x1", "module": "m", "name": "S", "typeArguments": [{"Vector": {"TypeParameter": 0}}]}}
 GROWING = [(f"f{n}", "0x1::m::S<0x1::m::P<T0, T0>>") for n in range(2)]
 FIELD = "/abi/structs/0/fields/0/type"
 OF_SUI = "/structs/S/fields/0/type"
@@ -294,7 +293,7 @@ def try_refusals(program: Program) -> None:
         what = f"{name} of {requested} at {place}: {done}"
         require(done.status == 2 and done.output == f"refused: {name}\n", what)
         start = place_of(place, requested) + f"{name}: "
-        require(done.errors.startswith(start) or done.errors.startswith(start.replace("the whole text", "")), what)
+        require(done.errors.startswith(start), what)
         require(words in done.errors and done.errors.isascii() and done.errors.count("\n") == 1, what)
     require({name for _, _, name, _, _ in REFUSED} == set(NAMES), "some refusals have no case")
     print(f"move_modules: {len(REFUSED)} refusals", flush=True)
@@ -326,7 +325,8 @@ def try_facts(program: Program) -> None:
         formats: list[Any] = [{"OPTION": "U64"}, "STR", "BYTES"]
         equal([registry[name] for name in names[:3]], [{"NEWTYPESTRUCT": it} for it in formats], "standard types")
         equal([registry[name] for name in names[3:]], [ADDRESS, ADDRESS], "wide types")
-    for more in ({}, {"is_enum": True}, {"variants": [{"name": "None"}, {"name": "Some"}]}):
+    shapes: list[dict[str, Any]] = [{}, {"is_enum": True}, {"variants": [{"name": "None"}, {"name": "Some"}]}]
+    for more in shapes:
         module = changed(aptos([], 1, name="Option", **more), name="option")
         registry = program.made(module, names[0])
         equal(list(registry.values()), [{"NEWTYPESTRUCT": {"OPTION": "U64"}}], "Option as an enum")
@@ -338,8 +338,12 @@ def try_facts(program: Program) -> None:
     equal([next(iter(it)) for it in variants.values()], ["Point", "Circle", "Box", "Any"], "variants")
     equal(variants["2"], {"Box": {"STRUCT": [{"pos0": "U32"}, {"pos1": "U16"}]}}, "a variant")
     recursive = aptos([("v", "vector<0x1::m::S>")])
-    equal(program.made(recursive, "0x1::m::S"), {"0x1::m::S": {"STRUCT": [{"v": {"SEQ": {"TYPENAME": "0x1::m::S"}}}]}}, "S")
-    many = {f"V{number}": [] for number in range(12)}
+    equal(
+        program.made(recursive, "0x1::m::S"),
+        {"0x1::m::S": {"STRUCT": [{"v": {"SEQ": {"TYPENAME": "0x1::m::S"}}}]}},
+        "S",
+    )
+    many: dict[str, Any] = {f"V{number}": [] for number in range(12)}
     registry = program.made(enum(variants=many, variantDeclarationOrder=list(many)), "0x1::m::S")
     equal({n: {f"V{n}": "UNIT"} for n in map(str, range(12))}, registry["0x1::m::S"]["ENUM"], "many variants")
     # What isn't needed may be anything, such as a field of the type num.
@@ -365,12 +369,13 @@ def try_notes(program: Program) -> None:
     function = "0x3::sui_system::request_add_stake_mul_coin"
     done = program.make(SUI, function, "0x02::url::Url")
     equal(
-        done.errors.splitlines(),
+        done.errors.rstrip("\n").split("; "),
         [
-            f"{function}: arg0 is 0x3::sui_system::SuiSystemState: an object or another call's result, without bytes here",
-            f"{function}: arg1 is vector<0x2::coin::Coin<0x2::sui::SUI>>: an object or another call's result, without bytes here",
+            f"{function}: arg0 is 0x3::sui_system::SuiSystemState{OBJECT}",
+            f"{function}: arg1 is vector<0x2::coin::Coin<0x2::sui::SUI>>{OBJECT}",
             '"0x02::url::Url": the container is called 0x2::url::Url',
-            "0x1::ascii::String is STR, which also accepts text that isn't ASCII: 1, first for /1/result/url/structs/Url/fields/0/type",
+            "0x1::ascii::String is STR, which also accepts text that isn't ASCII: 1, first for "
+            "/1/result/url/structs/Url/fields/0/type",
         ],
         "notes",
     )
@@ -391,7 +396,8 @@ def try_missing(program: Program) -> None:
 
 RANDOM_TYPES = [
     (APTOS, [
-        f"0x1::coin::CoinStore<{AC}>", f"0x1::coin::CoinInfo<{AC}>", "0x1::account::Account", "0x1::coin::CoinConversionMap",
+        f"0x1::coin::CoinStore<{AC}>", f"0x1::coin::CoinInfo<{AC}>", "0x1::account::Account",
+        "0x1::coin::CoinConversionMap",
         "0x1::object::ObjectCore", "0x1::fungible_asset::FungibleStore", "0x1::fungible_asset::Metadata",
         "0x1::coin::CoinDeposit", "0x1::fungible_asset::Supply", "0x1::fungible_asset::ConcurrentSupply",
         "0x1::aggregator_v2::DerivedStringSnapshot", "vector<vector<u8>>",

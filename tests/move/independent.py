@@ -76,7 +76,7 @@ def declared_in(modules: Modules, head: str) -> Any:
 
 
 def field_types(fields: list[Any], kind: Type) -> list[tuple[str, Type]]:
-    """The names and types of fields. A type is a string on Aptos, and often an object on Sui, where `U8` is upper case."""
+    """The names and types of fields. A type is a string on Aptos, and an object or upper case on Sui."""
     found = []
     for field in fields:
         of = field["type"]

@@ -7,6 +7,7 @@ use crate::missing::refuse_missing;
 use crate::requests::put_request;
 use crate::waiting::make_waiting;
 use bcs_move_types::answers::modules_of;
+use bcs_move_types::modules::Modules;
 use bcs_move_types::modules_json::modules_value;
 use bcs_move_types::place::Place;
 use bcs_move_types::refusal::{MoveFault, MoveRefusalName, refusal, refusal_with};
@@ -69,18 +70,40 @@ fn unchecked_registry(
 ) -> Result<MadeRegistry, MoveFault> {
     let value = modules_value(alloc, modules)?;
     let index = modules_of(alloc, &value)?;
-    let mut maker = Maker::new(alloc, &index);
-    for text in types {
-        put_request(alloc, &mut maker, *text)?;
-    }
-    make_waiting(alloc, &mut maker)?;
-    refuse_missing(alloc, &maker)?;
-    if let Some(note) = maker.ascii.note(alloc)? {
-        maker.notes.push(note)?;
-    }
+    registry_of_index(alloc, &index, types)
+}
+
+fn registry_of_index(
+    alloc: Global,
+    modules: &Modules<'_>,
+    types: &[&str],
+) -> Result<MadeRegistry, MoveFault> {
+    let mut maker = Maker::new(alloc, modules);
+    make_all(alloc, &mut maker, types)?;
     let json = containers_json(alloc, &maker.containers)?;
     let Maker { notes, .. } = maker;
     Ok(MadeRegistry { json, notes })
+}
+
+/// Makes the containers of all types and functions, and all that these need.
+fn make_all(
+    alloc: Global,
+    maker: &mut Maker<'_, '_>,
+    types: &[&str],
+) -> Result<(), MoveFault> {
+    for text in types {
+        put_request(alloc, maker, *text)?;
+    }
+    make_waiting(alloc, maker)?;
+    refuse_missing(alloc, maker)?;
+    note_ascii(alloc, maker)
+}
+
+fn note_ascii(alloc: Global, maker: &mut Maker<'_, '_>) -> Result<(), MoveFault> {
+    match maker.ascii.note(alloc)? {
+        Some(note) => Ok(maker.notes.push(note)?),
+        None => Ok(()),
+    }
 }
 
 /// The containers as members of an object. Their names need no escapes.
