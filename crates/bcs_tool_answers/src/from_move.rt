@@ -5,7 +5,9 @@ ghost use Rattle.bcs_tool_answers.specs.Places.{IsAnswer, MayReport};
 
 use crate::answer::{Answer, placed, refused, shown};
 use crate::places::{place_of, place_of_line};
-use bcs_move::{MadeRegistry, MoveFault, MoveRefusal, notes_line, registry_of_bytes, shown_refusal};
+use bcs_move::{
+    MadeRegistry, MoveFault, MoveRefusal, notes_line, registry_of_bytes, shown_refusal,
+};
 use bcs_tool_command_line::{Command, Work};
 use std::alloc::{AllocError, Global};
 

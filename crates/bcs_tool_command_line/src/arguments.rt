@@ -130,10 +130,7 @@ fn given_name(alloc: Global, word: Option<&str>) -> Result<Option<String>, Alloc
 }
 
 // The values of an argument that may have several.
-fn given_names(
-    alloc: Global,
-    words: Option<&[&str]>,
-) -> Result<Option<Vec<String>>, AllocError>
+fn given_names(alloc: Global, words: Option<&[&str]>) -> Result<Option<Vec<String>>, AllocError>
     ensures { IfOk result (λ o. option_map (λ v. map string_bytes v.items) o
         ≡ option_map (λ s. map (λ t. t.now) s.now) words.entry) }
 {
