@@ -24,7 +24,8 @@ pub(crate) fn put_container(
         arguments,
     };
     if declaration.is_enum_of_aptos() {
-        let message = "this is an enum, and what Aptos returns for enums isn't supported: write its container by hand";
+        let message =
+            "this is an enum, and what Aptos returns for enums isn't supported: write its container by hand";
         return Err(refusal(alloc, MoveRefusalName::UnknownVariants, &place, message));
     }
     if declaration.is_enum {
@@ -34,7 +35,8 @@ pub(crate) fn put_container(
     let fields = array_in(alloc, declaration.value, "fields", &place)?;
     let place = member(&place, "fields");
     if fields.is_empty() {
-        let message = "there are none, and Move has no struct without fields: it is an enum that the chain's answer doesn't describe, so write its container by hand";
+        let message =
+            "there are none, and Move has no struct without fields: it is an enum that the chain's answer doesn't describe, so write its container by hand";
         return Err(refusal(alloc, MoveRefusalName::UnknownVariants, &place, message));
     }
     out.push_str("{\"STRUCT\":")?;

@@ -18,7 +18,11 @@ pub fn shown_refusal(refusal: MoveRefusal) -> Refusal {
             Refusal::of(name.name(), Location::WholeText, message)
         }
         MovePlace::Modules(pointer) => {
-            Refusal::of(name.name(), Location::Pointer(pointer.into_bytes()), message)
+            Refusal::of(
+                name.name(),
+                Location::Pointer(pointer.into_bytes()),
+                message,
+            )
         }
         MovePlace::Requested(text) => {
             Refusal::of(name.name(), Location::Name(text), message).in_argument("TYPE")

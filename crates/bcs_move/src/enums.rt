@@ -38,10 +38,7 @@ pub(crate) fn put_enum(
 }
 
 /// The names by their numbers, in the order in which registries are printed: 10 comes before 2.
-fn numbered<'v>(
-    alloc: Global,
-    names: &[&'v str],
-) -> Result<BTreeMap<String, &'v str>, AllocError> {
+fn numbered<'v>(alloc: Global, names: &[&'v str]) -> Result<BTreeMap<String, &'v str>, AllocError> {
     let mut numbered = BTreeMap::new(alloc);
     for (number, name) in names.iter().enumerate() {
         drop(numbered.insert(format!(in alloc; "{number}")?, *name)?);
@@ -69,7 +66,8 @@ fn names_in_order<'v>(
             }
         }
         None => {
-            let message = "there is no variantDeclarationOrder, without which the variants have no numbers: ask a newer node, or write the container by hand";
+            let message =
+                "there is no variantDeclarationOrder, without which the variants have no numbers: ask a newer node, or write the container by hand";
             return Err(refusal(alloc, MoveRefusalName::UnknownVariants, place, message));
         }
         found => {

@@ -144,6 +144,8 @@ pub(crate) fn wrong_count(
     arguments: usize,
     place: &Place<'_>,
 ) -> MoveFault {
-    let message = format!(in alloc; "the number of type parameters of {head} is {parameters}, and here are {arguments} type arguments");
+    let message = format!(in alloc;
+        "the number of type parameters of {head} is {parameters}, and here are {arguments} type arguments"
+    );
     refusal_with(alloc, MoveRefusalName::WrongCount, place, message)
 }

@@ -15,6 +15,7 @@ use bcs_move_types::refusal::MoveFault;
 use std::alloc::Global;
 
 const ID: &str = "0x2::object::ID";
+
 const CONTEXT: &str = "0x2::tx_context::TxContext";
 
 /// A parameter that a transaction has an argument for, with its JSON Pointer.
@@ -49,7 +50,11 @@ pub(crate) fn put_function(
     }
     let fields = fields.as_str();
     let container = format!(in alloc; "{{\"STRUCT\":[{fields}]}}")?;
-    drop(maker.containers.insert(String::from_str(alloc, name)?, container)?);
+    drop(
+        maker
+            .containers
+            .insert(String::from_str(alloc, name)?, container)?,
+    );
     Ok(())
 }
 
@@ -80,7 +85,9 @@ fn note_object(
 ) -> Result<(), MoveFault> {
     let text = closed_text(alloc, kind, &[], &Place::Requested(function))?;
     let text = text.as_str();
-    let note = format!(in alloc; "{function}: arg{number} is {text}: an object or another call's result, without bytes here")?;
+    let note = format!(in alloc;
+        "{function}: arg{number} is {text}: an object or another call's result, without bytes here"
+    )?;
     Ok(maker.notes.push(note)?)
 }
 

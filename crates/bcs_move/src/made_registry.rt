@@ -86,11 +86,7 @@ fn registry_of_index(
 }
 
 /// Makes the containers of all types and functions, and all that these need.
-fn make_all(
-    alloc: Global,
-    maker: &mut Maker<'_, '_>,
-    types: &[&str],
-) -> Result<(), MoveFault> {
+fn make_all(alloc: Global, maker: &mut Maker<'_, '_>, types: &[&str]) -> Result<(), MoveFault> {
     for text in types {
         put_request(alloc, maker, *text)?;
     }

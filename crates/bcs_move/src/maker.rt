@@ -67,7 +67,9 @@ impl AsciiUses {
         };
         let first = first.as_str();
         let count = self.count;
-        let note = format!(in alloc; "0x1::ascii::String is STR, which also accepts text that isn't ASCII: {count}, first for {first}")?;
+        let note = format!(in alloc;
+            "0x1::ascii::String is STR, which also accepts text that isn't ASCII: {count}, first for {first}"
+        )?;
         Ok(Some(note))
     }
 }

@@ -31,7 +31,12 @@ pub(crate) fn refuse_missing(alloc: Global, maker: &Maker<'_, '_>) -> Result<(),
     };
     let message = missing_list(alloc, maker)?;
     let place = noted_place(first.as_str());
-    Err(refusal(alloc, MoveRefusalName::MissingModule, &place, message.as_str()))
+    Err(refusal(
+        alloc,
+        MoveRefusalName::MissingModule,
+        &place,
+        message.as_str(),
+    ))
 }
 
 /// The place with this text: a JSON Pointer, or what was requested.
@@ -65,7 +70,9 @@ fn put_missing(
     let (address, name) = split_name(full);
     let words = match maker.modules.chain() {
         Some(Chain::Sui) => {
-            format!(in alloc; " {full} for {place}, by sui_getNormalizedMoveModule of {address} and {name}")?
+            format!(in alloc;
+                " {full} for {place}, by sui_getNormalizedMoveModule of {address} and {name}"
+            )?
         }
         _ => format!(in alloc; " {full} for {place}, from /v1/accounts/{address}/module/{name}")?,
     };

@@ -54,6 +54,8 @@ pub(crate) fn find_type<'a, 'm>(
 }
 
 fn unknown_name(alloc: Global, head: &str, place: &Place<'_>) -> MoveFault {
-    let message = format!(in alloc; "the module of {head} is here, and has no struct or enum with this name, nor a function that others may call");
+    let message = format!(in alloc;
+        "the module of {head} is here, and has no struct or enum with this name, nor a function that others may call"
+    );
     refusal_with(alloc, MoveRefusalName::UnknownName, place, message)
 }

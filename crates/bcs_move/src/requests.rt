@@ -46,10 +46,7 @@ fn note_name(
 }
 
 /// The function that is requested. A type with the same name has precedence.
-fn function_of<'a, 'm>(
-    modules: &'a Modules<'m>,
-    kind: &MoveType,
-) -> Option<&'a Declaration<'m>> {
+fn function_of<'a, 'm>(modules: &'a Modules<'m>, kind: &MoveType) -> Option<&'a Declaration<'m>> {
     match kind {
         MoveType::Declared(head, _) if modules.declared_type(head.as_str()).is_none() => {
             modules.function(head.as_str())

@@ -11,7 +11,9 @@ use serde_json::Value;
 use std::alloc::Global;
 
 pub(crate) const STRING: &str = "0x1::string::String";
+
 pub(crate) const ASCII: &str = "0x1::ascii::String";
+
 pub(crate) const OPTION: &str = "0x1::option::Option";
 
 /// Refuses a type that isn't declared as in the standard library, if its module is here.

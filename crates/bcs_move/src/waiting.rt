@@ -30,11 +30,7 @@ fn first_waiting(maker: &Maker<'_, '_>) -> Result<Option<String>, AllocError> {
     }
 }
 
-fn make_container(
-    alloc: Global,
-    maker: &mut Maker<'_, '_>,
-    name: &str,
-) -> Result<(), MoveFault> {
+fn make_container(alloc: Global, maker: &mut Maker<'_, '_>, name: &str) -> Result<(), MoveFault> {
     let place = Place::Requested(name);
     let MoveType::Declared(head, arguments) = type_of_text(alloc, name, &place)? else {
         return Ok(());
