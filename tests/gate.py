@@ -115,6 +115,7 @@ def steps(log: pathlib.Path) -> list[Step]:
         Step("building", ["tests/building.py"]),
         Step("engines", ["tests/engines.py"]),
         Step("schema", ["tests/schema.sh"]),
+        Step("move modules", python("tests/move_modules.py", program)),
         Step("explain", ["tests/explain.py"]),
         Step("mistakes", ["tests/mistakes.py"]),
         Step("heap", ["tests/program_heap.sh"]),

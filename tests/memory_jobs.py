@@ -1,5 +1,7 @@
 """The jobs at which tests/memory.py runs `bcs` with its requests for memory refused, and the files that they need."""
 
+import json
+
 from memory_of_program import Job
 
 S = '{"S":{"NEWTYPESTRUCT":"I16"}}'
@@ -94,6 +96,18 @@ MAPS = [
     Job(2, "refused: TooNested", ["decode", "--raw", NESTED, "L", "@nested"]),
     Job(0, "ok 500", ["scan", "--raw", NESTED, "L", "@nested"]),
 ]
+# A module of Aptos, and the registry for its struct.
+MODULE = json.dumps({
+    "address": "0x1", "name": "m", "structs": [{
+        "name": "S", "is_native": False, "generic_type_params": [{}], "fields": [
+            {"name": "a", "type": "vector<T0>"}, {"name": "b", "type": "0x1::option::Option<address>"},
+        ],
+    }],
+})  # fmt: skip
+MOVED = json.dumps({
+    "0x1::m::S<u8>": {"STRUCT": [{"a": "BYTES"}, {"b": {"OPTION": {"TYPENAME": "address"}}}]},
+    "address": {"NEWTYPESTRUCT": {"TUPLEARRAY": {"CONTENT": "U8", "SIZE": 32}}},
+}, separators=(",", ":"))  # fmt: skip
 # A registry in readable form, and examples.
 DISPLAYS = [
     Job(0, "S: NEWTYPESTRUCT, 2 bytes, used by no other\n  I16", ["show", "@registry"]),
@@ -108,6 +122,7 @@ DISPLAYS = [
     ),
     Job(0, '*"type": "boolean"*', ["schema", "@registry", BOOL]),
     Job(0, '*"#/$defs/I16"*', ["schema", "@registry", "S"]),
+    Job(0, MOVED, ["from-move", MODULE, "0x1::m::S<u8>"]),
     Job(0, "[]", ["example", "{}", LIST]),
     Job(0, '{"A":0}', ["example", "--variant", "A", VARIANTS, "E"]),
     Job(0, '[[{"some":[0]},"X"]]', ["example", "--full", '{"E":{"ENUM":{"0":{"X":"UNIT"}}}}', FULL]),

@@ -552,6 +552,20 @@ bcs_answer bcs_growth_place(const uint8_t *older, size_t older_length, const uin
                : plain(BCS_STACK);
 }
 
+bcs_answer bcs_registry_of_modules(const uint8_t *modules, size_t modules_length, const uint8_t *types, size_t types_length,
+                                   uint8_t *out, size_t out_length) {
+    return can_read_both(modules, modules_length, types, types_length)
+               ? bcs_c_registry_of_modules(modules, modules_length, types, types_length, out, out_length)
+               : plain(BCS_STACK);
+}
+
+bcs_answer bcs_modules_place(const uint8_t *modules, size_t modules_length, const uint8_t *types, size_t types_length,
+                             uint8_t *out, size_t out_length) {
+    return can_read_both(modules, modules_length, types, types_length)
+               ? bcs_c_modules_place(modules, modules_length, types, types_length, out, out_length)
+               : plain(BCS_STACK);
+}
+
 bcs_answer bcs_registry_place(uint32_t what, const uint8_t *registry, size_t registry_length, uint8_t *out,
                               size_t out_length) {
     return can_read(stack_left(), registry, registry_length)

@@ -63,6 +63,10 @@ bcs_answer bcs_c_growth_list(const uint8_t *older, size_t older_length, const ui
                              uint8_t *out, size_t out_length);
 bcs_answer bcs_c_growth_place(const uint8_t *older, size_t older_length, const uint8_t *newer, size_t newer_length,
                               uint8_t *out, size_t out_length);
+bcs_answer bcs_c_registry_of_modules(const uint8_t *modules, size_t modules_length, const uint8_t *types,
+                                     size_t types_length, uint8_t *out, size_t out_length);
+bcs_answer bcs_c_modules_place(const uint8_t *modules, size_t modules_length, const uint8_t *types, size_t types_length,
+                               uint8_t *out, size_t out_length);
 bcs_answer bcs_c_fault_name(uint32_t fault, uint8_t *out, size_t out_length);
 
 #endif

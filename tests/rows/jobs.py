@@ -7,7 +7,7 @@ from driver import Answer, Driver, Question, Refused, expect, stop_of
 from words import Unsayable, bytes_of, bytes_of_digits, format_of
 
 FORMS = {"--ways": "ways", "--paths": "paths", "--tree": "tree", "--json": "json"}
-COMMANDS_BEYOND_CALLS = {"show", "example", "schema"}
+COMMANDS_BEYOND_CALLS = {"show", "example", "schema", "from-move"}
 OPTIONS = ("--raw", "--base64", "--front", "--lines", "--color", "--list", *FORMS)
 BEYOND_CALLS = {"--base64", "--lines", "--color", "--list"}
 

@@ -99,7 +99,22 @@ enum bcs_fault {
     BCS_EXAMPLE_UNKNOWN_VARIANT = 701,
     BCS_EXAMPLE_NO_VALUE = 702,
     BCS_EXAMPLE_TOO_MANY_NODES = 703,
-    BCS_EXAMPLE_TOO_NESTED = 704
+    BCS_EXAMPLE_TOO_NESTED = 704,
+    /* of modules of a Move chain, or of a type that is requested of them */
+    BCS_MOVE_NOT_JSON = 801,
+    BCS_MOVE_REPEATED_MEMBER = 802,
+    BCS_MOVE_NOT_MODULES = 803,
+    BCS_MOVE_CHAIN_ERROR = 804,
+    BCS_MOVE_MIXED_CHAINS = 805,
+    BCS_MOVE_REPEATED_NAME = 806,
+    BCS_MOVE_BAD_TYPE = 807,
+    BCS_MOVE_MISSING_MODULE = 808,
+    BCS_MOVE_UNKNOWN_NAME = 809,
+    BCS_MOVE_WRONG_COUNT = 810,
+    BCS_MOVE_NO_BYTES = 811,
+    BCS_MOVE_UNKNOWN_VARIANTS = 812,
+    BCS_MOVE_NOT_STANDARD = 813,
+    BCS_MOVE_TOO_LARGE = 814
 };
 
 /* How bcs_explain prints. */
@@ -305,6 +320,18 @@ bcs_answer bcs_growth_list(const uint8_t *older, size_t older_length, const uint
 bcs_answer bcs_growth_place(const uint8_t *older, size_t older_length, const uint8_t *newer, size_t newer_length,
                             uint8_t *out, size_t out_length);
 
+/* The registry for types of a Move chain, as `bcs from-move` prints it without the last line end. `modules` is the JSON of modules,
+   as a node of Aptos or Sui returns them, or an array of such answers. `types` has a type on each line, or a function, whose
+   arguments have containers of their own. If there is more to know about the registry, a line feed and notes for people
+   follow its JSON, which has no line feeds. BCS_REFUSED with a BCS_MOVE_.. fault: there is no such registry. */
+bcs_answer bcs_registry_of_modules(const uint8_t *modules, size_t modules_length, const uint8_t *types, size_t types_length,
+                                   uint8_t *out, size_t out_length);
+
+/* Where bcs_registry_of_modules refuses modules, or a type: BCS_DONE, or BCS_NO if it doesn't. The place is a JSON Pointer into the
+   modules, which is empty for all of them, or the type: /0/abi/structs/3/fields/0/type, a NUL, a reference has no bytes. */
+bcs_answer bcs_modules_place(const uint8_t *modules, size_t modules_length, const uint8_t *types, size_t types_length,
+                             uint8_t *out, size_t out_length);
+
 /* ---- Names, versions and conversions. */
 
 /* The name of a fault, as the program `bcs` prints it: "BadBool". BCS_NO: no fault has the number. */
@@ -317,7 +344,8 @@ const char *bcs_version(void);
 static inline const char *bcs_fault_text(uint32_t fault) {
     switch (fault) {
     case BCS_REGISTRY_NOT_JSON:
-    case BCS_TEXT_NOT_JSON: return "NotJson";
+    case BCS_TEXT_NOT_JSON:
+    case BCS_MOVE_NOT_JSON: return "NotJson";
     case BCS_REGISTRY_BAD_SHAPE:
     case BCS_TEXT_BAD_SHAPE: return "BadShape";
     case BCS_REGISTRY_BAD_NUMBER:
@@ -326,8 +354,10 @@ static inline const char *bcs_fault_text(uint32_t fault) {
     case BCS_TEXT_TOO_NESTED:
     case BCS_SHOWN_TOO_NESTED:
     case BCS_EXAMPLE_TOO_NESTED: return "TooNested";
-    case BCS_REGISTRY_REPEATED_NAME: return "RepeatedName";
-    case BCS_REGISTRY_UNKNOWN_NAME: return "UnknownName";
+    case BCS_REGISTRY_REPEATED_NAME:
+    case BCS_MOVE_REPEATED_NAME: return "RepeatedName";
+    case BCS_REGISTRY_UNKNOWN_NAME:
+    case BCS_MOVE_UNKNOWN_NAME: return "UnknownName";
     case BCS_GROWTH_MISSING: return "Missing";
     case BCS_GROWTH_CHANGED: return "Changed";
     case BCS_GROWTH_VARIANT_MISSING: return "VariantMissing";
@@ -359,6 +389,17 @@ static inline const char *bcs_fault_text(uint32_t fault) {
     case BCS_STOP_TRAILING_BYTES: return "TrailingBytes";
     case BCS_PATH_BAD_PATH: return "BadPath";
     case BCS_EXAMPLE_NO_VALUE: return "NoValue";
+    case BCS_MOVE_REPEATED_MEMBER: return "RepeatedMember";
+    case BCS_MOVE_NOT_MODULES: return "NotModules";
+    case BCS_MOVE_CHAIN_ERROR: return "ChainError";
+    case BCS_MOVE_MIXED_CHAINS: return "MixedChains";
+    case BCS_MOVE_BAD_TYPE: return "BadType";
+    case BCS_MOVE_MISSING_MODULE: return "MissingModule";
+    case BCS_MOVE_WRONG_COUNT: return "WrongCount";
+    case BCS_MOVE_NO_BYTES: return "NoBytes";
+    case BCS_MOVE_UNKNOWN_VARIANTS: return "UnknownVariants";
+    case BCS_MOVE_NOT_STANDARD: return "NotStandard";
+    case BCS_MOVE_TOO_LARGE: return "TooLarge";
     default: return 0;
     }
 }

@@ -167,6 +167,10 @@ static const struct {
     {411, "TooDeep"}, {412, "TrailingBytes"}, {413, "TooManyNodes"}, {414, "Unsupported"},
     {501, "TooNested"}, {601, "BadPath"},
     {701, "UnknownVariant"}, {702, "NoValue"}, {703, "TooManyNodes"}, {704, "TooNested"},
+    {801, "NotJson"}, {802, "RepeatedMember"}, {803, "NotModules"}, {804, "ChainError"},
+    {805, "MixedChains"}, {806, "RepeatedName"}, {807, "BadType"}, {808, "MissingModule"},
+    {809, "UnknownName"}, {810, "WrongCount"}, {811, "NoBytes"}, {812, "UnknownVariants"},
+    {813, "NotStandard"}, {814, "TooLarge"},
 };
 
 /* Each of the first thousand numbers is a fault with its name, or none. */

@@ -75,6 +75,16 @@ static const struct row rows[] = {
     {{.call = GROWTH_PLACE, .input = OF("{\"S\":\"UNITSTRUCT\"}"), .second = OF("{}")}, BCS_DONE, BCS_GROWTH_MISSING,
      PARTS("S", "the newer registry has no container of that name")},
     {{.call = GROWTH_PLACE, .input = OF("{}"), .second = OF("{\"S\":\"UNITSTRUCT\"}")}, BCS_NO, BCS_FAULT_NONE, TEXT("")},
+    {{.call = REGISTRY_OF_MODULES, .input = OF("[]"), .second = OF("0x1::option::Option<u8>\nvector<u8>")},
+     DONE("{\"0x1::option::Option<u8>\":{\"NEWTYPESTRUCT\":{\"OPTION\":\"U8\"}},\"vector<u8>\":{\"NEWTYPESTRUCT\":\"BYTES\"}}")},
+    {{.call = REGISTRY_OF_MODULES, .input = OF("[]"), .second = OF("0x01::string::String\n")},
+     DONE("{\"0x1::string::String\":{\"NEWTYPESTRUCT\":\"STR\"}}\n\"0x01::string::String\": the container is called 0x1::string::String")},
+    {{.call = REGISTRY_OF_MODULES, .input = OF("[]"), .second = OF("0x1::m::S")}, BCS_REFUSED, BCS_MOVE_MISSING_MODULE, TEXT("")},
+    {{.call = REGISTRY_OF_MODULES, .input = OF("[]"), .second = OF("\xff")}, BCS_REFUSED, BCS_MOVE_BAD_TYPE, TEXT("")},
+    {{.call = REGISTRY_OF_MODULES, .input = OF("\xff"), .second = OF("u8")}, BCS_REFUSED, BCS_MOVE_NOT_JSON, TEXT("")},
+    {{.call = MODULES_PLACE, .input = OF("[]"), .second = OF("u8")}, BCS_NO, BCS_FAULT_NONE, TEXT("")},
+    {{.call = MODULES_PLACE, .input = OF("[7]"), .second = OF("u8")}, BCS_DONE, BCS_MOVE_NOT_MODULES,
+     PARTS("/0", "this isn't the JSON of a module of Aptos or Sui, which has the member structs")},
 };
 
 #define ROOM 1000

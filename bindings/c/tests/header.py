@@ -31,6 +31,7 @@ FRONTS = {
     "GrowthFault": "BCS_GROWTH_",
     "JsonFault": "BCS_TEXT_",
     "Reason": "BCS_STOP_",
+    "MoveRefusalName": "BCS_MOVE_",
 }
 # Faults that aren't of one of these enums.
 OTHER_FAULTS = {

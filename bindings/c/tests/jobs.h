@@ -7,6 +7,7 @@
 enum call {
     CHECKS, GROWS, TO_BCS, FROM_BCS, NORMALISE, COMPARE, SCAN, PART, EXPLAIN, FAULT_NAME, TEXT_PLACE, STOP_PLACE, REGISTRY_PLACE,
     PART_NAMED, REGISTRY_REFUSAL, PATH_PLACE, GROWTH_LIST, GROWTH_PLACE,
+    REGISTRY_OF_MODULES, MODULES_PLACE,
     /* PART_NAMED, and these and those behind them, are there on a handle only */
     TEXT_REFUSAL, STOP_REFUSAL, SCHEMA, EXAMPLE, SHOW, FORMAT_PLACE
 };
@@ -80,6 +81,10 @@ static inline bcs_answer make(const struct job *job, uint8_t *out, size_t room) 
         return bcs_growth_list(input.at, input.length, second.at, second.length, out, room);
     case GROWTH_PLACE:
         return bcs_growth_place(input.at, input.length, second.at, second.length, out, room);
+    case REGISTRY_OF_MODULES:
+        return bcs_registry_of_modules(input.at, input.length, second.at, second.length, out, room);
+    case MODULES_PLACE:
+        return bcs_modules_place(input.at, input.length, second.at, second.length, out, room);
     case PART_NAMED:
     case TEXT_REFUSAL:
     case STOP_REFUSAL:
@@ -143,6 +148,8 @@ static inline bcs_answer make_on(bcs_handle *handle, const struct job *job, uint
     case PATH_PLACE:
     case GROWTH_LIST:
     case GROWTH_PLACE:
+    case REGISTRY_OF_MODULES:
+    case MODULES_PLACE:
         break;
     }
     abort();

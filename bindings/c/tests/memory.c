@@ -137,6 +137,8 @@ static const struct {
     {"path_place", {.call = PATH_PLACE, .input = OF("inner/07/x")}, BCS_DONE, ROOM},
     {"growth_list", {.call = GROWTH_LIST, .input = OF(REGISTRY), .second = OF("{\"A\":\"UNITSTRUCT\"}")}, BCS_DONE, ROOM},
     {"growth_place", {.call = GROWTH_PLACE, .input = OF(REGISTRY), .second = OF("{\"A\":\"UNITSTRUCT\"}")}, BCS_DONE, ROOM},
+    {"registry_of_modules", {.call = REGISTRY_OF_MODULES, .input = OF("[]"), .second = OF("vector<address>")}, BCS_DONE, ROOM},
+    {"modules_place", {.call = MODULES_PLACE, .input = OF("[7]"), .second = OF("u8")}, BCS_DONE, ROOM},
     {"fault_name", {.call = FAULT_NAME, .number = BCS_STOP_KEY_ORDER}, BCS_DONE, ROOM},
 };
 

@@ -11,6 +11,7 @@ mod growing;
 mod handle;
 mod handles;
 mod known;
+mod modules;
 mod named_parts;
 mod naming;
 mod numbered;

@@ -1,5 +1,5 @@
 -- Each job has an answer to each input within the size limit, with a lemma for each command.
-use Rattle.bcs_tool_answers.proofs.Prelude.{◌≡◌, inl, inr, ℕ, List, true, refl, string_bytes, subst, sym, [], Option, Some, None, cases_lt, depth, Entries, Shape, UnknownName, Tree, some_verdict_is, some_verdict_of_all_is, Accepts, AreBytes, Part, Step, part_at, of, nesting_limit, some_bytes, some_normal_text, some_shown_text, SomeAnswer, Answers, IsAsked, IsWithin, checked, compared, damaged, decoded, described, encoded, exampled, explained, found, front_stopped, grown, no_bytes, normalised, nowhere, refused, refused_early, scan_stopped, scanned, stop_line, stopped, too_nested, GivesBytes, IsFormatWord, IsPathOf, IsRegistry, RefusesJobOf, name_of, works_on_values, JobFault, BadPath, Growth, Registry, coding_of, Work, SpellsSteps, Command}
+use Rattle.bcs_tool_answers.proofs.Prelude.{◌≡◌, inl, inr, ℕ, List, true, refl, string_bytes, subst, sym, [], Option, Some, None, cases_lt, depth, Entries, Shape, UnknownName, Tree, some_verdict_is, some_verdict_of_all_is, Accepts, AreBytes, Part, Step, part_at, of, nesting_limit, some_bytes, some_normal_text, some_shown_text, SomeAnswer, Answers, IsAsked, IsWithin, checked, compared, damaged, decoded, described, unmade, encoded, exampled, explained, found, front_stopped, grown, no_bytes, normalised, nowhere, refused, refused_early, scan_stopped, scanned, stop_line, stopped, too_nested, GivesBytes, IsFormatWord, IsPathOf, IsRegistry, RefusesJobOf, name_of, works_on_values, JobFault, BadPath, Growth, Registry, coding_of, Work, SpellsSteps, Command}
 use Rattle.bcs_registry_model.specs.Container as container
 use Rattle.bcs_json_spec.specs.Shown as value
 use Rattle.bcs_tool_answers.specs.Answers.{shown}
@@ -58,6 +58,9 @@ module _ (work : Work) (input : List ℕ) where
     | inr h ↦ refused_words command.Schema is h.0 h.1
     | inl h ↦ (_, _, described h.0 h.1 [] (record { is_command = is; is_registry = h.2; is_format = h.3 }))
   ]
+
+  some_from_move : work.command ≡ command.FromMove → Answered
+  some_from_move is = (_, _, unmade [] is)
 
   -- ---- an input, for a format of a registry
 
@@ -176,6 +179,7 @@ module _ (work : Work) (input : List ℕ) where
   of_command are within command.Show is = some_show is
   of_command are within command.Example is = some_example is
   of_command are within command.Schema is = some_schema is
+  of_command are within command.FromMove is = some_from_move is
   of_command are within command.Encode is = valued command.Encode refl refl within some_encode is
   of_command are within command.Decode is = valued command.Decode refl refl within (λ r s registry asked. some_decode r s registry are asked) is
   of_command are within command.Explain is = valued command.Explain refl refl within (λ r s registry asked. some_explain r s registry are asked) is

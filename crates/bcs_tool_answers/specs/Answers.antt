@@ -126,6 +126,9 @@ pub data Answers (work : Work) (input : List ℕ) : ℕ → List ℕ → Type 0 
   exampled : (registry : Entries) (s : Shape) (status : ℕ) (output : List ℕ) → AsksOfFormat work command.Example registry s → (status ≡ 0) ⊎ (status ≡ 2) → Answers work input status output
   -- `schema`: a text for display, if the arguments are valid
   described : (registry : Entries) (s : Shape) (text : List ℕ) → AsksOfFormat work command.Schema registry s → Answers work input 0 text
+  -- `from-move`: the JSON of a well-formed registry; or a refusal. Which one is only tested
+  made : (registry : Entries) (text : List ℕ) → work.command ≡ command.FromMove → IsRegistry text registry → Answers work input 0 (line_of text)
+  unmade : (name : List ℕ) → work.command ≡ command.FromMove → Answers work input 2 (refusal_line name)
   -- `encode`: the bytes of the value that the text denotes
   encoded : (registry : Entries) (s : Shape) (bytes : List ℕ) → IsAsked work input command.Encode registry s → HasBytes registry work.limits s input bytes → Answers work input 0 (printed (coding_of work) bytes)
   -- `normalise`: the normal text of that value

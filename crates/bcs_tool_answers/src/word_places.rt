@@ -115,6 +115,7 @@ fn registries_refusal(
         Command::Show => name_refusal(alloc, work),
         Command::Example
         | Command::Schema
+        | Command::FromMove
         | Command::Encode
         | Command::Decode
         | Command::Explain

@@ -2,7 +2,7 @@
 ghost use Rattle.std.specs.Prelude.{◌≡◌, IfOk, IsOkAnd, false, fold, map};
 ghost use Rattle.clap.specs.Words.{app_of, with_rule};
 ghost use Rattle.clap.specs.declared.builder.command.Command.TheViews.{out-Command};
-ghost use Rattle.bcs_tool_command_line.specs.CommandLine.{bcs_app, check_app, command_with, decode_app, encode_app, example_app, explain_app, grows_app, normalise_app, part_app, same_app, scan_app, schema_app, show_app, value_app};
+ghost use Rattle.bcs_tool_command_line.specs.CommandLine.{bcs_app, check_app, command_with, decode_app, encode_app, example_app, explain_app, from_move_app, grows_app, normalise_app, part_app, same_app, scan_app, schema_app, show_app, value_app};
 ghost use Rattle.bcs_tool_command_line.specs.Words.{input_apps, registry_apps, rule_of_word, with_command};
 
 use crate::texts;
@@ -48,7 +48,8 @@ fn with_registry_commands<'a>(
     let program = with_made(program, grows_command(alloc))?;
     let program = with_made(program, show_command(alloc))?;
     let program = with_made(program, example_command(alloc))?;
-    with_made(program, schema_command(alloc))
+    let program = with_made(program, schema_command(alloc))?;
+    with_made(program, from_move_command(alloc))
 }
 
 // The commands that read a value.
@@ -152,6 +153,24 @@ fn schema_command<'a>(alloc: Global) -> Result<Command<'a>, AllocError>
         "Prints a JSON Schema for the JSON of a format's values",
         texts::SCHEMA_EXAMPLES,
         &[REGISTRY, FORMAT, QUIET, Word::Output],
+    )
+}
+
+fn from_move_command<'a>(alloc: Global) -> Result<Command<'a>, AllocError>
+    ensures app { IfOk result (λ c. app_of c ≡ from_move_app) }
+    ensures global { IfOk result (λ c. (out-Command c).has_globals ≡ false) }
+{
+    command_of(
+        alloc,
+        "from-move",
+        "Prints the registry for types of a Move chain, from its modules",
+        texts::FROM_MOVE_EXAMPLES,
+        &[
+            Word::Required("MODULES", texts::MODULES),
+            Word::Several("TYPE", texts::TYPE),
+            QUIET,
+            Word::Output,
+        ],
     )
 }
 

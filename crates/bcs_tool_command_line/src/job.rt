@@ -13,7 +13,8 @@ use bcs_value::Limits;
 #[derive(Debug, Drop)]
 pub struct Job {
     pub command: Command,
-    /// REG, or OLD of `grows`: a registry's JSON, or the name of its file.
+    /// REG, or OLD of `grows`: a registry's JSON, or the name of its file. MODULES of `from-move`: the JSON of modules, or the
+    /// name of its file.
     pub registry: String,
     /// NEW of `grows`: a registry's JSON, or the name of its file. A of `same`: the name of a file.
     pub second: String,
@@ -36,6 +37,8 @@ pub struct Job {
 pub struct JobOptions {
     /// NAME of `show`: a container's name; or that of `--variant`: a variant's name.
     pub name: Option<String>,
+    /// TYPE of `from-move`: types and functions.
+    pub types: Option<Vec<String>>,
     /// `--base64`: bytes are read and written as base64. It overrides `--raw`.
     pub base64: bool,
     /// `--lines`: each line of the input is an input of its own.
@@ -101,6 +104,7 @@ impl JobOptions {
     {
         JobOptions {
             name: None,
+            types: None,
             base64: false,
             lines: false,
             front: false,

@@ -13,6 +13,14 @@ pub const FORMAT: &str =
     "The format: its JSON if it begins with { or \", otherwise a container's name. JSON keeps its \
     quotes, so in a shell write '\"I16\"'";
 
+pub const MODULES: &str =
+    "The modules: their JSON if it begins with { or [, otherwise the name of its file. It is what a node of \
+    Aptos or Sui returns for a module or a package, or an array of such answers";
+
+pub const TYPE: &str =
+    "A type, such as 0x1::coin::Coin<0x1::aptos_coin::AptosCoin>, or a function, whose arguments have \
+    containers of their own, such as 0x1::coin::transfer::arg0";
+
 pub const CONTAINER: &str =
     "The container to print, with everything it depends on, instead of the whole registry";
 
@@ -159,6 +167,12 @@ Status: 0 done, 2 refused, 3 usage, 4 file or memory";
 pub const SCHEMA_EXAMPLES: &str = "Example:
   bcs schema '{}' '\"BOOL\"' | grep boolean | xargs  # type: boolean
   bcs schema '{}' '{\"SEQ\":\"BOOL\"}' | grep '\"array\"' | xargs  # type: array
+
+Status: 0 done, 2 refused, 3 usage, 4 file or memory";
+
+pub const FROM_MOVE_EXAMPLES: &str = "Example:
+  bcs from-move '[]' '0x1::option::Option<u64>'  # {\"0x1::option::Option<u64>\":{\"NEWTYPESTRUCT\":{\"OPTION\":\"U64\"}}}
+  bcs from-move '{\"address\":\"0x1\",\"name\":\"m\",\"structs\":[],\"exposed_functions\":[{\"name\":\"f\",\"generic_type_params\":[],\"params\":[\"u8\"]}]}' 0x1::m::f  # {\"0x1::m::f\":{\"STRUCT\":[{\"arg0\":\"U8\"}]},\"0x1::m::f::arg0\":{\"NEWTYPESTRUCT\":\"U8\"}}
 
 Status: 0 done, 2 refused, 3 usage, 4 file or memory";
 

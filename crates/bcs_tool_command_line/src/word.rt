@@ -12,6 +12,8 @@ use std::alloc::Global;
 pub enum Word<'a> {
     /// A required argument, identified by its position.
     Required(&'a str, &'a str),
+    /// The last arguments: at least one.
+    Several(&'a str, &'a str),
     /// An optional argument, identified by its position.
     Optional(&'a str, &'a str),
     /// An option without a value.
@@ -34,6 +36,11 @@ impl<'a> Word<'a> {
     {
         match self {
             Word::Required(name, help) => Arg::new(alloc, name).help(help).required(true),
+            Word::Several(name, help) => Arg::new(alloc, name)
+                .help(help)
+                .required(true)
+                .num_args(1..)
+                .action(ArgAction::Append),
             Word::Optional(name, help) => Arg::new(alloc, name).help(help),
             Word::Flag(name, help) => Arg::new(alloc, name)
                 .long(name)
