@@ -1,4 +1,4 @@
-use Rattle.bcs_tool_command_line.proofs.Prelude.{◌≡◌, ◌∙◌, codes, rules, found_of, first_value-rows}
+use Rattle.bcs_tool_command_line.proofs.Prelude.{◌≡◌, ◌∙◌, codes, rules, found_of, first_value-rows, raw_values-rows}
 use Rattle.bcs_tool_command_line.proofs.FoundTexts.{either}
 use Rattle.bcs_tool_command_line.proofs.arguments.options_of.Goals as goal
 
@@ -8,6 +8,7 @@ returns c =
     record {
       name = c.in_ok-given_name.ensures ∙ either c.get_str.result c.get_str-2.result c.or.result _ _ c.or.ensures (c.get_str.ensures ∙ first_value-rows f (codes "NAME"))
           (c.get_str-2.ensures ∙ first_value-rows f (codes "variant"));
+      types = c.in_ok-given_names.ensures ∙ (c.get_strs.ensures ∙ raw_values-rows f (codes "TYPE"));
       base64 = c.is_set.ensures;
       lines = c.is_set-2.ensures;
       front = c.is_set-3.ensures;
@@ -23,3 +24,6 @@ returns-in_err-given_name c = search rules
 
 pub returns-in_err-given_name-2 : goal.returns-in_err-given_name-2
 returns-in_err-given_name-2 c = search rules
+
+pub returns-in_err-given_names : goal.returns-in_err-given_names
+returns-in_err-given_names c = search rules
