@@ -83,8 +83,6 @@ static const struct row rows[] = {
     {{.call = REGISTRY_OF_MODULES, .input = OF("[]"), .second = OF("\xff")}, BCS_REFUSED, BCS_MOVE_BAD_TYPE, TEXT("")},
     {{.call = REGISTRY_OF_MODULES, .input = OF("\xff"), .second = OF("u8")}, BCS_REFUSED, BCS_MOVE_NOT_JSON, TEXT("")},
     {{.call = MODULES_PLACE, .input = OF("[]"), .second = OF("u8")}, BCS_NO, BCS_FAULT_NONE, TEXT("")},
-    {{.call = MODULES_PLACE, .input = OF("[7]"), .second = OF("u8")}, BCS_DONE, BCS_MOVE_NOT_MODULES,
-     PARTS("/0", "this isn't the JSON of a module of Aptos or Sui, which has the member structs")},
 };
 
 #define ROOM 1000

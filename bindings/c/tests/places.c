@@ -71,6 +71,9 @@ static const struct whole wholes[] = {
     {ON(GROWTH_PLACE, .input = OF("{\"" NAME "\":{\"ENUM\":{\"7\":{\"" NAME "\":\"UNIT\"}}}}"),
         .second = OF("{\"" NAME "\":{\"ENUM\":{\"7\":{\"z: VariantChanged: q\":\"UNIT\"}}}}")),
      BCS_GROWTH_VARIANT_CHANGED, NAME ", variant 7 " NAME, "the newer enum has z: VariantChanged: q there"},
+    {ON(MODULES_PLACE, .input = OF("[7]"), .second = OF("u8")), BCS_MOVE_NOT_MODULES, "/0",
+     "this isn't the JSON of a module of Aptos or Sui, which has the member structs"},
+    {ON(MODULES_PLACE, .input = OF("[]"), .second = OF("signer")), BCS_MOVE_NO_BYTES, "signer", "a signer has no bytes"},
 };
 
 #define COUNT(table) (sizeof(table) / sizeof(table)[0])

@@ -29,5 +29,8 @@ pub(crate) fn address_of(alloc: Global, text: &str) -> Result<Option<String>, Al
 fn is_address(digits: &str) -> bool {
     !digits.is_empty()
         && digits.len() <= DIGITS
-        && digits.as_bytes().iter().all(|byte| byte.is_ascii_hexdigit())
+        && digits
+            .as_bytes()
+            .iter()
+            .all(|byte| byte.is_ascii_hexdigit())
 }

@@ -96,7 +96,13 @@ pub(crate) fn put_module<'m>(
     };
     put_part(alloc, &owner, "structs", place, &mut modules.types)?;
     put_part(alloc, &owner, "enums", place, &mut modules.types)?;
-    put_part(alloc, &owner, chain.functions(), place, &mut modules.functions)?;
+    put_part(
+        alloc,
+        &owner,
+        chain.functions(),
+        place,
+        &mut modules.functions,
+    )?;
     let pointer = pointer_of(alloc, place)?;
     drop(modules.modules.insert(full, Module { value, pointer })?);
     Ok(())
@@ -139,8 +145,15 @@ fn require_own_name(
     if own == wanted {
         return Ok(());
     }
-    let message = format!(in alloc; "the module is called {own} here, and has another name around it");
-    Err(refusal_with(alloc, MoveRefusalName::NotModules, &member(place, "name"), message))
+    let message = format!(in alloc;
+        "the module is called {own} here, and has another name around it"
+    );
+    Err(refusal_with(
+        alloc,
+        MoveRefusalName::NotModules,
+        &member(place, "name"),
+        message,
+    ))
 }
 
 fn no_address(alloc: Global, address: &str, place: &Place<'_>) -> MoveFault {
@@ -162,8 +175,10 @@ fn require_chain(
 ) -> Result<(), MoveFault> {
     if modules.chain.is_some_and(|other| other != chain) {
         let message = match chain {
-            Chain::Aptos => "this module is one of Aptos, and others are of Sui: use those of one chain",
-            Chain::Sui => "this module is one of Sui, and others are of Aptos: use those of one chain",
+            Chain::Aptos =>
+                "this module is one of Aptos, and others are of Sui: use those of one chain",
+            Chain::Sui =>
+                "this module is one of Sui, and others are of Aptos: use those of one chain",
         };
         return Err(refusal(alloc, MoveRefusalName::MixedChains, place, message));
     }

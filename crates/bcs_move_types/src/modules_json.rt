@@ -23,6 +23,8 @@ fn no_json(alloc: Global, error: &Error) -> MoveFault {
     }
     let line = error.line();
     let column = error.column();
-    let message = format!(in alloc; "this isn't JSON, or nests more than 127 deep: see line {line}, column {column}");
+    let message = format!(in alloc;
+        "this isn't JSON, or nests more than 127 deep: see line {line}, column {column}"
+    );
     refusal_with(alloc, MoveRefusalName::NotJson, &Place::At(""), message)
 }

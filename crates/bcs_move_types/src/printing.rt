@@ -32,7 +32,9 @@ pub fn closed_text(
     match put_type(kind, arguments, &mut text) {
         Ok(()) => Ok(text),
         Err(PrintFault::NoArgument(number)) => {
-            let message = format!(in alloc; "there is no type parameter T{number} here: write a type");
+            let message = format!(in alloc;
+                "there is no type parameter T{number} here: write a type"
+            );
             Err(refusal_with(alloc, MoveRefusalName::BadType, place, message))
         }
         Err(PrintFault::TooLong) => Err(too_long(alloc, place)),
@@ -85,11 +87,7 @@ fn put_type(kind: &MoveType, arguments: &[String], out: &mut String) -> Result<(
 
 /// Appends type arguments in their brackets, if there are any.
 #[cycle(printing)]
-fn put_types(
-    kinds: &[MoveType],
-    arguments: &[String],
-    out: &mut String,
-) -> Result<(), PrintFault> {
+fn put_types(kinds: &[MoveType], arguments: &[String], out: &mut String) -> Result<(), PrintFault> {
     for (number, kind) in kinds.iter().enumerate() {
         put_word(if number == 0 { "<" } else { ", " }, out)?;
         put_type(kind, arguments, out)?;

@@ -1,4 +1,6 @@
 //! Why there is no registry.
+ghost use Rattle.std.specs.Prelude.{◌≡◌};
+ghost use Rattle.bcs_move_types.specs.FaultNames.{move_refusal_name};
 
 use crate::place::{MovePlace, Place, place_of};
 use std::alloc::{AllocError, AllocFailed, Global};
@@ -38,7 +40,9 @@ pub enum MoveRefusalName {
 
 impl MoveRefusalName {
     /// The name, which is printed.
-    pub fn name(self) -> &'static str {
+    pub fn name(self) -> &'static str
+        ensures { result.now ≡ move_refusal_name self }
+    {
         match self {
             MoveRefusalName::NotJson => "NotJson",
             MoveRefusalName::RepeatedMember => "RepeatedMember",

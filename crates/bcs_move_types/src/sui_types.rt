@@ -116,7 +116,9 @@ fn no_type(alloc: Global, value: &Value, place: &Place<'_>) -> MoveFault {
     let message = match shown(alloc, Some(value)) {
         Ok(found) => {
             let found = found.as_str();
-            format!(in alloc; "{found} isn't a type: Sui writes one like \"U64\" or an object like Vector")
+            format!(in alloc;
+                "{found} isn't a type: Sui writes one like \"U64\" or an object like Vector"
+            )
         }
         Err(fault) => Err(fault),
     };

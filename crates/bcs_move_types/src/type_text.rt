@@ -98,7 +98,9 @@ pub fn type_of_text(alloc: Global, text: &str, place: &Place<'_>) -> Result<Move
 
 fn no_type(alloc: Global, text: &str, place: &Place<'_>) -> MoveFault {
     let text = Name::of(text);
-    let message = format!(in alloc; "\"{text}\" isn't a type: write one like 0x1::coin::Coin<u64>, vector<u8> or u64");
+    let message = format!(in alloc;
+        "\"{text}\" isn't a type: write one like 0x1::coin::Coin<u64>, vector<u8> or u64"
+    );
     refusal_with(alloc, MoveRefusalName::BadType, place, message)
 }
 
@@ -120,11 +122,7 @@ fn whole_type(alloc: Global, text: &str) -> Result<MoveType, TextFault> {
 
 /// Reads the next type, which may nest `levels` deep.
 #[cycle(reading)]
-fn next_type(
-    alloc: Global,
-    cursor: &mut Cursor<'_>,
-    levels: u32,
-) -> Result<MoveType, TextFault> {
+fn next_type(alloc: Global, cursor: &mut Cursor<'_>, levels: u32) -> Result<MoveType, TextFault> {
     if cursor.skips('&') {
         if levels == 0 {
             return Err(TextFault::TooDeep);
@@ -166,11 +164,7 @@ fn next_arguments(
 }
 
 /// The type with this name and these arguments.
-fn type_called(
-    alloc: Global,
-    word: &str,
-    arguments: Vec<MoveType>,
-) -> Result<MoveType, TextFault> {
+fn type_called(alloc: Global, word: &str, arguments: Vec<MoveType>) -> Result<MoveType, TextFault> {
     if word.contains("::") {
         return match declared_called(alloc, word)? {
             Some(name) => Ok(MoveType::Declared(name, arguments)),

@@ -11,7 +11,9 @@ pub fn is_name(word: &str) -> bool {
     let bytes = word.as_bytes();
     bytes.len() <= LONGEST
         && bytes.first().is_some_and(|first| is_letter(*first))
-        && bytes.iter().all(|byte| is_letter(*byte) || byte.is_ascii_digit())
+        && bytes
+            .iter()
+            .all(|byte| is_letter(*byte) || byte.is_ascii_digit())
 }
 
 /// Whether this is the name of a field: on Aptos, fields without names are called 0, 1, and so on.
