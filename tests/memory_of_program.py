@@ -42,8 +42,6 @@ class Ending(NamedTuple):
     note: str
 
 
-
-
 class Runs(NamedTuple):
     """The endings of several runs, and how many requests the last one made."""
 

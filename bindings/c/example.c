@@ -16,7 +16,7 @@
 
 int main(void) {
     /* A format is JSON. bcs_format writes the format of a container's name. */
-    uint8_t format[100], bytes[100], text[100], place[100], wanted[100];
+    uint8_t format[100], bytes[100], text[100], place[100], message[100];
     const size_t format_length = bcs_format("Payment", 7, format, sizeof format);
 
     /* The registry is read once, for any number of values and threads. */
@@ -53,9 +53,9 @@ int main(void) {
     const bcs_answer where = bcs_handle_stop_place(handle, format, format_length, BCS_DEPTH, nodes, BCS_WHERE, bytes,
                                                    coded.length - 1, place, sizeof place);
     const bcs_answer what = bcs_handle_stop_place(handle, format, format_length, BCS_DEPTH, nodes, BCS_WANTED, bytes,
-                                                  coded.length - 1, wanted, sizeof wanted);
+                                                  coded.length - 1, message, sizeof message);
     printf("refused: %s at %llu, %.*s: %.*s\n", bcs_fault_text(damaged.fault), (unsigned long long)damaged.place,
-           (int)where.length, (const char *)place, (int)what.length, (const char *)wanted);
+           (int)where.length, (const char *)place, (int)what.length, (const char *)message);
     bcs_close(handle);
     return 0;
 }

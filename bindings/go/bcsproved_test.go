@@ -324,7 +324,7 @@ func TestLines(t *testing.T) {
 		{Error{KindText, "BadNumber", -1, "/a", "expected U8, found the end of the input"}, "refused: BadNumber at /a: expected U8, found the end of the input"},
 		{Error{KindPath, "BadPath", -1, "", ""}, "refused: BadPath"},
 		{Error{KindLimits, "", -1, "", "the depth is above 500"}, "refused: the depth is above 500"},
-		{Error{KindText, "BadShape", -1, "/\n\x1b[2J\u202e'\"é\xff", "wanted\n"}, `refused: BadShape at /\n\x1b[2J\u202e'"é` + "\ufffd" + `: wanted\n`},
+		{Error{KindText, "BadShape", -1, "/\n\x1b[2J\u202e'\"é\xff", "expected\n"}, `refused: BadShape at /\n\x1b[2J\u202e'"é` + "\ufffd" + `: expected\n`},
 		{Error{KindText, "BadShape", -1, "/" + strings.Repeat("a", 1000), ""}, "refused: BadShape at /" + strings.Repeat("a", 199) + "...(cut)"},
 	} {
 		if line := row.refused.Error(); line != row.line {

@@ -257,11 +257,11 @@ func reverse(data []byte) {
 const hexDigits = "0123456789abcdef"
 
 func (w *writer) hex(data []byte) {
-	w.out = append(w.out, '"')
-	for _, b := range data {
-		w.out = append(w.out, hexDigits[b>>4], hexDigits[b&15])
-	}
-	w.out = append(w.out, '"')
+	start := len(w.out)
+	w.out = append(w.out, make([]byte, 2*len(data)+2)...)
+	digits := w.out[start:]
+	digits[0], digits[len(digits)-1] = '"', '"'
+	hex.Encode(digits[1:], data)
 }
 
 func (w *writer) text(s string) {

@@ -85,12 +85,10 @@ place_told(const struct refused *refused)
 	if (is_stop(refused->answer))
 		return psprintf(" at byte " UINT64_FORMAT "%s%s", refused->answer.place, where.length != 0 ? ", " : "",
 						(const char *) where.at);
-	if (refused->answer.status == BCS_REGISTRY)
-		return psprintf(" at %s", (const char *) where.at);
 	if (where.length == 0)
 		return "";
-	text = palloc(write_pointer(where, NULL) + 1);
-	text[write_pointer(where, text)] = '\0';
+	text = palloc(write_place(refused->answer, where, NULL) + 1);
+	text[write_place(refused->answer, where, text)] = '\0';
 	return psprintf(" at %s", text);
 }
 

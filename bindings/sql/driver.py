@@ -208,11 +208,11 @@ class Calls:
 
 
 def is_the_same(fault: dict[str, Any] | None, last: dict[str, Any]) -> bool:
-    """Whether bcs_fault reports what the last line of bcs_explain does, with hints behind what was wanted."""
+    """Whether bcs_fault reports what the last line of bcs_explain does, with what was found behind what was expected."""
     if fault is None or "refused" not in last:
         return fault is None and "refused" not in last
-    wanted, message = last.get("want", ""), fault.get("message", "")
-    is_message = message in (wanted, f"wanted {wanted}") or message.startswith(f"wanted {wanted}; ")
+    expected, message = last.get("want", ""), fault.get("message", "")
+    is_message = re.fullmatch(rf"(expected )?{re.escape(expected)}([,;] .*)?", message) is not None
     return is_message and all(fault.get(name) == last.get(old) for name, old in MEMBERS.items())
 
 

@@ -160,26 +160,34 @@ static inline size_t write_character(uint32_t character, char *out) {
     return 1;
 }
 
-/* Of a name so many signs are told. */
+/* The number of characters that are shown of a name. */
 #define MOST_OF_NAME 200
 
-/* Writes a JSON Pointer in printable ASCII, where names are cut as the program does it, and tells its length. Without an output
-   it tells the length alone. */
-static inline size_t write_pointer(struct piece pointer, char *out) {
+/* Whether the place of a refused registry is a definition. Any other place of a registry or a text is a JSON Pointer. */
+static inline bool is_definition(bcs_answer answer) {
+    return answer.fault == BCS_REGISTRY_TOO_NESTED || answer.fault == BCS_REGISTRY_REPEATED_NAME ||
+           answer.fault == BCS_REGISTRY_UNKNOWN_NAME;
+}
+
+/* Writes the place of a refused registry or text in printable ASCII, and returns its length. Long names in a JSON Pointer are cut
+   as the program cuts them. A definition is cut like one name, since nothing marks where a name ends. Without an output it only
+   returns the length. */
+static inline size_t write_place(bcs_answer answer, struct piece place, char *out) {
     static const char cut[] = "...(cut)";
+    const bool is_pointer = !is_definition(answer);
     size_t length = 0, of_name = 0;
-    while (pointer.length > 0) {
+    while (place.length > 0) {
         char escaped[ESCAPE_ROOM];
         uint32_t character;
-        size_t taken = character_at(pointer, &character);
+        size_t taken = character_at(place, &character);
         const char *put = escaped;
         size_t signs = write_character(character, escaped), counted = signs;
-        if (character == '~' && pointer.length > 1) { /* ~0 or ~1, which is one sign of the name */
-            escaped[1] = (char)pointer.at[1];
+        if (is_pointer && character == '~' && place.length > 1) { /* ~0 or ~1, which is one character of the name */
+            escaped[1] = (char)place.at[1];
             signs = taken = 2;
         }
-        pointer = (struct piece){pointer.at + taken, pointer.length - taken};
-        if (character == '/') {
+        place = (struct piece){place.at + taken, place.length - taken};
+        if (is_pointer && character == '/') {
             of_name = 0;
         } else if (of_name > MOST_OF_NAME) {
             continue;

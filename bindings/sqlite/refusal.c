@@ -22,16 +22,16 @@ static uint8_t *told(const struct refused *refused, uint32_t what, size_t *lengt
     return out;
 }
 
-/* The place in printable ASCII, which the JSON Pointer of a text isn't yet. */
+/* The place in printable ASCII. The library reports names of a text or a registry as they are. */
 static char *place_told(const struct refused *refused) {
     size_t length = 0;
     uint8_t *where = told(refused, BCS_WHERE, &length);
-    const struct piece pointer = {where, length};
+    const struct piece place = {where, length};
     char *text = NULL;
-    if (where != NULL && refused->answer.fault > 300 && refused->answer.fault < 400) {
-        text = sqlite3_malloc64(write_pointer(pointer, NULL) + 1);
+    if (where != NULL && !is_stop(refused->answer)) {
+        text = sqlite3_malloc64(write_place(refused->answer, place, NULL) + 1);
         if (text != NULL) {
-            text[write_pointer(pointer, text)] = '\0';
+            text[write_place(refused->answer, place, text)] = '\0';
         }
     } else if (where != NULL) {
         text = sqlite3_mprintf("%.*s", (int)length, (const char *)where);
@@ -44,7 +44,7 @@ static char *place_told(const struct refused *refused) {
 static char *message_of(const struct refused *refused, const char *name, const char *what) {
     size_t length = 0;
     char *where, *text = NULL;
-    uint8_t *wanted;
+    uint8_t *expected;
     if (!is_placed(refused->answer)) {
         return sqlite3_mprintf("bcs: refused: %s%s", name, what);
     }
@@ -55,10 +55,10 @@ static char *message_of(const struct refused *refused, const char *name, const c
     if (is_stop(refused->answer)) {
         text = sqlite3_mprintf("bcs: refused: %s at byte %llu%s%s", name, (unsigned long long)refused->answer.place,
                                where[0] != '\0' ? ", " : "", where);
-    } else if ((wanted = told(refused, BCS_WANTED, &length)) != NULL) {
+    } else if ((expected = told(refused, BCS_WANTED, &length)) != NULL) {
         text = sqlite3_mprintf("bcs: refused: %s%s%s%s: %.*s", name, what, where[0] != '\0' ? " at " : "", where,
-                               (int)length, (const char *)wanted);
-        sqlite3_free(wanted);
+                               (int)length, (const char *)expected);
+        sqlite3_free(expected);
     }
     sqlite3_free(where);
     return text;

@@ -80,7 +80,7 @@ export class FormatCalls {
 
   /** The part with a name. `notation` is `name` or `pointer`. */
   partNamed(bytes, notation, name) {
-    const placing = () => ({ detail: `wanted ${NOTATIONS[notation]}` });
+    const placing = () => ({ detail: `expected ${NOTATIONS[notation]}` });
     return this.#partBy(bytes, (calls, ask) => calls.partNamed(ask, notation, name, bytes), placing);
   }
 

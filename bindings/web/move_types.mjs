@@ -2,6 +2,7 @@
 import { bytesOfHex, hexOf } from './hex.mjs';
 
 const SIZE = 32;
+const IS_ADDRESS = /^0x[0-9a-fA-F]{1,64}$/;
 const BITS = 8 * SIZE;
 // How `bcs from-move` calls the containers.
 const DEFAULT_NAMES = { address: ['address'], u256: ['u256'], i256: ['i256'] };
@@ -47,10 +48,9 @@ function isOf32Bytes(container) {
   return array?.CONTENT === 'U8' && array.SIZE === SIZE;
 }
 
-/** The bytes of an address: `0x` and 1 to 64 hexadecimal digits. `undefined` for any other string. */
-export function bytesOfAddress(string) {
-  const [, digits] = /^0x([0-9a-fA-F]{1,64})$/.exec(string) ?? [];
-  return digits && bytesOfHex(digits.padStart(2 * SIZE, '0'));
+/** All digits of an address, which is `0x` and 1 to 64 hexadecimal digits. `undefined` for any other string. */
+export function digitsOfAddress(string) {
+  return IS_ADDRESS.test(string) ? string.slice(2).padStart(2 * SIZE, '0') : undefined;
 }
 
 /** The bytes of an integer of 256 bits, the lowest first, or `undefined` if it has more. */

@@ -25,7 +25,7 @@ async function run(words) {
   }
 }
 
-/** Arguments that are wrong, and what is told of that. */
+/** The arguments are invalid. The message says what is wrong with them. */
 class WrongWords extends Error {}
 
 function askedBy(words) {

@@ -2,7 +2,7 @@
 // JSON, which rejects a document that is not a value's.
 import { BcsError } from './errors.mjs';
 import { JsonOutput } from './json_output.mjs';
-import { bytesOfAddress, bytesOfWide } from './move_types.mjs';
+import { bytesOfWide, digitsOfAddress } from './move_types.mjs';
 import { copyOfBytes, copyOfIntegers, isMap } from './octets.mjs';
 import { isWellFormed } from './texts.mjs';
 
@@ -11,9 +11,12 @@ const MOST_NESTED = 100;
 const MOST_OPEN = 500;
 // An array may have a length of billions and take no memory, and a value may hold another one many times.
 const MOST_COUNTED = 1_000_000;
-const MOST_JSON = 1 << 30;
+// (about the longest string of V8, so that what is encoded can be decoded)
+const MOST_JSON = 1 << 29;
 const MOST_SHOWN = 80;
 const BITS_SHOWN = 512;
+// JSON has such a string as it is.
+const PLAIN_TEXT = /^[ !#-[\]-~]{0,200}$/;
 const OCTET = { kind: 'INTEGER', name: 'U8' };
 const TAKES = {
   INTEGER: 'an integer',
@@ -66,7 +69,7 @@ class Writer {
     this.#count();
     switch (shape.kind) {
       case 'TYPENAME':
-        return this.#container(shape.name, (held) => this.#value(held, value));
+        return this.#held(shape, value);
       case 'OPTION':
         return value === null ? this.#out.put('null') : this.#option(shape, value);
       case 'SEQ':
@@ -108,18 +111,23 @@ class Writer {
   }
 
   /** Writes what a container holds. */
-  #container(name, write) {
+  #held(shape, value) {
     if (this.#open === MOST_OPEN) return this.#out.put('null');
     this.#open++;
-    write(this.#shapes.container(name));
-    this.#open--;
+    this.#value(this.#containerOf(shape), value);
+    return this.#open--;
+  }
+
+  #containerOf(shape) {
+    shape.held ??= this.#shapes.container(shape.name);
+    return shape.held;
   }
 
   /** `{ some: value }`, or the value alone where it can't be mistaken for that. The names of members are read once. */
   #option(shape, value) {
     if (!this.#shapes.isPlainOption(shape) || value === undefined) return this.#members(shape, value);
     const inner = shape.members.get('some');
-    if (typeof value !== 'object' || tagOf(value) !== 'Object') return this.#some(() => this.#value(inner, value));
+    if (!hasMembers(value)) return this.#some(() => this.#value(inner, value));
     const names = Object.keys(value);
     const isExact = (names.length === 1 && names[0] === 'some') || !this.#shapes.hasMembers(inner);
     return isExact ? this.#members(shape, value, names) : this.#some(() => this.#object(inner, value, names));
@@ -128,14 +136,19 @@ class Writer {
   #some(write) {
     this.#nest();
     this.#out.put('{"some":');
-    this.#within('some', write);
+    this.#path.push('some');
+    write();
+    this.#path.pop();
     this.#out.put('}');
   }
 
   /** A struct or a variant, perhaps within containers, whose members have these names. */
   #object(shape, value, names) {
     if (shape.kind !== 'TYPENAME') return this.#members(shape, value, names);
-    return this.#container(shape.name, (held) => this.#object(held, value, names));
+    if (this.#open === MOST_OPEN) return this.#out.put('null');
+    this.#open++;
+    this.#object(this.#containerOf(shape), value, names);
+    return this.#open--;
   }
 
   #list(shape, value) {
@@ -170,24 +183,28 @@ class Writer {
   }
 
   #members(shape, value, known) {
-    if (typeof value !== 'object' || tagOf(value) !== 'Object') this.#reject(shape, value);
+    if (!hasMembers(value)) this.#reject(shape, value);
     this.#nest();
     const names = known ?? Object.keys(value);
     if (shape.kind === 'STRUCT' && shape.members.size + names.length === 0 && !isEmpty(value)) {
       this.#reject(shape, value, 'a class instance or one with hidden members');
     }
     this.#out.put('{');
-    names.forEach((name, i) => this.#member(shape, value, name, i === 0 ? '' : ','));
+    for (let i = 0; i < names.length; i++) this.#member(shape, value, names[i], i === 0 ? '' : ',');
     this.#out.put('}');
   }
 
   #member(shape, value, name, comma) {
-    const text = stringText(name) ?? this.#reject(shape, value, 'one with a lone surrogate in a name');
-    this.#out.put(`${comma}${text}:`);
     const part = shape.members.get(name);
-    if (part === undefined) return this.#out.put('null');
+    if (part === undefined) {
+      const text = stringText(name) ?? this.#reject(shape, value, 'one with a lone surrogate in a name');
+      return this.#out.put(`${comma}${text}:null`);
+    }
+    this.#out.put(comma + headOf(shape, name));
     const held = value[name];
-    return this.#within(name, () => this.#value(part, held));
+    this.#path.push(name);
+    this.#value(part, held);
+    return this.#path.pop();
   }
 
   /** The path has a step for each open array or object. A value within itself ends here, too. */
@@ -196,16 +213,10 @@ class Writer {
     throw this.#error('TooNested', `arrays and objects are nested more than ${MOST_NESTED} levels deep`);
   }
 
-  #within(step, write) {
-    this.#path.push(step);
-    write();
-    this.#path.pop();
-  }
-
   /** Values that hold others many times end here: they take little memory, and their JSON much. */
   #count() {
     if (this.#nodes-- === 0) throw this.#error('TooManyNodes', 'the value has more nodes than the limits allow');
-    if (this.#out.length > MOST_JSON) throw this.#error('TooLong', 'the JSON of the value is above 1 GiB');
+    if (this.#out.length > MOST_JSON) throw this.#error('TooLong', 'the JSON of the value is above 512 MiB');
   }
 
   #text(shape, value) {
@@ -230,8 +241,9 @@ class Writer {
   }
 
   #address(shape, value) {
-    const found = value.length <= MOST_SHOWN ? JSON.stringify(value) : 'a longer string';
-    this.#out.putHex(bytesOfAddress(value) ?? this.#reject(shape, value, found));
+    const digits = digitsOfAddress(value);
+    if (digits !== undefined) return this.#out.put(`"${digits}"`);
+    return this.#reject(shape, value, value.length <= MOST_SHOWN ? JSON.stringify(value) : 'a longer string');
   }
 
   /** Bytes, or a list of integers from 0 to 255. A string is neither, so that bytes never depend on what it looks like. */
@@ -298,7 +310,18 @@ function isLong(number) {
   return BigInt.asIntN(BITS_SHOWN, number) !== number;
 }
 
-/** What `Object.prototype.toString` says: `Date` for a date, `Object` for plain objects and instances of most classes. */
+/** Whether this is a plain object or an instance of most classes, by what `Object.prototype.toString` says. */
+function hasMembers(value) {
+  return typeof value === 'object' && Object.prototype.toString.call(value) === '[object Object]';
+}
+
+/** The JSON of a member's name, and a colon. It is made once. */
+function headOf(shape, name) {
+  shape.heads ??= new Map(Array.from(shape.members.keys(), (known) => [known, `${stringText(known)}:`]));
+  return shape.heads.get(name);
+}
+
+/** What `Object.prototype.toString` says: `Date` for a date. */
 function tagOf(object) {
   return Object.prototype.toString.call(object).slice('[object '.length, -1);
 }
@@ -317,5 +340,6 @@ function entriesOf(map) {
 
 /** The JSON of a string, or `undefined` where a lone surrogate is in it, which UTF-8 doesn't have. */
 function stringText(string) {
+  if (PLAIN_TEXT.test(string)) return `"${string}"`;
   return isWellFormed(string) ? JSON.stringify(string) : undefined;
 }

@@ -21,7 +21,7 @@ QUOTED = re.compile(r"[^ !#-\[\]-~]")
 # No registry here has it.
 MISSING = {"TYPENAME": "missing: UnknownName: x"}
 NO_CONTAINER = "no container is called missing: UnknownName: x"
-NO_BOOL = "wanted BOOL, true or false"
+NO_BOOL = "expected BOOL, true or false"
 
 
 def names_in(json_value: Any) -> Iterator[str]:
@@ -94,7 +94,7 @@ class Hostile:
             ("E", uleb(number) + b"\7", "::" + label(name)),
         ]:
             told = self.stop_place(container, data)
-            expect(told == Place(path, "wanted BOOL"), f"{container}: {told}")
+            expect(told == Place(path, "expected BOOL, 00 or 01, found 07"), f"{container}: {told}")
 
     def parts(self, number: int, name: str) -> None:
         """By name and by pointer; with another spelling there is none."""
@@ -109,17 +109,17 @@ class Hostile:
 
     def registries(self, number: int, name: str) -> None:
         """A container of this name whose field of this name is refused; and one that is no container."""
-        for shape, where, wanted in [
+        for shape, where, expected in [
             ({name: {"STRUCT": [{name: MISSING}]}}, f"{name}, field {name}", NO_CONTAINER),
             (
                 {name: {"ENUM": {"7": {name: {"TUPLE": ["U8", MISSING]}}}}},
                 f"{name}, variant 7 {name}, number 1",
                 NO_CONTAINER,
             ),
-            ({name: 7}, step(name), "wanted a container"),
+            ({name: 7}, step(name), "expected a container; this looks like a value, and not like a registry"),
         ]:
             told = place_told(self.driver, "registry_place", json.dumps(shape, ensure_ascii=False).encode())
-            expect(told == Place(where, wanted), f"{shape}: {told}")
+            expect(told == Place(where, expected), f"{shape}: {told}")
 
 
 # A spelling of another name, and what isn't a name.

@@ -199,8 +199,9 @@ bcs_answer bcs_explain(const uint8_t *registry, size_t registry_length, const ui
                        uint8_t *out, size_t out_length);
 
 /* Where a JSON document is refused: BCS_DONE, or BCS_NO if it isn't. With BCS_WHERE it is a JSON Pointer (RFC 6901) in UTF-8
-   without JSON escapes, such as /payload/args/1; it is empty if the document is refused as a whole. `what` is one of enum
-   bcs_what; any other number means BCS_WHERE. If bcs_compare refuses one of two documents, ask for each. */
+   without JSON escapes, such as /payload/args/1; it is empty if the document is refused as a whole. If the text isn't JSON,
+   it is empty too, and with BCS_WANTED the line and the column come first: line 1, column 3: .. `what` is one of enum bcs_what;
+   any other number means BCS_WHERE. If bcs_compare refuses one of two documents, ask for each. */
 bcs_answer bcs_text_place(const uint8_t *registry, size_t registry_length, const uint8_t *format, size_t format_length,
                           uint32_t depth, uint32_t nodes, uint32_t what, const uint8_t *text, size_t text_length,
                           uint8_t *out, size_t out_length);
@@ -211,9 +212,10 @@ bcs_answer bcs_stop_place(const uint8_t *registry, size_t registry_length, const
                           uint32_t depth, uint32_t nodes, uint32_t what, const uint8_t *bytes, size_t bytes_length,
                           uint8_t *out, size_t out_length);
 
-/* Where the text of a registry is refused: BCS_DONE, or BCS_NO if it isn't. With BCS_WHERE it is a definition, with names as they are:
-   Shape, variant 2 Circle, field side; or a JSON Pointer; or nothing if the whole text is refused. If it isn't JSON, the text of
-   BCS_WANTED begins with the line and the column. */
+/* Where the text of a registry is refused: BCS_DONE, or BCS_NO if it isn't. With BCS_WHERE it is a definition such as
+   Shape, variant 2 Circle, field side, or a JSON Pointer, with names as they are; it is empty if the registry is refused as a
+   whole. If the text isn't JSON, it is empty too, and with BCS_WANTED the line and the column come first:
+   line 1, column 3: .. */
 bcs_answer bcs_registry_place(uint32_t what, const uint8_t *registry, size_t registry_length, uint8_t *out,
                               size_t out_length);
 
@@ -300,8 +302,8 @@ bcs_answer bcs_handle_show(bcs_handle *handle, uint32_t form, const uint8_t *nam
    BCS_WANTED. */
 bcs_answer bcs_registry_refusal(const uint8_t *registry, size_t registry_length, uint8_t *out, size_t out_length);
 
-/* The same for a format. The place is a JSON Pointer into it, which is empty for the whole format: /SEQ, a NUL, expected a format. The
-   output is empty if there is no more to say than the fault. */
+/* The same for a format. The place is a JSON Pointer into it, which is empty for the whole format, or if it isn't JSON:
+   /SEQ, a NUL, expected a format. The output is empty if there is no more to say than the fault. */
 bcs_answer bcs_handle_format_place(bcs_handle *handle, const uint8_t *format, size_t format_length, uint8_t *out,
                                    size_t out_length);
 

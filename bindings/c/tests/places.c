@@ -1,4 +1,4 @@
-/* Where something is refused, and what was wanted there, by texts and on a handle. The words are those of the program. */
+/* Where something is refused, and what was expected there, by texts and on a handle. The words are those of the program. */
 #include "jobs.h"
 
 #define REGISTRY \
@@ -11,20 +11,20 @@
 /* What is refused, with its format, and what is told of it. */
 struct refused {
     struct slice format, input;
-    const char *where, *wanted;
+    const char *where, *expected;
     uint32_t depth, nodes;
 };
 
-#define ROW(format, input, where, wanted) {OF(format), OF(input), where, wanted, BCS_DEPTH, BCS_NODES}
+#define ROW(format, input, where, expected) {OF(format), OF(input), where, expected, BCS_DEPTH, BCS_NODES}
 
 static const struct refused texts[] = {
     ROW(POINT, "{\"x\":1,\"~/\":[\"\",\"0\"]}", "/~0~1/1", "an odd number of digits; each byte has two"),
     ROW(POINT, "{\"x\":256,\"~/\":[]}", "/x", "found 256, expected an integer from 0 to 255 (U8)"),
     ROW(POINT, "{\"x\":1}", "", "no member is called ~/"),
-    ROW(SHAPE, "{\"Circle\":true}", "/Circle", "expected an integer from 0 to 18446744073709551615 (U64)"),
+    ROW(SHAPE, "{\"Circle\":true}", "/Circle", "found true, expected an integer from 0 to 18446744073709551615 (U64)"),
     ROW(SHAPE, "\"Disc\"", "", "no variant is called Disc; variants: Dot, Circle"),
     ROW(SHAPE, "\"Cirlce\"", "", "no variant is called Cirlce; did you mean Circle?"),
-    ROW("\"F64\"", "1.5", "", "no value of F64 is supported"),
+    ROW("\"F64\"", "1.5", "", "no value of F64 is supported; BCS has none"),
     ROW("{\"SEQ\":\"BOOL\"}", "[true,true,true,true,true,true,true,true,true,true,1]", "/10", "expected BOOL, true or false"),
     ROW("{\"MAP\":{\"KEY\":\"U8\",\"VALUE\":\"U8\"}}", "[[1,2],[1,3]]", "", "two keys of a map are equal"),
     ROW("\"U8\"", "x", "", "line 1, column 1: text belongs in double quotes"),
@@ -45,24 +45,25 @@ static const struct refused registries[] = {
     ROW("", "{\"S\":{\"STRUCT\":[{\"side\":{\"TYPENAME\":\"Sid\"}}]}}", "S, field side", "no container is called Sid"),
     ROW("", "{\"S\":{\"STRUCT\":[{\"a\":\"U8\"},{\"a\":\"U8\"}]}}", "S", "two fields are called a"),
     ROW("", "7", "", "expected an object of containers, found 7"),
+    ROW("", "{", "", "line 1, column 1: the document ends there; } is missing"),
 };
 
 /* What is refused besides a text and bytes, and which fault it has. Names look like the program's lines, aren't ASCII, or are long. */
 struct whole {
     struct job job;
     uint32_t fault;
-    const char *where, *wanted;
+    const char *where, *expected;
 };
 
-#define NAME "a: UnknownName: \xc3\xa9: wanted b" HUNDRED("long")
+#define NAME "a: UnknownName: \xc3\xa9: expected b" HUNDRED("long")
 #define ON(what, ...) {.call = what, .registry = OF("{}"), __VA_ARGS__, STANDARD}
 
 static const struct whole wholes[] = {
-    {ON(REGISTRY_REFUSAL, .input = OF("{")), BCS_REGISTRY_NOT_JSON, "line 1, column 1", "the document ends there; } is missing"},
+    {ON(REGISTRY_REFUSAL, .input = OF("{")), BCS_REGISTRY_NOT_JSON, "", "line 1, column 1: the document ends there; } is missing"},
     {ON(REGISTRY_REFUSAL, .input = OF("{\"" NAME "\":{\"STRUCT\":[{\"" NAME "\":{\"TYPENAME\":\"Z\"}}]}}")), BCS_REGISTRY_UNKNOWN_NAME,
      NAME ", field " NAME, "no container is called Z"},
     {ON(REGISTRY_REFUSAL, .input = OF("{\"" NAME "\":{\"STRUCT\":[{\"" NAME "\":\"u8\"}]}}")), BCS_REGISTRY_BAD_SHAPE,
-     "/" NAME "/STRUCT/0/" NAME, "expected a format"},
+     "/" NAME "/STRUCT/0/" NAME, "expected a format, found \"u8\"; did you mean \"U8\"?"},
     {ON(FORMAT_PLACE, .format = OF("{\"TUPLE\":[\"U8\",{\"SEQ\":7}]}")), BCS_REGISTRY_BAD_SHAPE, "/TUPLE/1/SEQ", "expected a format, found 7"},
     {ON(FORMAT_PLACE, .format = OF("{\"TYPENAME\":\"x: UnknownName: y\"}")), BCS_REGISTRY_UNKNOWN_NAME, "",
      "no container is called x: UnknownName: y"},
@@ -118,12 +119,12 @@ static void told_of(const struct refused *row, enum call call, uint32_t what, co
 static void told_whole(const struct refused *row, enum call call, enum call on_input) {
     const struct slice registry = text(REGISTRY);
     struct job job = {call, registry, row->format, row->input, {NULL, 0}, row->depth, row->nodes, 0};
-    const size_t place = strlen(row->where), length = place + 1 + strlen(row->wanted);
+    const size_t place = strlen(row->where), length = place + 1 + strlen(row->expected);
     uint8_t *out = guarded(ROOM);
     memset(out, UNTOUCHED, ROOM);
     const bcs_answer answer = make(&job, out, ROOM);
     CHECK(answer.status == BCS_DONE && answer.length == length);
-    CHECK(memcmp(out, row->where, place + 1) == 0 && memcmp(out + place + 1, row->wanted, length - place - 1) == 0);
+    CHECK(memcmp(out, row->where, place + 1) == 0 && memcmp(out + place + 1, row->expected, length - place - 1) == 0);
     CHECK(are_untouched(out + length, ROOM - length));
     memset(out, UNTOUCHED, ROOM);
     const bcs_answer little = make(&job, out, length - 1);
@@ -137,12 +138,12 @@ static void told_whole(const struct refused *row, enum call call, enum call on_i
 }
 
 static void told_besides(const struct whole *row) {
-    const size_t room = 2000, place = strlen(row->where), length = place + 1 + strlen(row->wanted);
+    const size_t room = 2000, place = strlen(row->where), length = place + 1 + strlen(row->expected);
     uint8_t *out = guarded(room);
     memset(out, UNTOUCHED, room);
     const bcs_answer answer = make(&row->job, out, room);
     CHECK(answer.status == BCS_DONE && answer.fault == row->fault && answer.place == 0 && answer.length == length);
-    CHECK(memcmp(out, row->where, place + 1) == 0 && memcmp(out + place + 1, row->wanted, length - place - 1) == 0);
+    CHECK(memcmp(out, row->where, place + 1) == 0 && memcmp(out + place + 1, row->expected, length - place - 1) == 0);
     CHECK(are_untouched(out + length, room - length));
     unguard(out, room);
 }
@@ -151,9 +152,11 @@ static void told_of_registry(const struct refused *row, uint32_t what, const cha
     uint8_t *out = guarded(ROOM);
     memset(out, UNTOUCHED, ROOM);
     is_told(bcs_registry_place(what, row->input.at, row->input.length, out, ROOM), out, ROOM, words);
-    memset(out, UNTOUCHED, ROOM);
-    const bcs_answer answer = bcs_registry_place(what, row->input.at, row->input.length, out, strlen(words) - 1);
-    CHECK(answer.status == BCS_SHORT && answer.length == strlen(words) && are_untouched(out, ROOM));
+    if (words[0] != 0) {
+        memset(out, UNTOUCHED, ROOM);
+        const bcs_answer answer = bcs_registry_place(what, row->input.at, row->input.length, out, strlen(words) - 1);
+        CHECK(answer.status == BCS_SHORT && answer.length == strlen(words) && are_untouched(out, ROOM));
+    }
     unguard(out, ROOM);
 }
 
@@ -190,17 +193,17 @@ static void others(void) {
 int main(void) {
     for (size_t row = 0; row < COUNT(texts); row++) {
         told_of(&texts[row], TEXT_PLACE, BCS_WHERE, texts[row].where);
-        told_of(&texts[row], TEXT_PLACE, BCS_WANTED, texts[row].wanted);
+        told_of(&texts[row], TEXT_PLACE, BCS_WANTED, texts[row].expected);
         told_whole(&texts[row], TEXT_REFUSAL, TO_BCS);
     }
     for (size_t row = 0; row < COUNT(stops); row++) {
         told_of(&stops[row], STOP_PLACE, BCS_WHERE, stops[row].where);
-        told_of(&stops[row], STOP_PLACE, BCS_WANTED, stops[row].wanted);
+        told_of(&stops[row], STOP_PLACE, BCS_WANTED, stops[row].expected);
         told_whole(&stops[row], STOP_REFUSAL, FROM_BCS);
     }
     for (size_t row = 0; row < COUNT(registries); row++) {
         told_of_registry(&registries[row], BCS_WHERE, registries[row].where);
-        told_of_registry(&registries[row], BCS_WANTED, registries[row].wanted);
+        told_of_registry(&registries[row], BCS_WANTED, registries[row].expected);
     }
     for (size_t row = 0; row < COUNT(wholes); row++) {
         told_besides(&wholes[row]);

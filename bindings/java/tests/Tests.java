@@ -81,13 +81,13 @@ public final class Tests extends Check {
 
     private static void refusals() throws BcsException {
         Registry registry = Registry.open(SHAPES);
-        String wanted = "expected an integer from 0 to 255 (U8)";
+        String expected = "expected an integer from 0 to 255 (U8)";
         byte[] shapes = SHAPES.getBytes(StandardCharsets.UTF_8), none = "{}".getBytes(StandardCharsets.UTF_8);
         refused(Kind.TEXT, "BadHex", -1, "/~0~1/1", "an odd number of digits; each byte has two",
                 () -> registry.encodeJson("Point", "{\"x\":1,\"~/\":[\"\",\"0\"]}"));
-        refused(Kind.TEXT, "BadNumber", -1, "/x", "found 256, " + wanted,
+        refused(Kind.TEXT, "BadNumber", -1, "/x", "found 256, " + expected,
                 () -> registry.normaliseJson("Point", "{\"x\":256,\"~/\":[]}"));
-        refused(Kind.TEXT, "BadNumber", -1, "/x", "found \"\", " + wanted,
+        refused(Kind.TEXT, "BadNumber", -1, "/x", "found \"\", " + expected,
                 () -> registry.equalJson("Point", "{\"x\":1,\"~/\":[]}", "{\"x\":\"\",\"~/\":[]}"));
         refused(Kind.TEXT, "MissingField", -1, "", "no member is called ~/", () -> registry.encodeJson("Point", "{\"x\":1}"));
         refused(Kind.BYTES, "EndOfInput", 4, ".~/[0]", "expected 2 bytes of BYTES, found the end of the input", () -> registry.decodeJson("Point", unhex("07010205")));
@@ -113,7 +113,7 @@ public final class Tests extends Check {
         byte[] odder = "{\"é\\u0000: Missing: b\":\"UNITSTRUCT\"}".getBytes(StandardCharsets.UTF_8);
         refused(Kind.GROWTH, "Missing", -1, "é\0: Missing: b", "the newer registry has no container of that name",
                 () -> Registry.grows(odder, none));
-        refused(Kind.PATH, "BadPath", -1, "step 2 é\0x", "wanted a number, inner, or key: and hexadecimal digits",
+        refused(Kind.PATH, "BadPath", -1, "step 2 é\0x", "expected a number, inner, or key: and hexadecimal digits",
                 () -> registry.part("Point", unhex("0700"), "1/é\0x"));
         equal(thrown(BcsException.class, () -> Registry.grows(shapes, none)).reason(), "Missing");
         equal(Registry.differences(odd, none), List.of("a: Missing: b: Missing"));

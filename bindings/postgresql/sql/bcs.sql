@@ -66,7 +66,7 @@ SELECT told($$bcs_part('{}', '"U8"', '\x07', '0x')$$);
 SELECT told($$bcs_part_by_name('{}', '"U8"', '\x07', 'x')$$);
 SELECT told($$bcs_part_by_pointer('{}', '"U8"', '\x07', '/~2')$$);
 SELECT told($$bcs_explain('{}', '"U8"', '\x07', 'xml')$$);
--- Where a text or a registry is refused, and as a detail what was wanted there. Names are told in ASCII, also those that would
+-- Where a text or a registry is refused, and as a detail what was expected there. Names are in ASCII, also those that would
 -- break the line.
 SELECT bcs_encode_json('{"A":{"STRUCT":[{"a/~":{"SEQ":"BYTES"}}]}}', 'A', '{"a/~":["00","0"]}');
 SELECT bcs_encode('{"A":{"STRUCT":[{"a/~":{"SEQ":"BYTES"}}]}}', 'A', '{"a/~":["00","0"]}');
@@ -74,6 +74,7 @@ SELECT bcs_normalise(payments(), 'Payment', '{"to":"bob"}');
 SELECT bcs_equal('{}', '{"SEQ":"U8"}', '[1]', '[1,256]');
 SELECT bcs_encode_json('{"A":{"STRUCT":[{"\u0000\n\\\"%sé\u20ac\ud83d\ude00":"U8"}]}}', 'A', '{"\u0000\n\\\"%sé\u20ac\ud83d\ude00":true}');
 SELECT bcs_is('{"é":{"STRUCT":[{"x":{"TYPENAME":"\n%s"}}]}}', '"U8"', '\x07');
+SELECT bcs_is('{"a~é/\u0000":{"STRUCT":[{"\n":{"TYPENAME":"Z"}}]}}', '"U8"', '\x07');
 SELECT bcs_is('7', '"U8"', '\x07');
 -- A name is cut at 200 signs, and so long a pointer has more room than at first.
 SELECT replace(told(format($$bcs_encode_json('{"A":{"STRUCT":[{"%1$s":"U8"}]}}', 'A', '{"%1$s":true}')$$, repeat('~', 201))), repeat('~0', 200), '..');

@@ -5,19 +5,31 @@
 
 from __future__ import annotations
 
+import json
 from collections.abc import Mapping
 from typing import Any, Callable, Optional
 
 from .values import Formats
 
-__all__ = ["Read", "Readers"]
+__all__ = ["Read", "Readers", "value_of"]
 
 # Converts the JSON of a value of one format. None leaves it as it is.
 Read = Optional[Callable[[Any], Any]]
+# (`json.loads` also looks for blanks and byte order marks)
+_parsed = json.JSONDecoder().raw_decode
 _LEAVES: dict[str, Callable[[Any], Any]] = {
     **{word: int for word in ("U64", "U128", "I64", "I128")},
     "BYTES": bytes.fromhex,
 }
+
+
+def value_of(read: Read, document: str) -> Any:
+    """The value that normal JSON represents."""
+    if read is bytes.fromhex:
+        # (digits have no escapes)
+        return bytes.fromhex(document[1:-1])
+    found, _ = _parsed(document)
+    return found if read is None else read(found)
 
 
 class Readers:
@@ -66,10 +78,15 @@ class Readers:
         return self._named.get(name)
 
     def _late(self, name: str, kind: str, inner: Any) -> Read:
+        known: Read = None
+        is_known = False
+
         def read(found: Any) -> Any:
-            if name not in self._named:
-                self._named[name] = self._content(kind, inner)
-            known = self._named[name]
+            nonlocal known, is_known
+            if not is_known:
+                if name not in self._named:
+                    self._named[name] = self._content(kind, inner)
+                known, is_known = self._named[name], True
             return found if known is None else known(found)
 
         return read

@@ -17,12 +17,12 @@ from .formats import AnyName, Data, Format, Name, PlainName, Text, bytes_of, byt
 from .library import Answer, Handle, Library, Question, Report, Status, standard_library
 from .limits import MOST_NODES, Limits
 from .names import own_forms
-from .reading import Read, Readers
+from .reading import Read, Readers, value_of
 
 __all__ = ["Form", "Names", "Part", "Registry"]
 
 _Value = TypeVar("_Value")
-# For "address", "u256" and "i256", the containers of a registry that are called otherwise.
+# The containers of a registry that have other names than Move's "address", "u256" and "i256", by these.
 Names = Mapping[str, Iterable[str]]
 # How many formats a registry remembers, since they may come from strangers.
 _MOST_FORMATS = 1000
@@ -366,7 +366,7 @@ class Registry:
         if answer.status == Status.NO:
             return False
         if answer.status == Status.REFUSED:
-            # (it doesn't say which one is refused)
+            # (the call doesn't say which of the two it refuses)
             for text in (first, second):
                 self._put_text(question, "bcs_handle_normalise", text)
         self._require(question, answer, TextError)
@@ -409,7 +409,7 @@ class Registry:
         question = self._question(format, limits, data)
         answer = question.ask("bcs_handle_part_named", notation, text, len(text), data, len(data))
         if answer.status == Status.PATH:
-            raise PathError("BadPath", message=f"wanted {_NOTATIONS[notation]}")
+            raise PathError("BadPath", message=f"expected {_NOTATIONS[notation]}")
         return self._part(question, answer, data)
 
     def _part(self, question: Question, answer: Answer, data: bytes) -> Optional[Part]:
@@ -439,9 +439,7 @@ class Registry:
         # (a large document has little room for copies of itself)
         with text:
             document = str(text, "utf-8")
-        found = json.loads(document)
-        del document
-        return found if read is None else read(found)
+        return value_of(read, document)
 
     def _reader_of(self, format: bytes, plain_options: bool) -> Read:
         try:

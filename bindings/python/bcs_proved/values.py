@@ -1,15 +1,20 @@
 """Converts Python values to the JSON of docs/FORMAT.md. The format decides what each value becomes.
 
 `Formats` reads the formats of a registry, and `json_of` converts a value of one of them. `reading` converts back.
+
+Each format has two ways. `quick` converts values of Python's own types, by functions that call one another. What it isn't
+sure of it leaves to `open`, which converts and rejects everything.
 """
 
 from __future__ import annotations
 
 import dataclasses
+import functools
 import itertools
 import json
+import json.encoder
 import re
-from collections.abc import Generator, Mapping
+from collections.abc import Callable, Generator, Mapping
 from typing import Any, Optional, Union, final
 
 from .names import BYTES_OF_OWN_FORM
@@ -28,14 +33,21 @@ _INTEGER_ITEMS = {*"bBhHiIlLqQnN", "O"}
 _OTHER_ITEMS = {*"efdg?"}
 # So often the limit on nodes is checked in a list.
 _UNCHECKED = 1000
+# `quick` leaves longer lists and byte strings to `open`, and arrays and objects with longer JSON, since a value that holds
+# others many times may have any length.
+_MOST_QUICK_ITEMS = 1 << 16
+_MOST_QUICK = 1 << 20
 # An error shows at most this much of a string.
 _SHOWN = 80
 _ADDRESS = re.compile(f"0x([0-9a-fA-F]{{1,{2 * BYTES_OF_OWN_FORM}}})")
 # What writes the parts of an array or object: it comes to each part that is one, too. Where a part is rejected, it adds
 # the step to it.
 _Writing = Generator["_Writing", None, None]
+_Quick = Callable[[Any, int], str]
 # (`ensure_ascii` would turn two lone surrogates into one character)
 _quoted = json.JSONEncoder(ensure_ascii=False).encode
+# (the same, and undocumented)
+_quoted_at_once = getattr(json.encoder, "encode_basestring", _quoted)
 
 
 @final
@@ -67,6 +79,10 @@ class Rejected(Exception):
         return "".join(f"/{str(step).replace('~', '~0').replace('/', '~1')}" for step in reversed(self.steps))
 
 
+class _Slow(Exception):
+    """`quick` leaves a value to `open`."""
+
+
 def name_of(found: type) -> str:
     return found.__qualname__ if found.__module__ == "builtins" else f"{found.__module__}.{found.__qualname__}"
 
@@ -81,6 +97,11 @@ class Format:
         converting its parts may run the caller's code."""
         raise NotImplementedError
 
+    def quick(self, value: Any, levels: int) -> str:
+        """The JSON that `open` would write, with at most so many arrays and objects in one another; or raises _Slow. It
+        reads exact types of Python only, so it runs none of the caller's code."""
+        raise _Slow
+
     def resolved(self) -> Format:
         """What a container holds, or else the format itself."""
         return self
@@ -90,8 +111,19 @@ class Format:
 
 
 def json_of(format: Format, value: Any, nodes: int) -> bytes:
-    """The JSON of a value, unless it surely has more nodes than this. Raises Rejected. It doesn't recurse, so deep
-    values need no stack."""
+    """The JSON of a value, unless it surely has more nodes than this. Raises Rejected."""
+    try:
+        text = format.quick(value, _NESTING)
+        # (each node has a character at least)
+        if len(text) <= nodes:
+            return text.encode("utf-8", "surrogatepass")
+    except (_Slow, RecursionError):
+        pass
+    return _slow_json_of(format, value, nodes)
+
+
+def _slow_json_of(format: Format, value: Any, nodes: int) -> bytes:
+    """It doesn't recurse, so deep values need no stack."""
     out: list[str] = []
     # (a node has at most five pieces of text, like bytes that are the key or value in a map)
     most = 5 * nodes + 5
@@ -213,6 +245,11 @@ class _Unit(Format):
         out.append("null")
         return None
 
+    def quick(self, value: Any, levels: int) -> str:
+        if value is not None:
+            raise _Slow
+        return "null"
+
 
 class _Bool(Format):
     takes = "BOOL takes a bool"
@@ -223,6 +260,11 @@ class _Bool(Format):
         out.append("true" if value else "false")
         return None
 
+    def quick(self, value: Any, levels: int) -> str:
+        if value is not True and value is not False:
+            raise _Slow
+        return "true" if value else "false"
+
 
 class _Text(Format):
     takes = "STR takes a str"
@@ -232,6 +274,11 @@ class _Text(Format):
             raise self.wrong(value)
         out.append(_text_of(value))
         return None
+
+    def quick(self, value: Any, levels: int) -> str:
+        if type(value) is not str:
+            raise _Slow
+        return _quoted_at_once(value)
 
 
 class _Unsupported(Format):
@@ -258,6 +305,11 @@ class _Number(Format):
             raise self._out_of_range()
         out.append(f'"{number}"')
         return None
+
+    def quick(self, value: Any, levels: int) -> str:
+        if type(value) is not int or not self.least <= value <= self.most:
+            raise _Slow
+        return f'"{value}"'
 
     def int_of(self, value: Any) -> int:
         if type(value) is int:
@@ -296,8 +348,16 @@ class _OwnInteger(_Number):
 
     def open(self, value: Any, out: list[str]) -> Optional[_Writing]:
         number = self.in_range(value)
-        out.append(f'"{number.to_bytes(BYTES_OF_OWN_FORM, "little", signed=self._is_signed).hex()}"')
+        out.append(self._digits_of(number))
         return None
+
+    def quick(self, value: Any, levels: int) -> str:
+        if type(value) is not int or not self.least <= value <= self.most:
+            raise _Slow
+        return self._digits_of(value)
+
+    def _digits_of(self, number: int) -> str:
+        return f'"{number.to_bytes(BYTES_OF_OWN_FORM, "little", signed=self._is_signed).hex()}"'
 
 
 class _Address(Format):
@@ -313,6 +373,19 @@ class _Address(Format):
         elif not _put_octets(value, out):
             raise self.wrong(value)
         return None
+
+    def quick(self, value: Any, levels: int) -> str:
+        if type(value) is not str:
+            return _octets_at_once(value)
+        # (`fromhex` skips blanks)
+        if len(value) == 2 + 2 * BYTES_OF_OWN_FORM and value.startswith("0x"):
+            digits = value[2:]
+            try:
+                if len(bytes.fromhex(digits)) == BYTES_OF_OWN_FORM:
+                    return f'"{digits}"'
+            except ValueError:
+                pass
+        raise _Slow
 
     def _digits_of(self, text: str) -> str:
         found = _ADDRESS.fullmatch(text)
@@ -339,6 +412,15 @@ class _Octets(Format):
         out += ['"', _octets_of_items(items).hex(), '"']
         return None
 
+    def quick(self, value: Any, levels: int) -> str:
+        return _octets_at_once(value)
+
+
+def _octets_at_once(value: Any) -> str:
+    if type(value) is not bytes or len(value) > _MOST_QUICK_ITEMS:
+        raise _Slow
+    return f'"{value.hex()}"'
+
 
 def _octets_of_items(items: list[Any]) -> bytes:
     octets = bytearray()
@@ -360,6 +442,10 @@ class _List(Format):
         self._element = element
         self.takes = f"{word} takes a list"
 
+    @functools.cached_property
+    def _quick(self) -> _Quick:
+        return self._element.resolved().quick
+
     def open(self, value: Any, out: list[str]) -> Optional[_Writing]:
         items = _items_of(value)
         if items is None and isinstance(self._element.resolved(), (_Number, _List, _Octets)):
@@ -368,8 +454,18 @@ class _List(Format):
             raise self.wrong(value)
         if not (type(self._element) is _Number and _are_plain(items)):
             return self._writing(items, out)
-        out.append('["' + '","'.join(map(str, items)) + '"]' if items else "[]")
+        out.append(_numbers_at_once(items))
         return None
+
+    def quick(self, value: Any, levels: int) -> str:
+        if type(value) is not list or not levels or len(value) > _MOST_QUICK_ITEMS:
+            raise _Slow
+        if type(self._element) is not _Number:
+            quick, levels = self._quick, levels - 1
+            return _joined([quick(item, levels) for item in value])
+        if not _are_plain(value):
+            raise _Slow
+        return _numbers_at_once(value)
 
     def _writing(self, items: list[Any], out: list[str]) -> _Writing:
         number, element = 0, self._element
@@ -389,6 +485,17 @@ class _List(Format):
         out.append("]")
 
 
+def _joined(items: list[str]) -> str:
+    text = ",".join(items)
+    if len(text) > _MOST_QUICK:
+        raise _Slow
+    return f"[{text}]"
+
+
+def _numbers_at_once(items: list[int]) -> str:
+    return '["' + '","'.join(map(str, items)) + '"]' if items else "[]"
+
+
 def _are_plain(items: list[Any]) -> bool:
     """Whether all are ints that aren't too wide. Most lists of numbers are, and they are converted much faster."""
     return {*map(type, items)} <= {int} and max(map(int.bit_length, items), default=0) <= _WIDEST
@@ -401,11 +508,21 @@ class _Row(Format):
         self._formats = formats
         self.takes = takes
 
+    @functools.cached_property
+    def _quick(self) -> list[_Quick]:
+        return [format.resolved().quick for format in self._formats]
+
     def open(self, value: Any, out: list[str]) -> Optional[_Writing]:
         items = _items_of(value)
         if items is None:
             raise self.wrong(value)
         return self._writing(items, out)
+
+    def quick(self, value: Any, levels: int) -> str:
+        if type(value) not in (list, tuple) or not levels or len(value) != len(self._formats):
+            raise _Slow
+        levels -= 1
+        return _joined([quick(item, levels) for quick, item in zip(self._quick, value)])
 
     def _writing(self, items: list[Any], out: list[str]) -> _Writing:
         """If the number of items is wrong, the library gets nulls, and rejects their number."""
@@ -437,6 +554,9 @@ class _Map(Format):
         elif not isinstance(value, (list, tuple)):
             raise self.wrong(value)
         return self._entries.open(value, out)
+
+    def quick(self, value: Any, levels: int) -> str:
+        return self._entries.quick([*value.items()] if type(value) is dict else value, levels)
 
 
 class _Object(Format):
@@ -476,8 +596,25 @@ class _Struct(_Object):
     def __init__(self, fields: list[tuple[str, Format]]) -> None:
         self._fields = [(name, f"{{{_quoted(name)}:", f",{_quoted(name)}:", format) for name, format in fields]
 
+    @functools.cached_property
+    def _quick(self) -> list[tuple[str, str, _Quick]]:
+        return [(name, f"{_quoted(name)}:", format.resolved().quick) for name, _, _, format in self._fields]
+
     def open(self, value: Any, out: list[str]) -> Optional[_Writing]:
         return self._writing(self._members_of(value), out)
+
+    def quick(self, value: Any, levels: int) -> str:
+        if type(value) is not dict or not levels or len(value) != len(self._quick) or {*map(type, value)} != {str}:
+            raise _Slow
+        levels -= 1
+        try:
+            parts = [head + quick(value[name], levels) for name, head, quick in self._quick]
+        except KeyError:
+            raise _Slow from None
+        text = ",".join(parts)
+        if len(text) > _MOST_QUICK:
+            raise _Slow
+        return f"{{{text}}}"
 
     def _writing(self, members: dict[str, Any], out: list[str]) -> _Writing:
         name, is_first = "", True
@@ -505,6 +642,20 @@ class _Tagged(_Object):
         self._word = word
         self._variants = variants
 
+    @functools.cached_property
+    def _quick(self) -> dict[str, tuple[str, _Quick]]:
+        return {name: (f"{{{_quoted(name)}:", part.resolved().quick) for name, part in self._variants.items()}
+
+    def quick(self, value: Any, levels: int) -> str:
+        if type(value) is not dict or not levels or len(value) != 1:
+            raise _Slow
+        ((name, part),) = value.items()
+        known = self._quick.get(name) if type(name) is str else None
+        if known is None:
+            raise _Slow
+        head, quick = known
+        return head + quick(part, levels - 1) + "}"
+
     def _writing(self, members: dict[str, Any], out: list[str]) -> _Writing:
         name, before = "", "{"
         try:
@@ -529,6 +680,9 @@ class _Enum(_Tagged):
             return None
         return self._writing(self._members_of(value), out)
 
+    def quick(self, value: Any, levels: int) -> str:
+        return _quoted_at_once(value) if type(value) is str else _Tagged.quick(self, value, levels)
+
 
 class _Option(_Tagged):
     """None or {"some": value}; or the value alone, if `is_plain` says that it can't be mistaken for one of these."""
@@ -552,6 +706,13 @@ class _Option(_Tagged):
                 return self._writing(value, out)
         return self._writing({"some": value}, out)
 
+    def quick(self, value: Any, levels: int) -> str:
+        if value is None:
+            return "null"
+        if self._is_plain and type(value) is not dict:
+            value = {"some": value}
+        return _Tagged.quick(self, value, levels)
+
 
 class _Named(Format):
     """A container. It is read when the first value needs it, since containers may hold themselves."""
@@ -563,6 +724,9 @@ class _Named(Format):
 
     def open(self, value: Any, out: list[str]) -> Optional[_Writing]:
         return (self._held or self.resolved()).open(value, out)
+
+    def quick(self, value: Any, levels: int) -> str:
+        return (self._held or self.resolved()).quick(value, levels)
 
     def resolved(self) -> Format:
         if self._held is None:

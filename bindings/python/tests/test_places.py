@@ -1,4 +1,4 @@
-"""Where something is refused, and what was wanted there, as the program `bcs` says it."""
+"""Where something is refused, and what was expected there, as the program `bcs` says it."""
 
 import pickle
 import unittest
@@ -84,9 +84,9 @@ class Places(unittest.TestCase):
 
     def test_two_texts(self) -> None:
         good, bad = {"x": 1, "~/": []}, {"x": 256, "~/": []}
-        wanted = "found 256, expected an integer from 0 to 255 (U8)"
-        self.tells(TextError, "/x", wanted, self.registry.equal, "Point", good, bad)
-        self.tells(TextError, "/x", wanted, self.registry.equal, "Point", bad, {})
+        expected = "found 256, expected an integer from 0 to 255 (U8)"
+        self.tells(TextError, "/x", expected, self.registry.equal, "Point", good, bad)
+        self.tells(TextError, "/x", expected, self.registry.equal, "Point", bad, {})
 
     def test_bytes(self) -> None:
         damaged = bytes.fromhex("0701020507")
@@ -148,7 +148,7 @@ class Places(unittest.TestCase):
         for text, at, message in [
             ('{"S":{"ENUM":{"x":{"A":"UNIT"}}}}', "/S/ENUM/x", NO_NUMBER),
             ({"S": {"STRUCT": [{"side": {"TYPENAME": "Sid"}}]}}, "S, field side", "no container is called Sid"),
-            ("{", "line 1, column 1", "the document ends there; } is missing"),
+            ("{", "", "line 1, column 1: the document ends there; } is missing"),
         ]:
             self.tells(RegistryError, at, message, Registry, text)
 

@@ -2,6 +2,7 @@
 here, by the rules of docs/FORMAT.md."""
 
 import array
+import json
 import random
 import unittest
 from typing import Any, Callable
@@ -9,6 +10,7 @@ from typing import Any, Callable
 import numpy
 
 from bcs_proved import Hex, Limits, Registry, TextError
+from bcs_proved.values import _slow_json_of, json_of
 
 SEED, REGISTRIES, VALUES = 20260, 4200, 12
 LEAVES = ["UNIT", "BOOL", "STR", "BYTES", *(f"{sign}{width}" for sign in "UI" for width in (8, 16, 32, 64, 128))]
@@ -269,8 +271,12 @@ class There(unittest.TestCase):
     def agrees(self, registry: Registry, format: Any, drawn: Drawn) -> None:
         said = f"{registry._text!r} {format}: {drawn.native!r}, {drawn.dressed!r}"
         format = format if isinstance(format, dict) else f'"{format}"'
-        self.assertEqual(registry.encode(format, drawn.dressed), drawn.data, said)
-        self.assertEqual(registry.encode(format, drawn.native), drawn.data, said)
+        known = registry._formats.format(format if isinstance(format, dict) else json.loads(format))
+        for value in (drawn.dressed, drawn.native):
+            # (the two ways of converting a value write the same JSON)
+            nodes = drawn.nodes * 100
+            self.assertEqual(json_of(known, value, nodes), _slow_json_of(known, value, nodes), said)
+            self.assertEqual(registry.encode(format, value), drawn.data, said)
         self.assertEqual(registry.decode(format, drawn.data), drawn.native, said)
         self.assertEqual(registry.encode(format, registry.decode(format, drawn.data)), drawn.data, said)
         self.assertTrue(registry.equal(format, drawn.dressed, drawn.native), said)

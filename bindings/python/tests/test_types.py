@@ -199,7 +199,7 @@ class Types(unittest.TestCase):
         unknown = '{"A":{"NEWTYPESTRUCT":{"TYPENAME":"B"}}}'
         cases: list[tuple[int, str, list[str]]] = [
             (2, "refused: UnknownName at A: no container is called B\n", [unknown]),
-            (2, "refused: NotJson at line 1, column 1: the document ends there; } is missing\n", ["{"]),
+            (2, "refused: NotJson: line 1, column 1: the document ends there; } is missing\n", ["{"]),
             (3, usage, []),
             (3, usage, ["a.json", "b.json"]),
             (3, usage, ["--other"]),

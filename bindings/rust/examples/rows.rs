@@ -143,7 +143,7 @@ fn stop_place(registry: &Registry, format: &Format, bytes: &[u8], what: &str) ->
     place(refused, what)
 }
 
-/// Where something is refused, or what was wanted there. What is wrong with the format or the limits has no place.
+/// Where something is refused, or what was expected there. What is wrong with the format or the limits has no place.
 fn place(refused: Option<Error>, what: &str) -> Told {
     let Some(error) = refused else {
         return Told::yes_or_no(false);

@@ -12,7 +12,7 @@ pub struct ParseError(pub(crate) &'static str);
 
 impl fmt::Display for ParseError {
     fn fmt(&self, f: &mut fmt::Formatter<'_>) -> fmt::Result {
-        write!(f, "wanted {}", self.0)
+        write!(f, "expected {}", self.0)
     }
 }
 
@@ -51,10 +51,10 @@ impl FromStr for Address {
     type Err = ParseError;
 
     fn from_str(text: &str) -> Result<Address, ParseError> {
-        const WANTED: ParseError = ParseError("0x and 1 to 64 hexadecimal digits");
-        let digits = text.strip_prefix("0x").filter(|digits| (1..=2 * LENGTH).contains(&digits.len())).ok_or(WANTED)?;
-        let bytes = crate::hex::bytes_of(&format!("{digits:0>64}")).ok_or(WANTED)?;
-        bytes.try_into().map(Address).map_err(|_| WANTED)
+        const EXPECTED: ParseError = ParseError("0x and 1 to 64 hexadecimal digits");
+        let digits = text.strip_prefix("0x").filter(|digits| (1..=2 * LENGTH).contains(&digits.len())).ok_or(EXPECTED)?;
+        let bytes = crate::hex::bytes_of(&format!("{digits:0>64}")).ok_or(EXPECTED)?;
+        bytes.try_into().map(Address).map_err(|_| EXPECTED)
     }
 }
 

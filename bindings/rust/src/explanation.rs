@@ -33,7 +33,7 @@ impl Form {
 /// Bytes, explained piece by piece. It prints as its text.
 #[derive(Clone, Debug, PartialEq, Eq)]
 pub struct Explanation {
-    /// The lines, each with its line end. Where the bytes stop being a value, the last ones say why and what was wanted.
+    /// The lines, each with its line end. Where the bytes stop being a value, the last ones say why and what was expected.
     pub text: String,
     /// Where the bytes stop being a value; `None` where they are one.
     pub stop: Option<Stop>,

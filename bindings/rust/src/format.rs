@@ -1,3 +1,4 @@
+use crate::json::push_string;
 use std::fmt;
 
 /// A format of a registry: what a value is read as.
@@ -27,11 +28,10 @@ pub struct Format {
 impl Format {
     /// The container of this name, whatever it begins with.
     pub fn named(name: &str) -> Format {
-        let mut json = String::from(r#"{"TYPENAME":""#);
-        for character in name.chars() {
-            push_escaped(&mut json, character);
-        }
-        json.push_str(r#""}"#);
+        let mut json = String::with_capacity(name.len() + 16);
+        json.push_str(r#"{"TYPENAME":"#);
+        push_string(&mut json, name);
+        json.push('}');
         Format { json: json.into() }
     }
 
@@ -43,15 +43,6 @@ impl Format {
     /// Its JSON text.
     pub fn as_json(&self) -> &[u8] {
         &self.json
-    }
-}
-
-/// Adds a character of a JSON string.
-fn push_escaped(json: &mut String, character: char) {
-    match character {
-        '"' | '\\' => json.extend(['\\', character]),
-        '\0'..='\u{1f}' => json.push_str(&format!("\\u{:04x}", u32::from(character))),
-        _ => json.push(character),
     }
 }
 

@@ -1,38 +1,73 @@
 //! Bytes as hexadecimal digits.
 
+/// The lower-case digits of all bytes, two for each.
+#[cfg(any(feature = "serde_json", test))]
+const DIGITS: [u8; 512] = {
+    let digits = b"0123456789abcdef";
+    let (mut all, mut byte) = ([0; 512], 0);
+    while byte < 256 {
+        all[2 * byte] = digits[byte >> 4];
+        all[2 * byte + 1] = digits[byte & 15];
+        byte += 1;
+    }
+    all
+};
+
+/// The value of each digit, or `NONE` for another sign.
+const VALUES: [u8; 256] = {
+    let mut values = [NONE; 256];
+    let mut value = 0;
+    while value < 16 {
+        values[b"0123456789abcdef"[value] as usize] = value as u8;
+        values[b"0123456789ABCDEF"[value] as usize] = value as u8;
+        value += 1;
+    }
+    values
+};
+
+const NONE: u8 = 16;
+
 /// Adds two lower-case digits for each byte.
 #[cfg(any(feature = "serde_json", test))]
 pub(crate) fn push_digits(out: &mut String, bytes: &[u8]) {
-    const DIGITS: &[u8; 16] = b"0123456789abcdef";
-    let mut room = [0; 512];
-    for bytes in bytes.chunks(room.len() / 2) {
-        for (pair, byte) in room.chunks_exact_mut(2).zip(bytes) {
-            pair.copy_from_slice(&[DIGITS[usize::from(byte >> 4)], DIGITS[usize::from(byte & 15)]]);
+    let mut room = [[0; 2]; 256];
+    out.reserve(2 * bytes.len());
+    for bytes in bytes.chunks(room.len()) {
+        let pairs = &mut room[..bytes.len()];
+        for (pair, byte) in pairs.iter_mut().zip(bytes) {
+            let place = 2 * usize::from(*byte);
+            *pair = [DIGITS[place], DIGITS[place + 1]];
         }
-        out.push_str(std::str::from_utf8(&room[..2 * bytes.len()]).expect("digits are ASCII"));
+        out.push_str(std::str::from_utf8(pairs.as_flattened()).expect("digits are ASCII"));
     }
+}
+
+/// Adds the two digits of a byte.
+#[cfg(feature = "serde_json")]
+#[inline]
+pub(crate) fn push_byte(out: &mut String, byte: u8) {
+    const TEXT: &str = match std::str::from_utf8(&DIGITS) {
+        Ok(text) => text,
+        Err(_) => panic!("digits are ASCII"),
+    };
+    let place = 2 * usize::from(byte);
+    out.push_str(&TEXT[place..place + 2]);
 }
 
 /// The bytes of digits of either case, two for each byte. `None`: these aren't such digits.
 pub(crate) fn bytes_of(digits: &str) -> Option<Vec<u8>> {
     let pairs = digits.as_bytes().chunks_exact(2);
-    let mut bytes = Vec::with_capacity(pairs.len());
     if !pairs.remainder().is_empty() {
         return None;
     }
-    for pair in pairs {
-        bytes.push(digit(pair[0])? << 4 | digit(pair[1])?);
-    }
-    Some(bytes)
-}
-
-fn digit(sign: u8) -> Option<u8> {
-    match sign {
-        b'0'..=b'9' => Some(sign - b'0'),
-        b'a'..=b'f' => Some(sign - b'a' + 10),
-        b'A'..=b'F' => Some(sign - b'A' + 10),
-        _ => None,
-    }
+    let mut all = 0;
+    let byte_of = |pair: &[u8]| {
+        let (high, low) = (VALUES[usize::from(pair[0])], VALUES[usize::from(pair[1])]);
+        all |= high | low;
+        high << 4 | low
+    };
+    let bytes = pairs.map(byte_of).collect();
+    (all & NONE == 0).then_some(bytes)
 }
 
 #[cfg(test)]

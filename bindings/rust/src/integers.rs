@@ -45,6 +45,7 @@ impl Integer {
     }
 
     /// Whether it holds every value of the other type.
+    #[inline]
     pub(crate) fn holds(self, other: Integer) -> bool {
         match (self.is_signed, other.is_signed) {
             (true, false) => self.bits > other.bits,

@@ -1,4 +1,23 @@
-//! As much of JSON as this crate reads: an object's members, of texts that the library has found to be JSON or has made.
+//! As much of JSON as this crate writes and reads itself: strings, and the members of an object in a text that the library has
+//! found to be JSON or has made.
+
+/// Adds a JSON string.
+pub(crate) fn push_string(json: &mut String, text: &str) {
+    json.push('"');
+    let mut copied = 0;
+    for (place, sign) in text.bytes().enumerate() {
+        if sign < b' ' || sign == b'"' || sign == b'\\' {
+            json.push_str(&text[copied..place]);
+            match sign {
+                b'"' | b'\\' => json.extend(['\\', char::from(sign)]),
+                _ => json.push_str(&format!("\\u{sign:04x}")),
+            }
+            copied = place + 1;
+        }
+    }
+    json.push_str(&text[copied..]);
+    json.push('"');
+}
 
 /// A member of an object.
 #[derive(Clone, Debug, PartialEq, Eq)]

@@ -34,6 +34,8 @@ mod json;
 mod limits;
 #[cfg(feature = "serde_json")]
 mod mismatch;
+#[cfg(feature = "serde_json")]
+mod normal;
 mod places;
 #[cfg(feature = "serde_json")]
 mod probe;

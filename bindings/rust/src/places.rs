@@ -15,7 +15,7 @@ mod tests {
     fn reports_are_taken_apart() {
         let rows = [
             ("/a\0b/1\0an odd number of digits", Some(("/a\0b/1", "an odd number of digits"))),
-            ("step 1 x: BadPath: y\0wanted", Some(("step 1 x: BadPath: y", "wanted"))),
+            ("step 1 x: BadPath: y\0expected", Some(("step 1 x: BadPath: y", "expected"))),
             ("\0no container is called a", Some(("", "no container is called a"))),
             ("", None),
         ];

@@ -387,13 +387,13 @@ impl Registry {
         notation: u32,
         name: &[u8],
     ) -> Result<Option<Part<'b>>, Error> {
-        let wanted = match notation {
+        let expected = match notation {
             sys::NAME => "expected a name such as .payload.args[1]",
             _ => "expected a JSON Pointer such as /payload/args/1",
         };
         let answer = self.open.part_named(self.of_bytes(format, bytes), notation, name, bytes);
         let found = done_unless_no(answer).map_err(|error| match error.kind() {
-            ErrorKind::Path => error.found(Some((String::new(), wanted.to_owned()))),
+            ErrorKind::Path => error.found(Some((String::new(), expected.to_owned()))),
             _ => self.in_bytes(error, format, bytes),
         });
         Ok(found?.map(|answer| Part::of(answer, bytes)))

@@ -6,23 +6,36 @@
 use crate::hex;
 use crate::integers::{self, Integer, U8};
 use crate::mismatch::Mismatch;
-use crate::shapes::{At, FIELD_NAME, OCTET, PLAIN_LIST, Shape, VOID};
+use crate::normal::Normal;
+use crate::shapes::{At, FIELD_NAME, Member, Members, OCTET, PLAIN_LIST, Shape, VOID};
 use serde::de::{self, DeserializeOwned, DeserializeSeed, Deserializer, MapAccess, SeqAccess, VariantAccess, Visitor};
 use serde::forward_to_deserialize_any;
-use serde_json::{Map, Value, map};
-use std::collections::HashMap;
+use std::borrow::Cow;
 use std::str::FromStr;
 use std::vec;
 
-/// The value that JSON of a format represents.
-pub(crate) fn value_of<T: DeserializeOwned>(json: Value, at: At) -> Result<T, Mismatch> {
-    T::deserialize(Reader { at, json })
+/// The value that normal JSON of a format represents.
+pub(crate) fn value_of<T: DeserializeOwned>(json: &str, at: At) -> Result<T, Mismatch> {
+    T::deserialize(Reader { at, json: Json::Value(&Normal::new(json), 0) })
 }
 
-/// JSON of a format.
+/// A value of a format. A type may read it any number of times, and needn't read all of it.
+#[derive(Clone, Copy)]
 struct Reader<'w> {
     at: At<'w>,
-    json: Value,
+    json: Json<'w>,
+}
+
+#[derive(Clone, Copy)]
+enum Json<'w> {
+    /// The value that begins at this offset.
+    Value(&'w Normal<'w>, usize),
+    /// A byte of a byte string.
+    Byte(u8),
+    /// The name of a field or a variant.
+    Name(&'w str),
+    /// The payload of a variant that has none.
+    Nothing,
 }
 
 /// What can't be: the library prints JSON of the format.
@@ -43,30 +56,36 @@ fn bytes_of(digits: &str) -> Result<Vec<u8>, Mismatch> {
 }
 
 macro_rules! visit_integer {
-    ($format:ident, $json:ident, $visitor:ident: $($name:ident $visit:ident)*) => {
+    ($format:ident, $digits:ident, $visitor:ident: $($name:ident $visit:ident)*) => {
         match $format {
-            $(integers::$name => $visitor.$visit(integer_of($json)?),)*
+            $(integers::$name => $visitor.$visit(integer_of($digits)?),)*
             _ => other_json(),
         }
     };
 }
 
 /// An integer, as the type of Rust that has the format's range. Wider types accept it, and no other does.
-fn visit_integer<'de, V: Visitor<'de>>(format: Integer, json: Value, visitor: V) -> Result<V::Value, Mismatch> {
+fn visit_integer<'de, V: Visitor<'de>>(format: Integer, digits: &str, visitor: V) -> Result<V::Value, Mismatch> {
     visit_integer! {
-        format, json, visitor:
+        format, digits, visitor:
         U8 visit_u8 U16 visit_u16 U32 visit_u32 U64 visit_u64 U128 visit_u128
         I8 visit_i8 I16 visit_i16 I32 visit_i32 I64 visit_i64 I128 visit_i128
     }
 }
 
-fn integer_of<N: FromStr + TryFrom<u64> + TryFrom<i64>>(json: Value) -> Result<N, Mismatch> {
-    let unsigned = json.as_u64().and_then(|number| N::try_from(number).ok());
-    let number = unsigned.or_else(|| N::try_from(json.as_i64()?).ok()).or_else(|| json.as_str()?.parse().ok());
-    number.map_or_else(other_json, Ok)
+fn integer_of<N: FromStr>(digits: &str) -> Result<N, Mismatch> {
+    digits.parse().map_or_else(|_| other_json(), Ok)
+}
+
+fn visit_text<'de, V: Visitor<'de>>(text: Cow<str>, visitor: V) -> Result<V::Value, Mismatch> {
+    match text {
+        Cow::Borrowed(text) => visitor.visit_str(text),
+        Cow::Owned(text) => visitor.visit_string(text),
+    }
 }
 
 impl<'w> Reader<'w> {
+    #[inline]
     fn entered(self) -> Reader<'w> {
         Reader { at: self.at.entered(), ..self }
     }
@@ -75,44 +94,66 @@ impl<'w> Reader<'w> {
         Err(Mismatch::unfit(self.at.entered().shape, type_is))
     }
 
+    fn is_some_of_nothing(&self) -> bool {
+        matches!(self.json, Json::Value(normal, start) if normal.has(start, "{\"some\":null}"))
+    }
+
     /// What the format has here, for a type that requests it.
     fn visit_as_requested<'de, V: Visitor<'de>>(self, visitor: V) -> Result<V::Value, Mismatch> {
         let shape = self.at.shape;
         self.visit(visitor).map_err(|error: Mismatch| error.of_format(shape))
     }
 
+    /// An integer type has to hold all numbers of the format, whatever this one is. The bytes of `BYTES` are each a `u8`, and no
+    /// other integer.
+    fn visit_integer_as<'de, V: Visitor<'de>>(self, integer: Integer, visitor: V) -> Result<V::Value, Mismatch> {
+        let reader = self.entered();
+        match reader.at.shape {
+            Shape::Integer(format) if !integer.holds(*format) => Err(Mismatch::narrow(integer.rust, format.format)),
+            Shape::Octet if integer != U8 => reader.unfit(&integer.found()),
+            _ => reader.visit_as_requested(visitor),
+        }
+    }
+
     fn visit<'de, V: Visitor<'de>>(self, visitor: V) -> Result<V::Value, Mismatch> {
-        let Reader { at, json } = self;
-        match (at.shape, json) {
-            (Shape::Unit, _) => visitor.visit_unit(),
-            (Shape::Bool, Value::Bool(truth)) => visitor.visit_bool(truth),
-            (Shape::Integer(format), json) => visit_integer(*format, json, visitor),
-            (Shape::Octet, json) => visit_integer(U8, json, visitor),
-            (Shape::Str | Shape::FieldName | Shape::Enum(_), Value::String(text)) => visitor.visit_string(text),
-            (Shape::Option(_), json) => Reader { at, json }.visit_option(visitor),
-            (Shape::Struct(parts) | Shape::Enum(parts), Value::Object(members)) => {
-                visit_members(at, parts, members, visitor)
+        let (normal, start) = match (self.at.shape, self.json) {
+            (Shape::Unit, _) => return visitor.visit_unit(),
+            (_, Json::Byte(byte)) => return visitor.visit_u8(byte),
+            (_, Json::Name(name)) => return visitor.visit_str(name),
+            (_, Json::Value(normal, start)) => (normal, start),
+            (_, Json::Nothing) => return self.unfit("a list"),
+        };
+        match (self.at.shape, normal.sign(start)) {
+            (Shape::Bool, _) => visitor.visit_bool(normal.word(start) == "true"),
+            (Shape::Integer(format), _) => visit_integer(*format, normal.word(start), visitor),
+            (Shape::Str | Shape::Enum(_), b'"') => visit_text(text_at(normal, start)?, visitor),
+            (Shape::Option(_), _) => self.visit_option(visitor),
+            (Shape::Struct(members) | Shape::Enum(members), b'{') => {
+                visit_members(self.at, members, normal, start, visitor)
             }
-            (Shape::Map(entry), Value::Array(entries)) => visit_entries(at.to(entry), entries, visitor),
-            (_, json) => Reader { at, json }.visit_items(visitor),
+            (Shape::Map(entry), b'[') => visit_entries(self.at.to(entry), normal, start, visitor),
+            _ => self.visit_items(visitor),
         }
     }
 
     fn visit_option<'de, V: Visitor<'de>>(self, visitor: V) -> Result<V::Value, Mismatch> {
+        const SOME: &str = "{\"some\":";
         let Shape::Option(content) = self.at.shape else {
             return self.unfit("an Option");
         };
-        let mut members = match self.json {
-            Value::Null => return visitor.visit_none(),
-            Value::Object(members) => members,
+        let (normal, start) = match self.json {
+            Json::Value(normal, start) if normal.has(start, SOME) => (normal, start),
+            Json::Value(normal, start) if normal.word(start) == "null" => return visitor.visit_none(),
             _ => return other_json(),
         };
-        let json = members.remove("some").unwrap_or_default();
-        let content = Reader { at: self.at.part(content)?, json };
+        let content_start = start + SOME.len();
+        let content = Reader { at: self.at.part(content)?, json: Json::Value(normal, content_start) };
         // A type that isn't an option rejects this one, and not what it holds.
-        visitor
+        let value = visitor
             .visit_some(content)
-            .map_err(|error: Mismatch| if error.names_format { error.under("some") } else { error })
+            .map_err(|error: Mismatch| if error.names_format { error.under("some") } else { error });
+        normal.note(start, normal.end_of(content_start) + 1);
+        value
     }
 
     fn visit_items<'de, V: Visitor<'de>>(self, visitor: V) -> Result<V::Value, Mismatch> {
@@ -123,29 +164,33 @@ impl<'w> Reader<'w> {
             Shape::Entry(halves) => Parts::Own(&halves[..]),
             _ => return self.unfit("a list"),
         };
-        let values: Vec<Value> = match self.json {
-            Value::Array(values) => values,
-            Value::String(digits) => bytes_of(&digits)?.into_iter().map(Value::from).collect(),
+        let Json::Value(normal, start) = self.json else {
+            return other_json();
+        };
+        let values = match normal.sign(start) {
+            b'[' => Values::Json(normal, start + 1),
+            b'"' => Values::Bytes(bytes_of(&text_at(normal, start)?)?.into_iter()),
             _ => return other_json(),
         };
-        let length = values.len();
-        let mut items = Items { at: self.at, parts, values: values.into_iter(), count: 0 };
+        let mut items = Items { at: self.at, parts, values, count: 0 };
         let value = visitor.visit_seq(&mut items)?;
-        whole(value, length, items.values.len())
+        let left = items.values.left();
+        if let Values::Json(_, place) = items.values {
+            normal.note(start, place + 1);
+        }
+        whole(value, items.count + left, left)
     }
+}
+
+/// The string at this offset.
+fn text_at<'t>(normal: &Normal<'t>, start: usize) -> Result<Cow<'t, str>, Mismatch> {
+    normal.string(start).map_or_else(other_json, |(text, _)| Ok(text))
 }
 
 macro_rules! integers {
     ($($name:ident: $integer:ident,)*) => {
-        /// An integer type has to hold all numbers of the format, whatever this one is. The bytes of `BYTES` are each a `u8`, and
-        /// no other integer.
         $(fn $name<V: Visitor<'de>>(self, visitor: V) -> Result<V::Value, Mismatch> {
-            let (reader, integer) = (self.entered(), integers::$integer);
-            match reader.at.shape {
-                Shape::Integer(format) if !integer.holds(*format) => Err(Mismatch::narrow(integer.rust, format.format)),
-                Shape::Octet if integer != U8 => reader.unfit(&integer.found()),
-                _ => reader.visit_as_requested(visitor),
-            }
+            self.visit_integer_as(integers::$integer, visitor)
         })*
     };
 }
@@ -165,7 +210,7 @@ impl<'de> Deserializer<'de> for Reader<'_> {
     fn deserialize_any<V: Visitor<'de>>(self, visitor: V) -> Result<V::Value, Mismatch> {
         let reader = self.entered();
         let shape = reader.at.shape;
-        if matches!(shape, Shape::Option(_)) && reader.json.get("some").is_some_and(Value::is_null) {
+        if matches!(shape, Shape::Option(_)) && reader.is_some_of_nothing() {
             return reader.unfit("a type for which Some(None) is None");
         }
         if let Some(character) = reader.at.walk.probe.in_place_of(shape) {
@@ -184,7 +229,15 @@ impl<'de> Deserializer<'de> for Reader<'_> {
 
     integers! {
         deserialize_i8: I8, deserialize_i16: I16, deserialize_i32: I32, deserialize_i64: I64, deserialize_i128: I128,
-        deserialize_u8: U8, deserialize_u16: U16, deserialize_u32: U32, deserialize_u64: U64, deserialize_u128: U128,
+        deserialize_u16: U16, deserialize_u32: U32, deserialize_u64: U64, deserialize_u128: U128,
+    }
+
+    /// Most often a byte of a byte string.
+    fn deserialize_u8<V: Visitor<'de>>(self, visitor: V) -> Result<V::Value, Mismatch> {
+        match self.json {
+            Json::Byte(byte) => visitor.visit_u8(byte).map_err(|error: Mismatch| error.of_format(self.at.shape)),
+            _ => self.visit_integer_as(U8, visitor),
+        }
     }
 
     nothing! { deserialize_f32: "an f32", deserialize_f64: "an f64", deserialize_char: "a char", }
@@ -203,9 +256,10 @@ impl<'de> Deserializer<'de> for Reader<'_> {
 
     fn deserialize_byte_buf<V: Visitor<'de>>(self, visitor: V) -> Result<V::Value, Mismatch> {
         let reader = self.entered();
-        match (reader.at.shape, &reader.json) {
-            (shape, Value::String(digits)) if matches!(shape, Shape::Bytes) || shape.is_octets() => {
-                visitor.visit_byte_buf(bytes_of(digits)?).map_err(|error: Mismatch| error.of_format(shape))
+        match (reader.at.shape, reader.json) {
+            (shape, Json::Value(normal, start)) if matches!(shape, Shape::Bytes) || shape.is_octets() => {
+                let bytes = bytes_of(&text_at(normal, start)?)?;
+                visitor.visit_byte_buf(bytes).map_err(|error: Mismatch| error.of_format(shape))
             }
             _ => reader.unfit("bytes"),
         }
@@ -277,17 +331,22 @@ impl<'de> Deserializer<'de> for Reader<'_> {
         let Shape::Enum(variants) = reader.at.shape else {
             return reader.unfit("an enum");
         };
-        let (name, payload) = match reader.json {
-            Value::String(name) => (name, None),
-            Value::Object(members) => match members.into_iter().next() {
-                Some((name, payload)) => (name, Some(payload)),
-                None => return other_json(),
-            },
-            _ => return other_json(),
+        let Json::Value(normal, start) = reader.json else {
+            return other_json();
         };
-        let at = reader.at.part(variants.get(&name).unwrap_or(&VOID))?;
+        let is_name = normal.sign(start) == b'"';
+        let Some((name, end)) = normal.string(if is_name { start } else { start + 1 }) else {
+            return other_json();
+        };
+        let Some(Member { name, shape: payload, .. }) = variants.find_sorted(&name, 0) else {
+            return other_json();
+        };
+        let json = if is_name { Json::Nothing } else { Json::Value(normal, end + 1) };
+        let at = reader.at.part(payload)?;
         let shape = reader.at.shape;
-        visitor.visit_enum(Variant { at, name, payload }).map_err(|error: Mismatch| error.of_format(shape))
+        let value = visitor.visit_enum(Variant { at, name, json }).map_err(|error: Mismatch| error.of_format(shape));
+        normal.note(start, if is_name { end } else { normal.end_of(end + 1) + 1 });
+        value
     }
 
     forward_to_deserialize_any! { bool unit unit_struct identifier }
@@ -299,10 +358,45 @@ enum Parts<'w> {
     Own(&'w [Shape]),
 }
 
+/// The values that are left of a list.
+enum Values<'w> {
+    /// The next one begins at this offset, or the list ends there.
+    Json(&'w Normal<'w>, usize),
+    Bytes(vec::IntoIter<u8>),
+}
+
+impl<'w> Values<'w> {
+    #[inline]
+    fn peek(&self) -> Option<Json<'w>> {
+        match self {
+            Values::Json(normal, place) => (normal.sign(*place) != b']').then_some(Json::Value(normal, *place)),
+            Values::Bytes(bytes) => bytes.as_slice().first().copied().map(Json::Byte),
+        }
+    }
+
+    #[inline]
+    fn advance(&mut self) {
+        match self {
+            Values::Json(normal, place) => *place = normal.next(*place),
+            Values::Bytes(bytes) => drop(bytes.next()),
+        }
+    }
+
+    /// Skips the others, and returns their number.
+    fn left(&mut self) -> usize {
+        let mut count = 0;
+        while self.peek().is_some() {
+            self.advance();
+            count += 1;
+        }
+        count
+    }
+}
+
 struct Items<'w> {
     at: At<'w>,
     parts: Parts<'w>,
-    values: vec::IntoIter<Value>,
+    values: Values<'w>,
     count: usize,
 }
 
@@ -310,7 +404,7 @@ impl<'de> SeqAccess<'de> for Items<'_> {
     type Error = Mismatch;
 
     fn next_element_seed<T: DeserializeSeed<'de>>(&mut self, seed: T) -> Result<Option<T::Value>, Mismatch> {
-        let Some(json) = self.values.next() else {
+        let Some(json) = self.values.peek() else {
             return Ok(None);
         };
         let shape = match self.parts {
@@ -318,83 +412,140 @@ impl<'de> SeqAccess<'de> for Items<'_> {
             Parts::Own(all) => all.get(self.count).unwrap_or(&VOID),
         };
         let place = self.count;
+        let element = self.at.part(shape).and_then(|at| {
+            let element = seed.deserialize(Reader { at, json });
+            element.map_err(|error| error.under(place))
+        });
+        self.values.advance();
         self.count += 1;
-        let element = seed.deserialize(Reader { at: self.at.part(shape)?, json });
-        element.map(Some).map_err(|error| error.under(place))
+        element.map(Some)
     }
 
     fn size_hint(&self) -> Option<usize> {
-        Some(self.values.len())
+        match &self.values {
+            Values::Json(..) => None,
+            Values::Bytes(bytes) => Some(bytes.len()),
+        }
     }
 }
 
 /// The members of an object, for fields or for the one variant.
-struct Members<'w> {
+struct ObjectMembers<'w> {
     at: At<'w>,
-    parts: &'w HashMap<String, Shape>,
-    members: map::IntoIter,
-    next: Option<(String, Value)>,
+    members: &'w Members,
+    normal: &'w Normal<'w>,
+    /// Where the next name begins, or the object ends.
+    place: usize,
+    count: usize,
+    /// The member whose name was read, and where its value begins.
+    next: Option<(&'w Member, usize)>,
 }
 
-fn visit_members<'de, V: Visitor<'de>>(
-    at: At,
-    parts: &HashMap<String, Shape>,
-    members: Map<String, Value>,
+fn visit_members<'de, 'w, V: Visitor<'de>>(
+    at: At<'w>,
+    members: &'w Members,
+    normal: &'w Normal<'w>,
+    start: usize,
     visitor: V,
 ) -> Result<V::Value, Mismatch> {
-    let length = members.len();
-    let mut members = Members { at, parts, members: members.into_iter(), next: None };
-    let value = visitor.visit_map(&mut members)?;
-    whole(value, length, members.members.len())
+    let mut object = ObjectMembers { at, members, normal, place: start + 1, count: 0, next: None };
+    let value = visitor.visit_map(&mut object)?;
+    let read = object.count;
+    while object.next_member()?.is_some() {}
+    normal.note(start, object.place + 1);
+    whole(value, object.count, object.count - read)
 }
 
-impl<'de> MapAccess<'de> for Members<'_> {
+impl<'w> ObjectMembers<'w> {
+    /// Goes past a value that wasn't read, and reads the name of the next one.
+    fn next_member(&mut self) -> Result<Option<&'w Member>, Mismatch> {
+        if let Some((_, start)) = self.next.take() {
+            self.place = self.normal.next(start);
+        }
+        if self.normal.sign(self.place) == b'}' {
+            return Ok(None);
+        }
+        let Some((name, end)) = self.normal.string(self.place) else {
+            return other_json();
+        };
+        let Some(member) = self.members.find_sorted(&name, self.count) else {
+            return other_json();
+        };
+        self.next = Some((member, end + 1));
+        self.count += 1;
+        Ok(Some(member))
+    }
+}
+
+impl<'de> MapAccess<'de> for ObjectMembers<'_> {
     type Error = Mismatch;
 
     fn next_key_seed<K: DeserializeSeed<'de>>(&mut self, seed: K) -> Result<Option<K::Value>, Mismatch> {
-        self.next = self.members.next();
-        let Some((name, _)) = &self.next else {
+        let Some(member) = self.next_member()? else {
             return Ok(None);
         };
-        seed.deserialize(Reader { at: self.at.to(&FIELD_NAME), json: name.as_str().into() }).map(Some)
+        seed.deserialize(Reader { at: self.at.to(&FIELD_NAME), json: Json::Name(&member.name) }).map(Some)
     }
 
     fn next_value_seed<T: DeserializeSeed<'de>>(&mut self, seed: T) -> Result<T::Value, Mismatch> {
-        let Some((name, json)) = self.next.take() else {
+        let Some((member, start)) = self.next.take() else {
             return Err(Mismatch::new("a map's value came before its key"));
         };
-        let shape = self.parts.get(&name).unwrap_or(&VOID);
-        seed.deserialize(Reader { at: self.at.part(shape)?, json }).map_err(|error| error.under(name))
-    }
-
-    fn size_hint(&self) -> Option<usize> {
-        Some(self.members.len())
+        let value = self.at.part(&member.shape).and_then(|at| {
+            let value = seed.deserialize(Reader { at, json: Json::Value(self.normal, start) });
+            value.map_err(|error| error.under(&member.name))
+        });
+        self.place = self.normal.next(start);
+        value
     }
 }
 
 /// The entries of a map, each an array of a key and its value.
 struct Entries<'w> {
     entry: At<'w>,
-    entries: vec::IntoIter<Value>,
-    value: Option<Value>,
+    normal: &'w Normal<'w>,
+    /// Where the next entry begins, or the map ends.
+    place: usize,
+    /// Where the value begins whose key was read.
+    value: Option<usize>,
+    /// How many entries were begun, and how many values read.
+    begun: usize,
     count: usize,
 }
 
-fn visit_entries<'de, V: Visitor<'de>>(entry: At, entries: Vec<Value>, visitor: V) -> Result<V::Value, Mismatch> {
-    let length = entries.len();
-    let mut entries = Entries { entry, entries: entries.into_iter(), value: None, count: 0 };
+fn visit_entries<'de, 'w, V: Visitor<'de>>(
+    entry: At<'w>,
+    normal: &'w Normal<'w>,
+    start: usize,
+    visitor: V,
+) -> Result<V::Value, Mismatch> {
+    let mut entries = Entries { entry, normal, place: start + 1, value: None, begun: 0, count: 0 };
     let value = visitor.visit_map(&mut entries)?;
-    whole(value, length, entries.entries.len())
+    let mut rest = Values::Json(normal, entries.end_of_entry());
+    let left = rest.left();
+    if let Values::Json(_, place) = rest {
+        normal.note(start, place + 1);
+    }
+    whole(value, entries.begun + left, left)
 }
 
 impl Entries<'_> {
     /// Reads a half of the entry: 0 is the key, and 1 the value.
-    fn half<'de, T: DeserializeSeed<'de>>(&self, half: usize, json: Value, seed: T) -> Result<T::Value, Mismatch> {
+    fn half<'de, T: DeserializeSeed<'de>>(&self, half: usize, start: usize, seed: T) -> Result<T::Value, Mismatch> {
         let Shape::Entry(halves) = self.entry.shape else {
             return other_json();
         };
-        let half_of = Reader { at: self.entry.part(&halves[half])?, json };
+        let half_of = Reader { at: self.entry.part(&halves[half])?, json: Json::Value(self.normal, start) };
         seed.deserialize(half_of).map_err(|error| error.under(half).under(self.count))
+    }
+
+    /// Where the entry after this one begins, or the map ends. A value that wasn't read is skipped.
+    fn end_of_entry(&mut self) -> usize {
+        if let Some(start) = self.value.take() {
+            let end = self.normal.end_of(start) + 1;
+            self.place = end + usize::from(self.normal.sign(end) == b',');
+        }
+        self.place
     }
 }
 
@@ -402,43 +553,33 @@ impl<'de> MapAccess<'de> for Entries<'_> {
     type Error = Mismatch;
 
     fn next_key_seed<K: DeserializeSeed<'de>>(&mut self, seed: K) -> Result<Option<K::Value>, Mismatch> {
-        let Some(entry) = self.entries.next() else {
+        let start = self.end_of_entry() + 1;
+        if self.normal.sign(start - 1) == b']' {
             return Ok(None);
-        };
-        let Some([key, value]) = entry_of(entry) else {
-            return other_json();
-        };
-        self.value = Some(value);
-        self.half(0, key, seed).map(Some)
+        }
+        self.begun += 1;
+        let key = self.half(0, start, seed);
+        self.value = Some(self.normal.next(start));
+        key.map(Some)
     }
 
     fn next_value_seed<T: DeserializeSeed<'de>>(&mut self, seed: T) -> Result<T::Value, Mismatch> {
-        let Some(json) = self.value.take() else {
+        let Some(start) = self.value else {
             return Err(Mismatch::new("a map's value came before its key"));
         };
-        let value = self.half(1, json, seed);
+        let value = self.half(1, start, seed);
+        self.end_of_entry();
         self.count += 1;
         value
-    }
-
-    fn size_hint(&self) -> Option<usize> {
-        Some(self.entries.len())
-    }
-}
-
-fn entry_of(json: Value) -> Option<[Value; 2]> {
-    match json {
-        Value::Array(pair) => pair.try_into().ok(),
-        _ => None,
     }
 }
 
 struct Variant<'w> {
     /// At the payload.
     at: At<'w>,
-    name: String,
-    /// `None` where the JSON is the name alone.
-    payload: Option<Value>,
+    name: &'w str,
+    /// `Nothing` where the JSON is the name alone.
+    json: Json<'w>,
 }
 
 impl<'de, 'w> de::EnumAccess<'de> for Variant<'w> {
@@ -446,14 +587,14 @@ impl<'de, 'w> de::EnumAccess<'de> for Variant<'w> {
     type Variant = Variant<'w>;
 
     fn variant_seed<V: DeserializeSeed<'de>>(self, seed: V) -> Result<(V::Value, Variant<'w>), Mismatch> {
-        let name = Reader { at: self.at.to(&FIELD_NAME), json: self.name.as_str().into() };
+        let name = Reader { at: self.at.to(&FIELD_NAME), json: Json::Name(self.name) };
         Ok((seed.deserialize(name)?, self))
     }
 }
 
 impl<'w> Variant<'w> {
     fn read<T>(self, read: impl FnOnce(Reader<'w>) -> Result<T, Mismatch>) -> Result<T, Mismatch> {
-        let payload = Reader { at: self.at, json: self.payload.unwrap_or_default() };
+        let payload = Reader { at: self.at, json: self.json };
         read(payload).map_err(|error| error.under(self.name))
     }
 }
@@ -462,9 +603,9 @@ impl<'de> VariantAccess<'de> for Variant<'_> {
     type Error = Mismatch;
 
     fn unit_variant(self) -> Result<(), Mismatch> {
-        match self.payload {
-            None => Ok(()),
-            Some(_) => self.read(|payload| payload.entered().unfit("a variant without a payload")),
+        match self.json {
+            Json::Nothing => Ok(()),
+            _ => self.read(|payload| payload.entered().unfit("a variant without a payload")),
         }
     }
 

@@ -2,10 +2,10 @@
 //! here, and everything else (lengths, fields, variants, keys) by the library.
 use crate::hex;
 use crate::integers::{self, Integer, U8};
+use crate::json::push_string;
 use crate::mismatch::Mismatch;
-use crate::shapes::{At, FIELD_NAME, OCTET, PLAIN_LIST, Shape, VOID};
+use crate::shapes::{At, FIELD_NAME, Member, Members, OCTET, PLAIN_LIST, Shape, VOID};
 use serde::ser::{self, Serialize, Serializer};
-use std::collections::HashMap;
 use std::fmt::{self, Write};
 
 /// The JSON of a value.
@@ -50,15 +50,6 @@ fn fits(shape: &Shape, kind: Kind) -> bool {
     }
 }
 
-/// A JSON string.
-struct Quoted<'t>(&'t str);
-
-impl fmt::Display for Quoted<'_> {
-    fn fmt(&self, f: &mut fmt::Formatter<'_>) -> fmt::Result {
-        f.write_str(&serde_json::to_string(self.0).map_err(|_| fmt::Error)?)
-    }
-}
-
 /// Writes a value of the format.
 pub(crate) struct Writer<'w> {
     at: At<'w>,
@@ -71,10 +62,15 @@ pub(crate) struct Writer<'w> {
 
 impl<'w> Writer<'w> {
     /// Writes a value without parts.
-    fn put(self, kind: Kind, found: &str, json: impl fmt::Display) -> Result<(), Mismatch> {
+    fn put(self, kind: Kind, found: &str, json: &str) -> Result<(), Mismatch> {
+        self.put_by(kind, found, |out| out.push_str(json))
+    }
+
+    #[inline]
+    fn put_by(self, kind: Kind, found: &str, put: impl FnOnce(&mut String)) -> Result<(), Mismatch> {
         match self.at.entered().shape {
             Shape::Void => self.out.push_str(NO_VALUE),
-            shape if fits(shape, kind) => write!(self.out, "{json}").map_err(Mismatch::new)?,
+            shape if fits(shape, kind) => put(self.out),
             shape => return Err(Mismatch::unfit(shape, found)),
         }
         Ok(())
@@ -84,8 +80,9 @@ impl<'w> Writer<'w> {
     fn put_integer(mut self, integer: Integer, number: impl fmt::Display) -> Result<(), Mismatch> {
         self.at = self.at.entered();
         match self.at.shape {
-            Shape::Integer(format) if !format.holds(integer) => Err(Mismatch::narrow(format.format, integer.rust)),
-            _ => self.put(Kind::Integer, &integer.found(), format_args!("\"{number}\"")),
+            Shape::Integer(format) if format.holds(integer) => write!(self.out, "\"{number}\"").map_err(Mismatch::new),
+            Shape::Integer(format) => Err(Mismatch::narrow(format.format, integer.rust)),
+            _ => self.put(Kind::Integer, &integer.found(), ""),
         }
     }
 
@@ -99,12 +96,12 @@ impl<'w> Writer<'w> {
         Ok(())
     }
 
-    /// Writes an object with one member.
-    fn put_member<T: Serialize + ?Sized>(mut self, name: &str, shape: &'w Shape, value: &T) -> Result<(), Mismatch> {
+    /// Writes an option that has a value.
+    fn put_some<T: Serialize + ?Sized>(mut self, content: &'w Shape, value: &T) -> Result<(), Mismatch> {
         self.open('{')?;
-        write!(self.out, "{}:", Quoted(name)).map_err(Mismatch::new)?;
-        let part = Writer { at: self.at.part(shape)?, nested: self.nested, is_octet: false, out: &mut *self.out };
-        value.serialize(part).map_err(|error| error.under(name))?;
+        self.out.push_str("\"some\":");
+        let part = Writer { at: self.at.part(content)?, nested: self.nested, is_octet: false, out: &mut *self.out };
+        value.serialize(part).map_err(|error| error.under("some"))?;
         self.out.push('}');
         Ok(())
     }
@@ -112,13 +109,18 @@ impl<'w> Writer<'w> {
     /// At the payload of a variant, whose object is open then. `end_variant` closes it.
     fn variant(mut self, name: &str) -> Result<Writer<'w>, Mismatch> {
         let at = self.at.entered();
-        self.at = match at.shape {
-            Shape::Enum(variants) => at.part(variants.get(name).unwrap_or(&VOID))?,
-            Shape::Void => at,
+        let variants = match at.shape {
+            Shape::Enum(variants) => Some(variants),
+            Shape::Void => None,
             shape => return Err(Mismatch::unfit(shape, "a variant")),
         };
+        let variant = variants.and_then(|variants| variants.find(name, 0));
+        self.at = match variants {
+            Some(_) => at.part(variant.map_or(&VOID, |variant| &variant.shape))?,
+            None => at,
+        };
         self.open('{')?;
-        write!(self.out, "{}:", Quoted(name)).map_err(Mismatch::new)?;
+        push_head(self.out, name, variant);
         Ok(self)
     }
 
@@ -153,6 +155,17 @@ impl<'w> Writer<'w> {
             None => self.out.push_str(NO_VALUE),
         }
         Ok(Fields { writer: self, fields, count: 0, known: 0, variant })
+    }
+}
+
+/// Adds the name of a member, which may be unknown, and a colon.
+fn push_head(out: &mut String, name: &str, member: Option<&Member>) {
+    match member {
+        Some(member) => out.push_str(&member.head),
+        None => {
+            push_string(out, name);
+            out.push(':');
+        }
     }
 }
 
@@ -203,19 +216,19 @@ impl<'w> Serializer for Writer<'w> {
     }
 
     fn serialize_bool(self, truth: bool) -> Result<(), Mismatch> {
-        self.put(Kind::Bool, "a bool", truth)
+        self.put(Kind::Bool, "a bool", if truth { "true" } else { "false" })
     }
 
-    fn serialize_f32(self, number: f32) -> Result<(), Mismatch> {
-        self.put(Kind::Float, "an f32", number)
+    fn serialize_f32(self, _: f32) -> Result<(), Mismatch> {
+        self.put(Kind::Float, "an f32", "")
     }
 
-    fn serialize_f64(self, number: f64) -> Result<(), Mismatch> {
-        self.put(Kind::Float, "an f64", number)
+    fn serialize_f64(self, _: f64) -> Result<(), Mismatch> {
+        self.put(Kind::Float, "an f64", "")
     }
 
-    fn serialize_char(self, character: char) -> Result<(), Mismatch> {
-        self.put(Kind::Char, "a char", character)
+    fn serialize_char(self, _: char) -> Result<(), Mismatch> {
+        self.put(Kind::Char, "a char", "")
     }
 
     /// Registries have the binary form of types that have two, such as addresses.
@@ -223,16 +236,17 @@ impl<'w> Serializer for Writer<'w> {
         false
     }
 
+    #[inline]
     fn serialize_u8(self, number: u8) -> Result<(), Mismatch> {
         match self.at.shape {
-            Shape::Octet | Shape::Integer(U8) if self.is_octet => hex::push_digits(self.out, &[number]),
+            Shape::Octet | Shape::Integer(U8) if self.is_octet => hex::push_byte(self.out, number),
             _ => self.put_integer(U8, number)?,
         }
         Ok(())
     }
 
     fn serialize_str(self, text: &str) -> Result<(), Mismatch> {
-        self.put(Kind::Text, "a string", Quoted(text))
+        self.put_by(Kind::Text, "a string", |out| push_string(out, text))
     }
 
     fn serialize_bytes(mut self, bytes: &[u8]) -> Result<(), Mismatch> {
@@ -253,7 +267,7 @@ impl<'w> Serializer for Writer<'w> {
     fn serialize_some<T: Serialize + ?Sized>(mut self, value: &T) -> Result<(), Mismatch> {
         self.at = self.at.entered();
         match self.at.shape {
-            Shape::Option(content) => self.put_member("some", content, value),
+            Shape::Option(content) => self.put_some(content, value),
             _ => self.put(Kind::None, "Some", "null"),
         }
     }
@@ -267,7 +281,7 @@ impl<'w> Serializer for Writer<'w> {
     }
 
     fn serialize_unit_variant(self, _: &'static str, _: u32, variant: &'static str) -> Result<(), Mismatch> {
-        self.put(Kind::Variant, "a variant", Quoted(variant))
+        self.put_by(Kind::Variant, "a variant", |out| push_string(out, variant))
     }
 
     fn serialize_newtype_struct<T: Serialize + ?Sized>(self, _: &'static str, value: &T) -> Result<(), Mismatch> {
@@ -416,7 +430,7 @@ items! {
 pub(crate) struct Fields<'w> {
     writer: Writer<'w>,
     /// `None` where the library rejects every value.
-    fields: Option<&'w HashMap<String, Shape>>,
+    fields: Option<&'w Members>,
     count: usize,
     /// How many of them the registry has.
     known: usize,
@@ -428,11 +442,14 @@ impl Fields<'_> {
         let Some(fields) = self.fields else {
             return Ok(());
         };
-        let shape = fields.get(name).unwrap_or(&VOID);
-        self.known += usize::from(fields.contains_key(name));
+        let field = fields.find(name, self.count);
+        self.known += usize::from(field.is_some());
         let Writer { at, nested, out, .. } = &mut self.writer;
-        let comma = if self.count > 0 { "," } else { "" };
-        write!(out, "{comma}{}:", Quoted(name)).map_err(Mismatch::new)?;
+        if self.count > 0 {
+            out.push(',');
+        }
+        push_head(out, name, field);
+        let shape = field.map_or(&VOID, |field| &field.shape);
         let part = Writer { at: at.part(shape)?, nested: *nested, is_octet: false, out };
         value.serialize(part).map_err(|error| in_variant(self.variant, error.under(name)))?;
         self.count += 1;

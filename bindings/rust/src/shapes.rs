@@ -1,5 +1,6 @@
 //! The formats of a registry, for walking them together with a value of a `serde` type.
 use crate::integers::{Integer, U8};
+use crate::json::push_string;
 use crate::mismatch::Mismatch;
 use crate::probe::Probe;
 use serde_json::Value;
@@ -22,17 +23,73 @@ pub(crate) enum Shape {
     /// A key and its value.
     Entry(Box<[Shape; 2]>),
     Tuple(Vec<Shape>),
-    Struct(HashMap<String, Shape>),
-    Enum(HashMap<String, Shape>),
-    Name(String),
+    Struct(Members),
+    Enum(Members),
+    /// A container, by its place among the containers.
+    Name(usize),
     /// A field's name.
     FieldName,
     /// The library rejects every value here, and says why.
     Void,
 }
 
+/// A struct's fields, or an enum's variants.
+pub(crate) struct Members {
+    /// In the order of their names, which is also their order in normal JSON.
+    sorted: Vec<Member>,
+    /// The place of each in `sorted`, in the order of the registry.
+    places: Vec<usize>,
+}
+
+pub(crate) struct Member {
+    pub(crate) name: String,
+    /// How its JSON begins: the name and a colon.
+    pub(crate) head: String,
+    pub(crate) shape: Shape,
+}
+
+impl Members {
+    fn of(parts: Vec<(&String, Shape)>) -> Members {
+        let member = |(name, shape): (&String, Shape)| {
+            let mut head = String::new();
+            push_string(&mut head, name);
+            head.push(':');
+            Member { name: name.clone(), head, shape }
+        };
+        let mut numbered: Vec<(usize, Member)> = parts.into_iter().map(member).enumerate().collect();
+        numbered.sort_by(|(_, one), (_, other)| one.name.cmp(&other.name));
+        let mut places = vec![0; numbered.len()];
+        for (place, (number, _)) in numbered.iter().enumerate() {
+            places[*number] = place;
+        }
+        Members { sorted: numbered.into_iter().map(|(_, member)| member).collect(), places }
+    }
+
+    pub(crate) fn len(&self) -> usize {
+        self.sorted.len()
+    }
+
+    /// The member of this name. It is found fastest if it is the next one in the order of the registry.
+    #[inline]
+    pub(crate) fn find(&self, name: &str, next: usize) -> Option<&Member> {
+        self.find_sorted(name, self.places.get(next).copied().unwrap_or_default())
+    }
+
+    /// The same for the next one in the order of names.
+    #[inline]
+    pub(crate) fn find_sorted(&self, name: &str, next: usize) -> Option<&Member> {
+        self.sorted.get(next).filter(|member| member.name == name).or_else(|| {
+            let place = self.sorted.binary_search_by(|member| member.name.as_str().cmp(name)).ok()?;
+            Some(&self.sorted[place])
+        })
+    }
+}
+
 /// The containers of a registry.
-pub(crate) type Shapes = HashMap<String, Shape>;
+pub(crate) struct Shapes {
+    places: HashMap<String, usize>,
+    containers: Vec<Shape>,
+}
 
 /// What a rejection calls a list at `BYTES`.
 pub(crate) const PLAIN_LIST: &str = "a plain list, which may be a set: see bcs_proved::bytes";
@@ -41,56 +98,74 @@ pub(crate) static OCTET: Shape = Shape::Octet;
 pub(crate) static FIELD_NAME: Shape = Shape::FieldName;
 pub(crate) static VOID: Shape = Shape::Void;
 
-/// The containers of a registry that the library has read.
-pub(crate) fn read_registry(text: &str) -> Shapes {
-    let registry: Value = serde_json::from_str(text).expect("a registry is JSON");
-    members(&registry).expect("a registry is its containers")
-}
-
-/// The shapes of an object's members.
-fn members(object: &Value) -> Option<HashMap<String, Shape>> {
-    object.as_object()?.iter().map(|(name, value)| Some((name.clone(), Shape::of(value)?))).collect()
-}
-
-/// The shapes of objects that have one member each.
-fn named<'v>(objects: impl Iterator<Item = &'v Value>) -> Option<HashMap<String, Shape>> {
-    let mut all = HashMap::new();
-    for object in objects {
-        all.extend(members(object)?);
+impl Shapes {
+    /// The containers of a registry that the library has read.
+    pub(crate) fn read(text: &str) -> Shapes {
+        let registry: Value = serde_json::from_str(text).expect("a registry is JSON");
+        let containers = registry.as_object().expect("a registry is its containers");
+        let places = containers.keys().cloned().zip(0..).collect();
+        let mut shapes = Shapes { places, containers: Vec::new() };
+        shapes.containers = containers
+            .values()
+            .map(|container| shapes.of(container))
+            .collect::<Option<_>>()
+            .expect("a registry is its containers");
+        shapes
     }
-    Some(all)
-}
 
-impl Shape {
     /// The format that a JSON text writes down. If it doesn't, the library rejects it.
-    pub(crate) fn read(text: &[u8]) -> Shape {
-        serde_json::from_slice(text).ok().and_then(|format| Shape::of(&format)).unwrap_or(Shape::Void)
+    pub(crate) fn format(&self, text: &[u8]) -> Shape {
+        let parsed = || self.of(&serde_json::from_slice(text).ok()?);
+        self.named(text).or_else(parsed).unwrap_or(Shape::Void)
     }
 
-    fn of(format: &Value) -> Option<Shape> {
+    /// The container of a format as `Format::named` writes it, which needs no parser.
+    fn named(&self, text: &[u8]) -> Option<Shape> {
+        let name = text.strip_prefix(br#"{"TYPENAME":""#)?.strip_suffix(br#""}"#)?;
+        let name = std::str::from_utf8(name).ok().filter(|name| !name.contains(['"', '\\']))?;
+        self.places.get(name).copied().map(Shape::Name)
+    }
+
+    /// The shapes of an object's members.
+    fn members<'v>(&self, object: &'v Value) -> Option<Vec<(&'v String, Shape)>> {
+        object.as_object()?.iter().map(|(name, value)| Some((name, self.of(value)?))).collect()
+    }
+
+    /// The shapes of objects that have one member each.
+    fn named_parts<'v>(&self, objects: impl Iterator<Item = &'v Value>) -> Option<Members> {
+        let mut all = Vec::new();
+        for object in objects {
+            all.extend(self.members(object)?);
+        }
+        Some(Members::of(all))
+    }
+
+    fn of(&self, format: &Value) -> Option<Shape> {
         if let Some(word) = format.as_str() {
             return Some(Shape::of_word(word));
         }
         let (kind, part) = format.as_object()?.iter().next()?;
-        let all = |part: &Value| part.as_array()?.iter().map(Shape::of).collect::<Option<Vec<Shape>>>();
-        let boxed = |part| Shape::of(part).map(Box::new);
+        let all = |part: &Value| part.as_array()?.iter().map(|part| self.of(part)).collect::<Option<Vec<Shape>>>();
+        let boxed = |part| self.of(part).map(Box::new);
         Some(match kind.as_str() {
-            "TYPENAME" => Shape::Name(part.as_str()?.to_owned()),
+            "TYPENAME" => self.places.get(part.as_str()?).map_or(Shape::Void, |place| Shape::Name(*place)),
             "OPTION" => Shape::Option(boxed(part)?),
             "SEQ" => Shape::Seq(boxed(part)?),
             "TUPLEARRAY" => Shape::Array(boxed(part.get("CONTENT")?)?),
             "MAP" => {
-                let entry = [Shape::of(part.get("KEY")?)?, Shape::of(part.get("VALUE")?)?];
+                let entry = [self.of(part.get("KEY")?)?, self.of(part.get("VALUE")?)?];
                 Shape::Map(Box::new(Shape::Entry(Box::new(entry))))
             }
             "TUPLE" | "TUPLESTRUCT" => Shape::Tuple(all(part)?),
-            "NEWTYPE" | "NEWTYPESTRUCT" => Shape::of(part)?,
-            "STRUCT" => Shape::Struct(named(part.as_array()?.iter())?),
-            "ENUM" => Shape::Enum(named(part.as_object()?.values())?),
+            "NEWTYPE" | "NEWTYPESTRUCT" => self.of(part)?,
+            "STRUCT" => Shape::Struct(self.named_parts(part.as_array()?.iter())?),
+            "ENUM" => Shape::Enum(self.named_parts(part.as_object()?.values())?),
             _ => return None,
         })
     }
+}
 
+impl Shape {
     fn of_word(word: &str) -> Shape {
         match word {
             "UNIT" | "UNITSTRUCT" => Shape::Unit,
@@ -174,24 +249,26 @@ impl<'w> At<'w> {
     }
 
     /// At another format of the same level: a variant's payload, or a name.
+    #[inline]
     pub(crate) fn to(self, shape: &'w Shape) -> At<'w> {
         At { shape, ..self }
     }
 
-    /// At a part. Each level calls the code of a type, so the stack is checked every few levels.
+    /// At a part. Each level calls the code of a type, so the stack is checked every few levels, except at the last one.
+    #[inline]
     pub(crate) fn part(self, shape: &'w Shape) -> Result<At<'w>, Mismatch> {
         let levels = self.levels + 1;
-        if levels % 8 == 0 && !(self.walk.has_stack)() {
+        if levels % 8 == 0 && !matches!(shape, Shape::Integer(_) | Shape::Octet) && !(self.walk.has_stack)() {
             return Err(Mismatch::out_of_stack());
         }
         Ok(At { shape, levels, ..self })
     }
 
     /// At what the containers hold that open here.
+    #[inline]
     pub(crate) fn entered(mut self) -> At<'w> {
-        while let Shape::Name(name) = self.shape {
-            // Too deep, or a name of the format's that the registry doesn't have.
-            self.shape = self.walk.shapes.get(name).filter(|_| self.depth > 0).unwrap_or(&VOID);
+        while let Shape::Name(place) = self.shape {
+            self.shape = if self.depth > 0 { &self.walk.shapes.containers[*place] } else { &VOID };
             self.depth = self.depth.saturating_sub(1);
         }
         self

@@ -5,7 +5,7 @@ use crate::probe::Probe;
 use crate::registry::Registry;
 use crate::serde_in::value_of;
 use crate::serde_out::json_of;
-use crate::shapes::{At, Shape, Walk, read_registry};
+use crate::shapes::{At, Shapes, Walk};
 use serde::Serialize;
 use serde::de::DeserializeOwned;
 use serde_json::Value;
@@ -83,8 +83,9 @@ impl Registry {
     /// ```
     pub fn encode<T: Serialize + ?Sized>(&self, format: impl Into<Format>, value: &T) -> Result<Vec<u8>, Error> {
         let format = format.into();
-        let (shape, has_stack) = (Shape::read(format.as_json()), || self.has_stack());
+        let has_stack = || self.has_stack();
         let walk = self.walk(&has_stack);
+        let shape = walk.shapes.format(format.as_json());
         match json_of(value, At::new(&shape, &walk, self.limits().depth)) {
             Ok(text) => self.encode_json(format, text),
             // A format that the registry doesn't have is reported before what the value is.
@@ -113,10 +114,11 @@ impl Registry {
     pub fn decode<T: DeserializeOwned>(&self, format: impl Into<Format>, bytes: impl AsRef<[u8]>) -> Result<T, Error> {
         let format = format.into();
         let text = self.decode_json(&format, bytes)?;
-        let (shape, has_stack) = (Shape::read(format.as_json()), || self.has_stack());
+        let has_stack = || self.has_stack();
         let walk = self.walk(&has_stack);
+        let shape = walk.shapes.format(format.as_json());
         let at = At::new(&shape, &walk, self.limits().depth);
-        let read = || value_of::<T>(json_value(&text), at);
+        let read = || value_of::<T>(&text, at);
         let value = read()?;
         walk.probe.check(|| read().map(drop))?;
         Ok(value)
@@ -140,7 +142,7 @@ impl Registry {
     }
 
     fn walk<'w>(&'w self, has_stack: &'w dyn Fn() -> bool) -> Walk<'w> {
-        let shapes = self.shapes.get_or_init(|| read_registry(self.text()));
+        let shapes = self.shapes.get_or_init(|| Shapes::read(self.text()));
         Walk { shapes, has_stack, probe: Probe::new() }
     }
 

@@ -217,7 +217,7 @@ fn faults_turn_into_errors() {
     );
 }
 
-/// Where something is refused and what was wanted there, as the program `bcs` says it.
+/// Where something is refused and what was expected there, as the program `bcs` says it.
 #[test]
 fn errors_tell_the_place() {
     let text = r#"{"Point":{"STRUCT":[{"x":"U8"},{"~/":{"SEQ":"BYTES"}}]},"Shape":{"ENUM":{"2":{"Circle":{"NEWTYPE":"U64"}}}}}"#;
@@ -226,7 +226,7 @@ fn errors_tell_the_place() {
         ("Point", r#"{"x":1,"~/":["","0"]}"#, "/~0~1/1", "an odd number of digits; each byte has two"),
         ("Point", r#"{"x":256,"~/":[]}"#, "/x", "found 256, expected an integer from 0 to 255 (U8)"),
         ("Point", r#"{"x":1}"#, "", "no member is called ~/"),
-        ("Shape", r#"{"Circle":true}"#, "/Circle", "expected an integer from 0 to 18446744073709551615 (U64)"),
+        ("Shape", r#"{"Circle":true}"#, "/Circle", "found true, expected an integer from 0 to 18446744073709551615 (U64)"),
         (r#"{"MAP":{"KEY":"U8","VALUE":"U8"}}"#, "[[1,2],[1,3]]", "", "two keys of a map are equal"),
         (r#""U8""#, "x", "", "line 1, column 1: text belongs in double quotes"),
     ];

@@ -131,7 +131,7 @@ static const struct {
     {"select bcs_is('{\"A\":{\"STRUCT\":7}}','\"U8\"',x'07')",
      "bcs: refused: BadShape in the registry at /A/STRUCT: expected an array of fields, found 7"},
     {OF_NAME("replace(hex(zeroblob(100)),'0','~') || 'b'"),
-     "bcs: refused: BadShape at /" TWO_HUNDRED("~0") "...(cut)/0: expected an integer from 0 to 255 (U8)"},
+     "bcs: refused: BadShape at /" TWO_HUNDRED("~0") "...(cut)/0: found true, expected an integer from 0 to 255 (U8)"},
 };
 #define COUNT(table) (sizeof(table) / sizeof(table)[0])
 
@@ -171,11 +171,11 @@ static void hostile(void) {
     is_error(database, "select bcs_encode('{}','\"STR\"',cast(x'226100622200' as text))",
              "bcs: refused: NotJson: line 1, column 3: a NUL byte; remove it");
     is_error(database, "select bcs_is(x'7b00','\"U8\"',x'07')",
-             "bcs: refused: NotJson in the registry at line 1, column 2: a NUL byte; remove it");
+             "bcs: refused: NotJson in the registry: line 1, column 2: a NUL byte; remove it");
     closed(database);
 }
 
-/* Where a text or a registry is refused, and what was wanted there; names that would break a line or end the text of C. */
+/* Where a text or a registry is refused, and what was expected there; names that would break a line or end the text of C. */
 static void places(void) {
     sqlite3 *database = opened();
     is_error(database, "select bcs_equal('{}','{\"SEQ\":\"U8\"}','[1]','[1,256]')",
@@ -183,20 +183,29 @@ static void places(void) {
     is_error(database, "select bcs_encode('{\"A\":{\"STRUCT\":[{\"\\u0000\\n\\\\\\\"%s\xc3\xa9\\u20ac\\ud83d\\ude00\":\"U8\"}]}}','A',"
              "'{\"\\u0000\\n\\\\\\\"%s\xc3\xa9\\u20ac\\ud83d\\ude00\":true}')",
              "bcs: refused: BadShape at /\\u0000\\u000a\\\\\\\"%s\\u00e9\\u20ac\\ud83d\\ude00: "
-             "expected an integer from 0 to 255 (U8)");
+             "found true, expected an integer from 0 to 255 (U8)");
     /* Names are cut at 200 signs, of which ~0 is one. */
     is_error(database, OF_NAME("replace(hex(zeroblob(100)),'0','~')"),
-             "bcs: refused: BadShape at /" TWO_HUNDRED("~0") "/0: expected an integer from 0 to 255 (U8)");
+             "bcs: refused: BadShape at /" TWO_HUNDRED("~0") "/0: found true, expected an integer from 0 to 255 (U8)");
     is_error(database, OF_NAME("replace(hex(zeroblob(98)),'0','b') || '\xc3\xa9' || 'bbb'"),
              "bcs: refused: BadShape at /" TEN(TEN("b")) TEN("bbbbbbbbb") "bbbbbb" "...(cut)/0: "
-             "expected an integer from 0 to 255 (U8)");
+             "found true, expected an integer from 0 to 255 (U8)");
     /* What takes more than 16 MB is left out. */
     is_error(database, OF_NAME("printf('%.*c',17000000,'b')"),
-             "bcs: refused: BadShape: expected an integer from 0 to 255 (U8)");
+             "bcs: refused: BadShape: found true, expected an integer from 0 to 255 (U8)");
     is_error(database, "select bcs_scan('{\"A\":{\"STRUCT\":[{\"' || printf('%.*c',17000000,'b') || '\":\"U8\"}]}}','A',x'')",
              "bcs: refused: EndOfInput at byte 0");
     is_error(database, "select bcs_is('{\"\xc3\xa9\":{\"STRUCT\":[{\"x\":{\"TYPENAME\":\"\\n\"}}]}}','\"U8\"',x'07')",
              "bcs: refused: UnknownName in the registry at \\u00e9, field x: no container is called \\u000a");
+    is_error(database, "select bcs_is('{\"a~\xc3\xa9/\\u0000\":{\"STRUCT\":[{\"\\n\":{\"TYPENAME\":\"Z\"}}]}}','\"U8\"',x'07')",
+             "bcs: refused: UnknownName in the registry at a~\\u00e9/\\u0000, field \\u000a: no container is called Z");
+    is_error(database, "select bcs_is('{\"a~\xc3\xa9/\\u0000\":7}','\"U8\"',x'07')",
+             "bcs: refused: BadShape in the registry at /a~0\\u00e9~1\\u0000: "
+             "expected a container; this looks like a value, and not like a registry");
+    is_error(database, "select bcs_is('{\"' || printf('%.*c',201,'b') || '\":{\"NEWTYPESTRUCT\":{\"TYPENAME\":\"Z\"}}}','\"U8\"',x'07')",
+             "bcs: refused: UnknownName in the registry at " TWO_HUNDRED("b") "...(cut): no container is called Z");
+    is_error(database, "select bcs_is('7','\"U8\"',x'07')",
+             "bcs: refused: BadShape in the registry: expected an object of containers, found 7");
     closed(database);
 }
 

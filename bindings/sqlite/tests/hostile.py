@@ -256,7 +256,7 @@ class Open(unittest.TestCase):
         taken(is_reset=True)
         with self.assertRaises(MemoryError):
             self.database.execute(LARGEST.replace("]}}", "]}]")).fetchall()
-        with self.assertRaisesRegex(sqlite3.OperationalError, "refused: NotJson in the registry at line 1, column"):
+        with self.assertRaisesRegex(sqlite3.OperationalError, "refused: NotJson in the registry: line 1, column"):
             self.database.execute(MANY.replace("]}}", "]}]")).fetchall()
         self.assertLess(taken() - self.before, (256 << 20) + BOUND)
         self.assertLess(self.kept(), 100_000)

@@ -218,8 +218,8 @@ class Page {
     if (kind === 'text') return this.#tellTextFault(fault);
     if (kind === 'format') return tellVerdict('bad', `Refused: ${reason}.`, ` ${formatFault(this.#format, fault)}`);
     const where = place === undefined ? '' : ` at byte ${shownNumber(place)}`;
-    const wanted = stop ? ` Wanted there: ${shownName(stop.want)}, at ${shownName(stop.name, 400)}.` : '';
-    tellVerdict('bad', `Refused${where}: ${reason}.`, ` ${sentenceOn(kind, reason)}${wanted}`);
+    const expected = stop ? ` Expected there: ${shownName(stop.want)}, at ${shownName(stop.name, 400)}.` : '';
+    tellVerdict('bad', `Refused${where}: ${reason}.`, ` ${sentenceOn(kind, reason)}${expected}`);
   }
 
   /** Where a text is refused it is marked, and a button takes the cursor there. */
@@ -410,7 +410,7 @@ function tellVerdict(state, strong, text, ...between) {
 
 /** From where to where the JSON goes that is refused, if that is told. */
 function rangeOf(text, { reason, at, detail }) {
-  const told = /line (\d+), column (\d+)/.exec(reason === 'NotJson' ? `${at} ${detail}` : '');
+  const told = /^line (\d+), column (\d+): /.exec(reason === 'NotJson' ? detail : '');
   if (told) return rangeOfLine(text, Number(told[1]), Number(told[2]));
   return reason !== 'NotJson' && at?.startsWith('/') ? rangeAt(text, at) : undefined;
 }

@@ -19,7 +19,7 @@ const REASONS = {
     NotJson: 'The text is no JSON.',
     TooNested: 'Arrays and objects nest more than 100 deep.',
     Unsupported: 'The format has F32, F64 or CHAR there, which have no canonical bytes.',
-    BadShape: 'Another kind of JSON is wanted somewhere, or another number of elements.',
+    BadShape: 'Another kind of JSON is expected somewhere, or another number of elements.',
     BadNumber: 'A number is out of its range, or is no plain whole number.',
     BadHex: 'Bytes are written as two digits each, from 0 to 9 and a to f, and without 0x.',
     UnknownField: 'An object has a member that is no field.',

@@ -109,6 +109,6 @@ function part(name, text, most) {
 function stopOf(stop) {
   const element = document.createElement('div');
   element.className = 'stop';
-  element.append(part('label', `${stop.refused} at ${stop.place}`), ' ', part('value', `wanted: ${stop.want}`, 300));
+  element.append(part('label', `${stop.refused} at ${stop.place}`), ' ', part('value', `expected: ${stop.want}`, 300));
   return element;
 }

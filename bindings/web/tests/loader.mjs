@@ -1,5 +1,5 @@
 // The calls of bcs.mjs: what each answers and refuses, and values in JavaScript's own types. BCS_WASM names the module.
-// Wanted values are those of the BCS specification and of docs/FORMAT.md.
+// Expected values are those of the BCS specification and of docs/FORMAT.md.
 import assert from 'node:assert/strict';
 import { readFileSync } from 'node:fs';
 import test from 'node:test';
@@ -327,17 +327,17 @@ const told = (at, detail) => (error) => {
   return true;
 };
 
-test('where something is refused, and what was wanted there', () => {
+test('where something is refused, and what was expected there', () => {
   const registry = bcs.registry('{"Point":{"STRUCT":[{"x":"U8"},{"~/":{"SEQ":"BYTES"}}]}}');
-  const wanted = 'expected an integer from 0 to 255 (U8)';
+  const expected = 'expected an integer from 0 to 255 (U8)';
   assert.throws(() => registry.encodeText('Point', '{"x":1,"~/":["","0"]}'), told('/~0~1/1', 'an odd number of digits; each byte has two'));
   assert.throws(() => registry.encode('Point', { x: 1, '~/': [hex(''), '0102'] }), told('/~0~1/1', 'BYTES takes bytes, or hex(…) for digits, not string'));
-  assert.throws(() => registry.encode('Point', { x: 256, '~/': [] }), told('/x', `found 256, ${wanted}`));
+  assert.throws(() => registry.encode('Point', { x: 256, '~/': [] }), told('/x', `found 256, ${expected}`));
   assert.throws(() => registry.normaliseText('Point', '{"x":1}'), told('', 'no member is called ~/'));
-  assert.throws(() => registry.equalText('Point', '{"x":1,"~/":[]}', '{"x":"","~/":[]}'), told('/x', `found "", ${wanted}`));
-  assert.throws(() => registry.decode('Point', [7, 1, 2, 5]), told('.~/[0]', 'expected 2 bytes of BYTES'));
-  assert.throws(() => registry.scan('Point', [7, 1, 2, 5]), told('.~/[0]', 'expected 2 bytes of BYTES'));
-  assert.throws(() => registry.part('Point', [7, 1, 2, 5], '.'), told('.~/[0]', 'expected 2 bytes of BYTES'));
+  assert.throws(() => registry.equalText('Point', '{"x":1,"~/":[]}', '{"x":"","~/":[]}'), told('/x', `found "", ${expected}`));
+  assert.throws(() => registry.decode('Point', [7, 1, 2, 5]), told('.~/[0]', 'expected 2 bytes of BYTES, found the end of the input'));
+  assert.throws(() => registry.scan('Point', [7, 1, 2, 5]), told('.~/[0]', 'expected 2 bytes of BYTES, found the end of the input'));
+  assert.throws(() => registry.part('Point', [7, 1, 2, 5], '.'), told('.~/[0]', 'expected 2 bytes of BYTES, found the end of the input'));
   for (const call of [() => registry.check('Line'), () => registry.encode('Line', 7), () => registry.decode('Line', []), () => registry.schema('Line')]) {
     assert.throws(call, { kind: 'format', at: '', detail: /^no container is called Line/ });
   }
@@ -353,7 +353,7 @@ test('where something is refused, and what was wanted there', () => {
   assert.throws(() => bcs.grows('{"é\\u0000: Missing: b":"UNITSTRUCT"}', '{}'), { kind: 'growth', at: 'é\0: Missing: b' });
   assert.throws(() => bcs.registry('{"S":{"STRUCT":[{"side":{"TYPENAME":"Sid"}}]}}'), told('S, field side', 'no container is called Sid'));
   assert.throws(() => bcs.grows('{}', '{"S":7}'), told('/S', 'expected a container; this looks like a value, and not like a registry'));
-  assert.throws(() => registry.encode('Point', { x: 256, '~/': [] }), { message: `refused: BadNumber at /x: found 256, ${wanted}` });
+  assert.throws(() => registry.encode('Point', { x: 256, '~/': [] }), { message: `refused: BadNumber at /x: found 256, ${expected}` });
   assert.throws(() => registry.encode('Point', 7), { message: 'refused: WrongType: Point takes an object, not number' });
   assert.throws(() => registry.encodeText('Point', '7'), { message: /^refused: BadShape: expected an object/ });
   assert.throws(() => registry.decode('Point', []), { message: 'refused: EndOfInput at byte 0, .x: expected U8, found the end of the input' });
@@ -597,7 +597,7 @@ test('on a thread with a small stack each call is answered, or throws the kind s
     assert.ok(outcome in counts, outcome);
     counts[outcome]++;
   }
-  assert.ok(counts.answered > 100 && counts.stack > 100 && counts.engine < 200, JSON.stringify(counts));
+  assert.ok(counts.answered > 50 && counts.stack > 50 && counts.engine < 80, JSON.stringify(counts));
   assert.equal(counts['at last answered'], 3);
 });
 

@@ -134,14 +134,14 @@ test('a text that is refused is told, and the other side is marked', async () =>
   await isQuiet(page);
 });
 
-test('damage is shown at its byte, with what was wanted', async () => {
+test('damage is shown at its byte, with what was expected', async () => {
   const page = await opened();
   for (const [title, stop, told, damaged] of [
-    ['Aptos: damaged bytes', 'LongForm at 73', /at byte 73: .* Wanted there: length of STR, at \.payload.*\.name/, '84'],
-    ['Sui: damaged bytes', 'BadBool at 65', /at byte 65: .* Wanted there: BOOL, at ::V1.*\.mutable/, '02'],
+    ['Aptos: damaged bytes', 'LongForm at 73', /at byte 73: .* Expected there: length of STR, at \.payload.*\.name/, '84'],
+    ['Sui: damaged bytes', 'BadBool at 65', /at byte 65: .* Expected there: BOOL, at ::V1.*\.mutable/, '02'],
   ]) {
     await choose(page, 'example', title);
-    await page.until(`document.querySelector('#tree .stop')?.textContent.startsWith('${stop} wanted')`);
+    await page.until(`document.querySelector('#tree .stop')?.textContent.startsWith('${stop} expected')`);
     assert.match(await page.ask(verdict), told);
     assert.equal(await page.ask("document.querySelector('.damage').textContent"), damaged);
   }
@@ -296,8 +296,8 @@ test('hostile names in the place of a refusal, and in its words, are text', asyn
     await isToldAsText(page, 'verdict', told);
   }
   await replace(page, 'bytes', '0002');
-  await isToldAsText(page, 'verdict', `Wanted there: BOOL, at ::${SCRIPT}.<b>${IMAGE}/.`);
-  await page.until("document.querySelector('#tree .stop')?.textContent.includes('wanted: BOOL')");
+  await isToldAsText(page, 'verdict', `Expected there: BOOL, at ::${SCRIPT}.<b>${IMAGE}/.`);
+  await page.until("document.querySelector('#tree .stop')?.textContent.includes('expected: BOOL')");
   await isToldAsText(page, 'tree', SCRIPT);
   for (const [registry, told] of [
     [{ [IMAGE]: { STRUCT: [{ [SCRIPT]: 'U9' }] } }, `at /${IMAGE}/STRUCT/0/<script>alert(4)<~1script>, expected a format`],

@@ -52,7 +52,7 @@ reversed=$(node -p 'JSON.stringify(Object.fromEntries(Object.entries(JSON.parse(
 node types.mjs "$reversed" | cmp - aptos.d.mts || fail "the order of a registry's members"
 
 refuses 2 'refused: UnknownName at A: no container is called B' '{"A":{"NEWTYPESTRUCT":{"TYPENAME":"B"}}}'
-refuses 2 'refused: NotJson at line 1, column 1: the document ends there; } is missing' '{'
+refuses 2 'refused: NotJson: line 1, column 1: the document ends there; } is missing' '{'
 refuses 3 'Usage: bcs-types [--plain-options] [--names NAMES] REGISTRY >registry.d.mts'
 refuses 3 'Usage: bcs-types [--plain-options] [--names NAMES] REGISTRY >registry.d.mts' a.json b.json
 refuses 3 'Usage: bcs-types [--plain-options] [--names NAMES] REGISTRY >registry.d.mts' --other

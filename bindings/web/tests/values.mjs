@@ -521,13 +521,13 @@ test('names of the containers that are addresses and integers of 256 bits', () =
   ]) assert.throws(() => bcs.registry(text, { names: wrong }), TypeError, JSON.stringify(wrong));
 });
 
-test('a value that holds others many times ends at the limit on nodes, or at 1 GiB of JSON', () => {
+test('a value that holds others many times ends at the limit on nodes, or at 512 MiB of JSON', () => {
   const shared = bcs.registry('{"T":{"NEWTYPESTRUCT":{"SEQ":{"TYPENAME":"T"}}},"E":{"STRUCT":[]}}');
   const many = Array.from({ length: 60 }).reduce((inner) => [inner, inner], []);
   const start = process.cpuUsage();
   assert.throws(() => shared.withLimits({ nodes: 100_000 }).encode('T', many), { kind: 'value', reason: 'TooManyNodes' });
   const long = new Array(1000).fill(new Array(1000).fill('x'.repeat(2000)));
-  assert.throws(() => shared.encode({ SEQ: { SEQ: 'STR' } }, long), { kind: 'value', reason: 'TooLong', detail: 'the JSON of the value is above 1 GiB' });
+  assert.throws(() => shared.encode({ SEQ: { SEQ: 'STR' } }, long), { kind: 'value', reason: 'TooLong', detail: 'the JSON of the value is above 512 MiB' });
   assert.ok(process.cpuUsage(start).user < 30_000_000, 'half a minute');
   // (a list of three containers has a node for itself and two for each)
   const units = { SEQ: { TYPENAME: 'E' } };

@@ -27,24 +27,45 @@ pub fn wrong_input_digits(text: &[u8]) -> Option<WrongText> {
     if has_prefix(text) {
         return Some(wrong);
     }
-    let words = match (text.first(), byte_at(text, wrong.place)) {
-        (_, None) => wrong.words,
-        (Some(b'{' | b'['), _) => "JSON, where hexadecimal digits belong; encode reads JSON",
-        (Some(b'"'), _) =>
-            "a double quote; the digits of an input have none, and encode reads JSON",
-        (Some(0xef), _) => "a byte order mark; save the input without one",
-        (_, Some(b'\n' | b'\r')) =>
-            "a line feed; join the lines (xxd -p -c0), or read each with --lines",
-        (_, Some(b' ' | b'\t')) => "a space; remove the spaces between digits",
-        (_, Some(0..=0x1f | 0x7f..=0xff)) =>
-            "not a hexadecimal digit; --raw reads bytes as they are",
-        (_, Some(_)) if is_base64(text) => "not a hexadecimal digit; --base64 reads base64",
-        (_, Some(_)) => "not a hexadecimal digit",
+    let Some(byte) = byte_at(text, wrong.place) else {
+        return Some(wrong);
+    };
+    let words = match words_for_start(text.first().copied()) {
+        Some(words) => words,
+        None => words_for_byte(text, byte),
     };
     Some(WrongText {
         place: wrong.place,
         words,
     })
+}
+
+// What an input is that begins with this byte, if it shows that.
+fn words_for_start(first: Option<u8>) -> Option<&'static str> {
+    match first? {
+        b'{' | b'[' => Some("JSON, where hexadecimal digits belong; encode reads JSON"),
+        b'"' => Some("a double quote; the digits of an input have none, and encode reads JSON"),
+        0xef => Some("a byte order mark; save the input without one"),
+        _ => None,
+    }
+}
+
+// What is wrong with a byte that isn't a digit.
+fn words_for_byte(text: &[u8], byte: u8) -> &'static str {
+    match byte {
+        b'\n' | b'\r' => "a line feed; join the lines (xxd -p -c0), or read each with --lines",
+        b' ' | b'\t' => "a space; remove the spaces between digits",
+        0..=0x1f | 0x7f..=0xff => "not a hexadecimal digit; --raw reads bytes as they are",
+        _ => words_for_character(text),
+    }
+}
+
+fn words_for_character(text: &[u8]) -> &'static str {
+    if is_base64(text) {
+        "not a hexadecimal digit; --base64 reads base64"
+    } else {
+        "not a hexadecimal digit"
+    }
 }
 
 // The first wrong byte, or `None` in place of it if a digit is missing. `None`: nothing is wrong.

@@ -77,21 +77,54 @@ impl<'a> Scan<'a> {
         };
         self.place = self.place.saturating_add(blanks);
         let rest = rest.get(blanks..).unwrap_or(b"");
+        match self.token(alloc, rest) {
+            Ok(()) => Ok(true),
+            Err(mistake) => Err(mistake),
+        }
+    }
+
+    // Passes the token at the start of the rest.
+    fn token(&mut self, alloc: Global, rest: &[u8]) -> Result<(), Mistake> {
         let byte = rest.first().copied().unwrap_or(b' ');
         match self.awaited {
-            Awaited::Value => self.value(alloc, byte, rest)?,
-            Awaited::FirstItem if byte == b']' => self.close(),
-            Awaited::FirstItem => self.value(alloc, byte, rest)?,
-            Awaited::Item if byte == b']' => return Err(self.trailing_comma()),
-            Awaited::Item => self.value(alloc, byte, rest)?,
-            Awaited::FirstName if byte == b'}' => self.close(),
-            Awaited::FirstName => self.name(byte, rest)?,
-            Awaited::Name if byte == b'}' => return Err(self.trailing_comma()),
-            Awaited::Name => self.name(byte, rest)?,
-            Awaited::Colon => self.colon(byte)?,
-            Awaited::Next => self.next(byte)?,
+            Awaited::Value => self.value(alloc, byte, rest),
+            Awaited::FirstItem => self.first_item(alloc, byte, rest),
+            Awaited::Item => self.item(alloc, byte, rest),
+            Awaited::FirstName => self.first_name(byte, rest),
+            Awaited::Name => self.further_name(byte, rest),
+            Awaited::Colon => self.colon(byte),
+            Awaited::Next => self.next(byte),
         }
-        Ok(true)
+    }
+
+    fn first_item(&mut self, alloc: Global, byte: u8, rest: &[u8]) -> Result<(), Mistake> {
+        if byte == b']' {
+            self.close();
+            return Ok(());
+        }
+        self.value(alloc, byte, rest)
+    }
+
+    fn item(&mut self, alloc: Global, byte: u8, rest: &[u8]) -> Result<(), Mistake> {
+        if byte == b']' {
+            return Err(self.trailing_comma());
+        }
+        self.value(alloc, byte, rest)
+    }
+
+    fn first_name(&mut self, byte: u8, rest: &[u8]) -> Result<(), Mistake> {
+        if byte == b'}' {
+            self.close();
+            return Ok(());
+        }
+        self.name(byte, rest)
+    }
+
+    fn further_name(&mut self, byte: u8, rest: &[u8]) -> Result<(), Mistake> {
+        if byte == b'}' {
+            return Err(self.trailing_comma());
+        }
+        self.name(byte, rest)
     }
 
     fn value(&mut self, alloc: Global, byte: u8, rest: &[u8]) -> Result<(), Mistake> {

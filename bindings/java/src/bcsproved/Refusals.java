@@ -32,8 +32,8 @@ final class Refusals {
 
     /** Of the name or the pointer of a part. No call says what is wrong with it. */
     static BcsException ofName(Answer answer, int notation) throws BcsException {
-        String wanted = notation == Answer.NAME ? "a name such as .payload.args[1]" : "a JSON Pointer such as /payload/args/1";
-        return of(Kind.PATH, answer, new Place(null, "wanted " + wanted));
+        String expected = notation == Answer.NAME ? "a name such as .payload.args[1]" : "a JSON Pointer such as /payload/args/1";
+        return of(Kind.PATH, answer, new Place(null, "expected " + expected));
     }
 
     static BcsException ofGrowth(Answer answer, byte[] older, byte[] newer) throws BcsException {
