@@ -17,17 +17,30 @@ pub fn answer_from_move(alloc: Global, work: &Work) -> Result<Answer, AllocError
     ensures { IfOk result (λ a. (bytes : List ℕ) → IsAnswer work.now bytes a) }
 {
     match made_registry(alloc, work) {
-        Ok(made) => {
-            let place = place_of_notes(alloc, work, &made.notes);
-            Ok(placed(shown(alloc, made.json)?, place))
-        }
-        Err(MoveFault::Refused(refusal)) => {
-            let name = refusal.name.name();
-            let place = place_of_move(alloc, work, refusal);
-            Ok(placed(refused(alloc, name)?, place))
-        }
+        Ok(made) => registry_answer(alloc, work, made),
+        Err(MoveFault::Refused(refusal)) => refusal_answer(alloc, work, refusal),
         Err(MoveFault::OutOfMemory) => Err(AllocError),
     }
+}
+
+// The registry's JSON, and its notes.
+fn registry_answer(alloc: Global, work: &Work, made: MadeRegistry) -> Result<Answer, AllocError>
+    requires command { work.now.command ≡ Command.FromMove }
+    requires registry { WritesSome (string_bytes made.json) }
+    ensures { IfOk result (λ a. (bytes : List ℕ) → IsAnswer work.now bytes a) }
+{
+    let place = place_of_notes(alloc, work, &made.notes);
+    Ok(placed(shown(alloc, made.json)?, place))
+}
+
+// The refusal's name, and where it is.
+fn refusal_answer(alloc: Global, work: &Work, refusal: MoveRefusal) -> Result<Answer, AllocError>
+    requires { work.now.command ≡ Command.FromMove }
+    ensures { IfOk result (λ a. (bytes : List ℕ) → IsAnswer work.now bytes a) }
+{
+    let name = refusal.name.name();
+    let place = place_of_move(alloc, work, refusal);
+    Ok(placed(refused(alloc, name)?, place))
 }
 
 fn made_registry(alloc: Global, work: &Work) -> Result<MadeRegistry, MoveFault>
