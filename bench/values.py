@@ -1,11 +1,13 @@
 #!/usr/bin/env python3
 """Times the calls of each language on values and on JSON: bench/values.py [--document] [--rounds N] [LANGUAGE..]
 
-Prints the section of docs/BENCHMARKS.md with the processor time of a call in C, Rust, Python, JavaScript, Go and Java, for
-examples/aptos_transfer and for a byte string of 1,000,000 bytes; with --document it replaces that section. The programs
-are in bench/languages: each makes its calls, and also encodes and decodes the same type by a codec that is written by
-hand. On a busy machine times vary, so all programs run N times in turn (3 by default), and the least time counts. The library is that of dist/ (or of BCS_PREFIX, where bindings/c/build.sh installed it), and the code around it that
-of bindings/. It needs gcc, cargo with serde_json, Node, Go, a JDK, and this Python.
+Prints the section of docs/BENCHMARKS.md with the processor time of a call in C, Rust, Python, JavaScript, Go and Java,
+for examples/aptos_transfer and for a byte string of 1,000,000 bytes; with --document it replaces that section.
+
+The programs are in bench/languages: each makes its calls, and also encodes and decodes the same type by a codec that is
+written by hand. On a busy machine times vary, so all programs run N times in turn (3 by default), and the least time
+counts. The library is that of dist/ (or of BCS_PREFIX, where bindings/c/build.sh installed it), and the code around it
+that of bindings/. It needs gcc, cargo with serde_json, Node, Go, a JDK, and this Python.
 """
 
 from __future__ import annotations
@@ -140,19 +142,21 @@ def section(all_times: dict[str, Times], rounds: int, load: list[float]) -> str:
     busy = "busy" if max(load) > 2 else "quiet"
     return f"""{HEADING}
 
-`bench/values.py`, {date}, commit {commit()}: processor time of a call with an open registry, the least of {rounds * RUNS} runs. \
-The machine was {busy}: the load of its {os.cpu_count()} processors was {min(load):.1f} to {max(load):.1f}.
+`bench/values.py`, {date}, commit {commit()}: processor time of a call with an open registry, the least of \
+{rounds * RUNS} runs. The machine was {busy}: the load of its {os.cpu_count()} processors was {min(load):.1f} to \
+{max(load):.1f}.
 
 | {' | '.join(heads)} |
 |{'---|' * len(heads)}
 {chr(10).join(rows)}
 
 - **transfer** is `examples/aptos_transfer`, 211 bytes; **1 MB** is a byte string of 1,000,000 bytes at `BYTES`.
-- **values**: the language's own types: structs in Rust, Go and Java, dicts and objects in Python and JavaScript. C has none.
+- **values**: the language's own types: structs in Rust, Go and Java, dicts and objects in Python and JavaScript. C has \
+none.
 - **JSON**: the call alone, on a text that is ready; decoding returns the text.
-- **JSON, made and read**: what you do if you have values and use the calls for JSON. The language's usual code makes or \
-parses the text (`serde_json`, `json`, `JSON`, `encoding/json`), and turns bytes into digits or back. C and Java have no \
-JSON of their own.
+- **JSON, made and read**: what you do if you have values and use the calls for JSON. The language's usual code makes \
+or parses the text (`serde_json`, `json`, `JSON`, `encoding/json`), and turns bytes into digits or back. C and \
+Java have no JSON of their own.
 - **by hand**: a codec for this one type, which checks less.
 """
 

@@ -2,8 +2,8 @@
 
 `Formats` reads the formats of a registry, and `json_of` converts a value of one of them. `reading` converts back.
 
-Each format has two ways. `quick` converts values of Python's own types, by functions that call one another. What it isn't
-sure of it leaves to `open`, which converts and rejects everything.
+Each format has two ways. `quick` converts values of Python's own types, by functions that call one another. What it
+isn't sure of it leaves to `open`, which converts and rejects everything.
 """
 
 from __future__ import annotations
@@ -33,8 +33,8 @@ _INTEGER_ITEMS = {*"bBhHiIlLqQnN", "O"}
 _OTHER_ITEMS = {*"efdg?"}
 # So often the limit on nodes is checked in a list.
 _UNCHECKED = 1000
-# `quick` leaves longer lists and byte strings to `open`, and arrays and objects with longer JSON, since a value that holds
-# others many times may have any length.
+# `quick` leaves longer lists and byte strings to `open`, and arrays and objects with longer JSON, since a value that
+# holds others many times may have any length.
 _MOST_QUICK_ITEMS = 1 << 16
 _MOST_QUICK = 1 << 20
 # An error shows at most this much of a string.

@@ -103,8 +103,9 @@ fn put_whole_advice(
     one: &'static str,
     out: &mut Vec<u8>,
 ) -> Result<(), AllocError> {
+    let name: &str = unit;
     let mut search = NearestName::to(word);
-    search.consider(alloc, unit)?;
+    search.consider(alloc, name)?;
     let text = if search.found().is_some() || word.eq_ignore_ascii_case(unit) {
         format!(in alloc; "; did you mean \"{unit}\"?")?
     } else if word_format(word).is_some() {
