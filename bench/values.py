@@ -151,11 +151,11 @@ def section(all_times: dict[str, Times], rounds: int, load: list[float]) -> str:
 {chr(10).join(rows)}
 
 - **transfer** is `examples/aptos_transfer`, 211 bytes; **1 MB** is a byte string of 1,000,000 bytes at `BYTES`.
-- **values**: the language's own types: structs in Rust, Go and Java, dicts and objects in Python and JavaScript. C has \
-none.
+- **values**: the language's own types: structs in Rust, Go and Java, dicts and objects in Python and JavaScript. C \
+has none.
 - **JSON**: the call alone, on a text that is ready; decoding returns the text.
-- **JSON, made and read**: what you do if you have values and use the calls for JSON. The language's usual code makes \
-or parses the text (`serde_json`, `json`, `JSON`, `encoding/json`), and turns bytes into digits or back. C and \
+- **JSON, made and read**: what you do if you have values and use the calls for JSON. The language's usual code \
+makes or parses the text (`serde_json`, `json`, `JSON`, `encoding/json`), and turns bytes into digits or back. C and \
 Java have no JSON of their own.
 - **by hand**: a codec for this one type, which checks less.
 """

@@ -26,6 +26,8 @@ EXPLAINED = 8 * KEY
 OTHERS = str.maketrans("0123456789", "bcdefghijk")
 # What a line says of an enum with COUNT variants.
 LISTED = f"; variants: v0, v1, v2, v3, v4, v5, v6, v7, ...({COUNT - 8} more)"
+# And of a struct with COUNT fields.
+FIELDS = f"; fields: f0, f1, f2, f3, f4, f5, f6, f7, ...({COUNT - 8} more)"
 
 
 class Job(NamedTuple):
@@ -74,14 +76,14 @@ def text_jobs() -> Iterator[Job]:
         [struct, "S"],
         members([*names, "z"]),
         unknown,
-        f"{at}UnknownField: no field is called z\n",
+        f"{at}UnknownField: no field is called z{FIELDS}\n",
     )
     yield Job(
         "100,000 unknown members",
         [small, "S"],
         members(["a", *names]),
         unknown,
-        f"{at}UnknownField: no field is called f0\n",
+        f"{at}UnknownField: no field is called f0; fields: a\n",
     )
     yield Job(
         "the last field is missing",

@@ -45,9 +45,9 @@ class Item(NamedTuple):
 
 @functools.cache
 def text_of(file: pathlib.Path) -> str:
-    """A file without comments, and with empty literals, since these may have braces."""
-    code = re.sub(r"^\s*//.*$", "", file.read_text(encoding="utf-8"), flags=re.M)
-    return re.sub(r"""b?'(?:\\.|[^'\\])'|b?"(?:\\.|[^"\\])*\"""", '""', code, flags=re.S)
+    """A file without comments and without the content of strings, in which a brace may stand alone."""
+    text = re.sub(r"^\s*//.*$", "", file.read_text(encoding="utf-8"), flags=re.M)
+    return re.sub(r'"(?:[^"\\\n]|\\.)*"', '""', text)
 
 
 def block(text: str, start: int) -> str:

@@ -174,8 +174,8 @@ func TestRefusals(t *testing.T) {
 	_, badPath := registry.Part("Point", []byte{7, 0}, "x//")
 	_, tooNested := open(t, deep).DecodeJSON("C", deepData)
 	_, badRegistry := Open([]byte(`{"A":{"STRUCT":[{"x":{"TYPENAME":"B"}}]}}`))
-	wanted := "expected an integer from 0 to 255 (U8)"
-	number, text := "found 256, "+wanted, "found \"\", "+wanted
+	expected := "expected an integer from 0 to 255 (U8)"
+	number, text := "found 256, "+expected, "found \"\", "+expected+"; the string is empty"
 	for _, row := range []struct {
 		err    error
 		wanted Error

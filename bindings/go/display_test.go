@@ -39,7 +39,7 @@ func TestWhereFormatsPathsAndGrowthAreRefused(t *testing.T) {
 		{oddPath, Error{KindPath, "BadPath", -1, "step 2 é\x00x", path}},
 		{Grows([]byte(`{"é\u0000: Missing: b":"UNITSTRUCT"}`), []byte("{}")),
 			Error{KindGrowth, "Missing", -1, "é\x00: Missing: b", "the newer registry has no container of that name"}},
-		{badSchema, Error{KindFormat, "BadShape", -1, "/SEQ", `expected a format, found "U7"; for a container of that name, write {"TYPENAME":"U7"}`}},
+		{badSchema, Error{KindFormat, "BadShape", -1, "/SEQ", `expected a format, found "U7"`}},
 		{registry.Check(`{"TUPLE":["U8",{}]}`), Error{KindFormat, "BadShape", -1, "/TUPLE/1", "expected a format, found an empty object"}},
 		{unknown, Error{KindFormat, "UnknownName", -1, "", "no container is called Nope"}},
 		{hostile, Error{KindFormat, "UnknownName", -1, "", "no container is called x: UnknownName: y"}},

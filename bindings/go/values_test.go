@@ -291,7 +291,7 @@ func TestUnmarshal(t *testing.T) {
 		{`"BYTES"`, "020102", new([]myByte), "[1 2]"}, {`"BYTES"`, "020102", new(Hex), "0102"}, {`{"SEQ":"U8"}`, "020102", new([]any), "takes bytes, or Hex(…) for digits, not []interface {}"},
 		{`{"SEQ":"U16"}`, "0201000200", new([2]uint16), "[1 2]"}, {`{"SEQ":"U16"}`, "0201000200", new([3]uint16), "fewer"},
 		{`{"SEQ":"U16"}`, "0201000200", new([1]uint16), "/1: "}, {`{"OPTION":"U8"}`, "00", new(uint8), "takes a pointer"},
-		{`{"MAP":{"KEY":"U8","VALUE":"U8"}}`, "0101020304", new(map[uint8]uint8), "refused: TrailingBytes at byte 3, .: expected the end, found 1 byte more"},
+		{`{"MAP":{"KEY":"U8","VALUE":"U8"}}`, "0101020304", new(map[uint8]uint8), "refused: TrailingBytes at byte 3, .: expected the end, found 2 bytes more"},
 		{`{"MAP":{"KEY":"U8","VALUE":"U8"}}`, "010102", new(map[uint8]uint8), "map[1:2]"}, {`{"MAP":{"KEY":"U8","VALUE":"U8"}}`, "010102", new(map[any]uint8), "in the keys of a map"},
 		{"O", "0103010203", new(o), "{1 [1 2 3]}"}, {"O", "01020102", bad, "/k: BYTES has 2 bytes"}, {"O", "0103010203", new(map[string]any), "map[\b:1 k:[1 2 3]]"},
 	} {

@@ -26,6 +26,8 @@ class Answered(Exception):
 
 # The members of bcs_fault, and what bcs_explain calls them.
 MEMBERS = {"refused": "refused", "place": "place", "at": "name"}
+# How the message of bcs_fault goes on behind what was expected.
+FOUND = (", ", "; ", " in UTF-8, ")
 STATUSES = {" in the registry": "registry", " in the format": "format", " in the path": "path"}
 
 
@@ -208,11 +210,11 @@ class Calls:
 
 
 def is_the_same(fault: dict[str, Any] | None, last: dict[str, Any]) -> bool:
-    """Whether bcs_fault reports what the last line of bcs_explain does, with what was found behind what was expected."""
+    """Whether bcs_fault reports what the last line of bcs_explain does, and what was found."""
     if fault is None or "refused" not in last:
         return fault is None and "refused" not in last
-    expected, message = last.get("want", ""), fault.get("message", "")
-    is_message = re.fullmatch(rf"(expected )?{re.escape(expected)}([,;] .*)?", message) is not None
+    expected, message = f"expected {last['want']}", fault.get("message", "")
+    is_message = message == expected or message.startswith(tuple(expected + found for found in FOUND))
     return is_message and all(fault.get(name) == last.get(old) for name, old in MEMBERS.items())
 
 

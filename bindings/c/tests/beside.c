@@ -101,7 +101,8 @@ static void null_is_no_bytes(void) {
     CHECK(are_same(make(&no_format, NULL, 0), not_json) && are_same(make_by(ON_HANDLE, &no_format, NULL, 0), not_json));
     CHECK(are_same(make(&no_registry, NULL, 0), (bcs_answer){BCS_REGISTRY, BCS_REGISTRY_NOT_JSON, 0, 0}));
     CHECK(bcs_grows(NULL, 0, NULL, 0).status == BCS_REGISTRY);
-    CHECK(bcs_registry_place(BCS_WHERE, NULL, 0, NULL, 0).status == BCS_SHORT);
+    CHECK(bcs_registry_place(BCS_WHERE, NULL, 0, NULL, 0).status == BCS_DONE);
+    CHECK(bcs_registry_place(BCS_WANTED, NULL, 0, NULL, 0).status == BCS_SHORT);
     CHECK(bcs_fault_name(BCS_STOP_BAD_BOOL, NULL, 0).status == BCS_SHORT);
 }
 

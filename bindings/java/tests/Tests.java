@@ -87,7 +87,7 @@ public final class Tests extends Check {
                 () -> registry.encodeJson("Point", "{\"x\":1,\"~/\":[\"\",\"0\"]}"));
         refused(Kind.TEXT, "BadNumber", -1, "/x", "found 256, " + expected,
                 () -> registry.normaliseJson("Point", "{\"x\":256,\"~/\":[]}"));
-        refused(Kind.TEXT, "BadNumber", -1, "/x", "found \"\", " + expected,
+        refused(Kind.TEXT, "BadNumber", -1, "/x", "found \"\", " + expected + "; the string is empty",
                 () -> registry.equalJson("Point", "{\"x\":1,\"~/\":[]}", "{\"x\":\"\",\"~/\":[]}"));
         refused(Kind.TEXT, "MissingField", -1, "", "no member is called ~/", () -> registry.encodeJson("Point", "{\"x\":1}"));
         refused(Kind.BYTES, "EndOfInput", 4, ".~/[0]", "expected 2 bytes of BYTES, found the end of the input", () -> registry.decodeJson("Point", unhex("07010205")));

@@ -52,7 +52,8 @@ impl FromStr for Address {
 
     fn from_str(text: &str) -> Result<Address, ParseError> {
         const EXPECTED: ParseError = ParseError("0x and 1 to 64 hexadecimal digits");
-        let digits = text.strip_prefix("0x").filter(|digits| (1..=2 * LENGTH).contains(&digits.len())).ok_or(EXPECTED)?;
+        let digits =
+            text.strip_prefix("0x").filter(|digits| (1..=2 * LENGTH).contains(&digits.len())).ok_or(EXPECTED)?;
         let bytes = crate::hex::bytes_of(&format!("{digits:0>64}")).ok_or(EXPECTED)?;
         bytes.try_into().map(Address).map_err(|_| EXPECTED)
     }

@@ -226,7 +226,12 @@ fn errors_tell_the_place() {
         ("Point", r#"{"x":1,"~/":["","0"]}"#, "/~0~1/1", "an odd number of digits; each byte has two"),
         ("Point", r#"{"x":256,"~/":[]}"#, "/x", "found 256, expected an integer from 0 to 255 (U8)"),
         ("Point", r#"{"x":1}"#, "", "no member is called ~/"),
-        ("Shape", r#"{"Circle":true}"#, "/Circle", "found true, expected an integer from 0 to 18446744073709551615 (U64)"),
+        (
+            "Shape",
+            r#"{"Circle":true}"#,
+            "/Circle",
+            "found true, expected an integer from 0 to 18446744073709551615 (U64)",
+        ),
         (r#"{"MAP":{"KEY":"U8","VALUE":"U8"}}"#, "[[1,2],[1,3]]", "", "two keys of a map are equal"),
         (r#""U8""#, "x", "", "line 1, column 1: text belongs in double quotes"),
     ];
@@ -241,7 +246,10 @@ fn errors_tell_the_place() {
     assert_eq!(second.at(), Some("/x"));
 
     let error = registry.decode_json("Point", [7, 1, 2, 5]).unwrap_err();
-    assert_eq!(error.to_string(), "refused: EndOfInput at byte 4, .~/[0]: expected 2 bytes of BYTES, found the end of the input");
+    assert_eq!(
+        error.to_string(),
+        "refused: EndOfInput at byte 4, .~/[0]: expected 2 bytes of BYTES, found the end of the input"
+    );
     assert_eq!(registry.scan("Point", [7, 1, 2, 5]).unwrap_err(), error);
     assert_eq!(registry.part("Point", &[7, 1, 2, 5], ".").unwrap_err(), error);
 
@@ -251,7 +259,10 @@ fn errors_tell_the_place() {
 
     let error = Registry::read(r#"{"S":{"ENUM":{"x":{"A":"UNIT"}}}}"#).unwrap_err();
     assert_eq!(error.at(), Some("/S/ENUM/x"));
-    assert_eq!(error.to_string(), "refused: BadNumber at /S/ENUM/x: expected the number of a variant: below 4294967296, in decimal digits without leading zeros");
+    assert_eq!(
+        error.to_string(),
+        "refused: BadNumber at /S/ENUM/x: expected the number of a variant: below 4294967296, in decimal digits without leading zeros"
+    );
     assert_eq!(Error::from(ErrorKind::Path).at(), None);
 }
 
@@ -273,7 +284,11 @@ fn lines_begin_alike() {
             "refused: UnknownName at the whole text: no container is called T",
         ),
         (registry.check("T"), "format", "refused: UnknownName: no container is called T"),
-        (registry.check(r#"{"SEQ":"U7"}"#), "format", "refused: BadShape at /SEQ: expected a format, found \"U7\"; for a container of that name, write {\"TYPENAME\":\"U7\"}"),
+        (
+            registry.check(r#"{"SEQ":"U7"}"#),
+            "format",
+            "refused: BadShape at /SEQ: expected a format, found \"U7\"; for a container of that name, write {\"TYPENAME\":\"U7\"}",
+        ),
         (registry.show(Some("T")).map(drop), "format", "refused: UnknownName: no container is called T"),
         (deep.check("S"), "limits", "refused: the depth is above 500"),
         (registry.grows(&plain()), "growth", "refused: Missing at S: the newer registry has no container of that name"),
@@ -282,7 +297,11 @@ fn lines_begin_alike() {
             "text",
             "refused: BadNumber at /Circle: found -1, expected an integer from 0 to 18446744073709551615 (U64)",
         ),
-        (registry.decode_json("S", [2, 1]).map(drop), "bytes", "refused: EndOfInput at byte 2, ::Circle: expected U64, found the end of the input"),
+        (
+            registry.decode_json("S", [2, 1]).map(drop),
+            "bytes",
+            "refused: EndOfInput at byte 2, ::Circle: expected U64, found the end of the input",
+        ),
         (
             registry.part(list, &[0], "1/x").map(drop),
             "path",

@@ -142,16 +142,16 @@ class Types(unittest.TestCase):
     def test_columns(self) -> None:
         """A column converts what is stored in it, and never makes another number of a text."""
         self.database.execute("create table t (t text, i integer, n numeric, r real, b blob)")
-        for written, numeric in [
-            ("7", "07"),
-            ("18446744073709551615", VALUE),
-            ("9007199254740993", None),
-            ("1e3", "e803"),
-            ("7.0", "07"),
+        for written, numeric, hint in [
+            ("7", "07", ""),
+            ("18446744073709551615", VALUE, ""),
+            ("9007199254740993", None, ""),
+            ("1e3", "e803", "; write digits only, without an exponent"),
+            ("7.0", "07", "; write digits only, without a point"),
         ]:
             self.database.execute("delete from t")
             self.database.execute("insert into t values (?1, ?1, ?1, ?1, ?1)", [written])
-            refused = f"found {written}, expected an integer from 0 to 18446744073709551615 (U64)"
+            refused = f"found {written}, expected an integer from 0 to 18446744073709551615 (U64){hint}"
             text = digits_of("U64", written) or f"bcs: refused: BadNumber: {refused}"
             if numeric is None:
                 numeric = text

@@ -1,4 +1,4 @@
-use Rattle.bcs_c.proofs.Prelude.{List, subst, ℕ, Puts, no_memory, stands, told}
+use Rattle.bcs_c.proofs.Prelude.{List, subst, ℕ, Puts, stands, told}
 use Rattle.bcs_c.proofs.places.place_of_stop.Goals as goal
 
 pub returns-in-Ok-clause-answers : goal.returns-in-Ok-clause-answers
@@ -9,6 +9,3 @@ returns-in-Ok-clause-answers c =
 
 pub returns-in-Ok-None-clause-answers : goal.returns-in-Ok-None-clause-answers
 returns-in-Ok-None-clause-answers c = stands (c.in-Ok-None.ensures.none c.in-Ok-None.field-0-is) c.plain-in-Ok-None.ensures
-
-pub returns-in-Err-clause-answers : goal.returns-in-Err-clause-answers
-returns-in-Err-clause-answers c = no_memory c.plain-in-Err.ensures
