@@ -10,4 +10,4 @@ returns c bytes =
     let is = c.in_ok-shown.ensures in
     let registry = c.requires.registry in
     placed_answer work bytes 0 (line_of text) c.placed.result (set.status ∙ is.same_status) (set.output ∙ is.same_output)
-    (with_place work _ _ set.place c.place_of_notes-place.ensures) (made registry.0 text c.requires.command registry.1)
+    (with_place work _ _ set.place c.place_of_notes-place.ensures) (made registry.0 text c.requires.command (registry.1, registry.2))
