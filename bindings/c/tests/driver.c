@@ -155,13 +155,17 @@ static bcs_answer make_whole(enum way way, const struct job *job, uint8_t **out,
 
 /* Half of a refusal of a registry: the place, or the message behind the last NUL. */
 static bcs_answer half_of(bcs_answer whole, uint32_t what, uint8_t *out) {
-    const uint8_t *nul = whole.status == BCS_DONE ? memrchr(out, 0, whole.length) : NULL;
-    if (nul == NULL) {
+    if (whole.status != BCS_DONE || whole.length == 0) {
         return whole;
     }
-    const size_t place = (size_t)(nul - out), message = whole.length - place - 1;
+    size_t place = whole.length - 1;
+    while (out[place] != 0) {
+        CHECK(place > 0);
+        place--;
+    }
+    const size_t message = whole.length - place - 1;
     if (what == BCS_WANTED) {
-        memmove(out, nul + 1, message);
+        memmove(out, out + place + 1, message);
     }
     return (bcs_answer){.status = BCS_DONE, .length = what == BCS_WANTED ? message : place};
 }
