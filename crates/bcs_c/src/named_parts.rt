@@ -16,9 +16,7 @@ use crate::fault::Fault;
 use crate::status::Status;
 use bcs_decode::{Step, scan};
 use bcs_decode_parts::{PathFault, steps_of};
-use bcs_part_names::{
-    Led, is_pointer, part_of_scanned, path_of_name, path_of_pointer, read_name,
-};
+use bcs_part_names::{Led, is_pointer, part_of_scanned, path_of_name, path_of_pointer, read_name};
 use std::alloc::{AllocError, Global};
 use std::str::from_utf8;
 
@@ -88,11 +86,7 @@ fn scanned_place(asked: &Asked, bytes: &[u8], steps: &[Step]) -> Answer
 }
 
 /// The name in the notation with this number, if it is valid there.
-fn name_in(
-    alloc: Global,
-    notation: u32,
-    name: &[u8],
-) -> Result<Option<PartName<'_>>, AllocError>
+fn name_in(alloc: Global, notation: u32, name: &[u8]) -> Result<Option<PartName<'_>>, AllocError>
     ensures some { IfOk result (λ o. IfSome o (λ part_name. MayName notation name.now)) }
     ensures none { IfOk result (λ o. o ≡ None → MayName notation name.now → ⊥) }
 {

@@ -45,6 +45,13 @@ fn step_of(
     match (work.options.notation, end) {
         (Notation::Names, Some(end)) => Ok(Some(nowhere_on_name(alloc, &end)?)),
         (Notation::Pointer, Some(end)) => Ok(Some(nowhere_on_pointer(alloc, &end)?)),
-        _ => nowhere_on_path(alloc, registry, format, &work.limits, bytes, path.as_slice()),
+        _ => nowhere_on_path(
+            alloc,
+            registry,
+            format,
+            &work.limits,
+            bytes,
+            path.as_slice(),
+        ),
     }
 }
