@@ -14,6 +14,7 @@ from emulator import EMULATOR, ROOT, Argument, Bench, fail, passed, run, words
 ENCODE = ["encode", "{}", '"I16"']
 WRITE_FAULT = "fault: write\nin the standard output\n"
 READ_FAULT = "fault: read\nin the standard input\n"
+NO_FILE = "No such file or directory" "; a value itself goes to standard input, and a registry itself starts with {"
 
 
 class Answer(NamedTuple):
@@ -143,7 +144,7 @@ def files(program: Program) -> None:
     (room / "loop").symlink_to("loop")
     (room / "folder").mkdir()
     for name, reason in {
-        f"{room}/none": "No such file or directory; a value itself goes to standard input, and a registry itself starts with {",
+        f"{room}/none": NO_FILE,
         f"{program.number}/none": "Not a directory",
         f"{room}/loop": "Too many levels of symbolic links",
         "n" * 4096: "File name too long",
