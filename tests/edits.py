@@ -67,7 +67,8 @@ def wrong_with(row: Row, log: str) -> str:
     if not (ROOT / "crates" / row.edit.replace("/", "/must-fail/")).with_suffix(".edit").is_file():
         return "there is no such edit"
     if not any(
-        re.search(rf"\bpub fn {row.call}\b", file.read_text(encoding="utf-8")) for file in crate.glob("src/**/*.rt")
+        re.search(rf'\bpub (?:extern "C" )?fn {row.call}\b', file.read_text(encoding="utf-8"))
+        for file in crate.glob("src/**/*.rt")
     ):
         return f"{row.crate} has no public call {row.call}"
     told: list[str] = re.findall(rf"must-fail {re.escape(row.edit)}\.edit: (.*)", log)
