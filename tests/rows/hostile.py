@@ -97,7 +97,7 @@ class Hostile:
             expect(told == Place(path, "expected BOOL, 00 or 01, found 07"), f"{container}: {told}")
 
     def parts(self, number: int, name: str) -> None:
-        """By name and by pointer; with another spelling there is none."""
+        """The name and the pointer lead to the part, and another spelling leads nowhere."""
         data = bytes(number) + b"\1" + bytes(len(self.names) - number - 1)
         index = uleb(number)
         for container, value, place, mark in [("S", data, number, "."), ("E", index + b"\1", len(index), "::")]:

@@ -216,7 +216,7 @@ class Faults(Measured):
 
 
 class Open(Measured):
-    """After a statement, open registries use no more memory than bcs.registry_cache, whoever opened them."""
+    """After a statement, all open registries together use no more memory than bcs.registry_cache allows."""
 
     is_unit = "select bcs_is(%s, '\"UNIT\"', '')"
 

@@ -173,7 +173,7 @@ impl Registry {
         self.shown(sys::WAYS, name.unwrap_or_default())
     }
 
-    /// The same as compact JSON, which two registries share exactly if they are the same.
+    /// The same as compact JSON, which two registries share if and only if they are the same.
     ///
     /// ```
     /// let registry = bcs_proved::Registry::read(r#"{ "Id": "UNITSTRUCT" }"#)?;
