@@ -11,20 +11,19 @@ arm64, in an emulator, and for Windows, in wine.
 
 from __future__ import annotations
 
+import argparse
 import os
 import pathlib
 import re
-import subprocess
 import sys
 import tempfile
 from collections.abc import Callable
 
 import debian
-import side_by_side
-from side_by_side import Step, python
-from trials import Failed
+import gate_steps
+from gate_steps import Step, python
+from harness import ROOT, Failed, Variables, Word, log_of
 
-ROOT = pathlib.Path(__file__).resolve().parent.parent
 DIST = "out/dist/x86_64-linux"
 # Where the library of C is installed, with its header.
 PREFIX = ROOT / "out/prefix"
@@ -53,26 +52,11 @@ NEEDED = {
 OLDEST_GLIBC = "GLIBC_2.14"
 
 
-def run(*command: str | pathlib.Path, env: dict[str, str] | None = None) -> str:
-    """What a command prints. It has to pass."""
-    ended = subprocess.run(
-        command,
-        env=os.environ | (env or {}),
-        stdout=subprocess.PIPE,
-        stderr=subprocess.STDOUT,
-        text=True,
-        errors="backslashreplace",
-    )
-    if ended.returncode != 0:
-        raise Failed(ended.stdout)
-    return ended.stdout
-
-
 def test_program() -> str:
     """The program is compiled with another option than the one that `rt ci` ran, and linked with another start."""
-    log = run("tests/program.py", DIST) + run("tests/explain.py", DIST)
-    log += run("tests/output_files.py", DIST) + run("tests/own_stack.py", DIST)
-    symbols = run("objdump", "-T", f"{DIST}/bcs", f"{DIST}/libbcs.so")
+    log = log_of("tests/program.py", DIST) + log_of("tests/explain.py", DIST)
+    log += log_of("tests/output_files.py", DIST) + log_of("tests/own_stack.py", DIST)
+    symbols = log_of("objdump", "-T", f"{DIST}/bcs", f"{DIST}/libbcs.so")
     versions = [tuple(map(int, version.split("."))) for version in re.findall(r"GLIBC_(\d[\d.]*)", symbols)]
     newest = "GLIBC_" + ".".join(map(str, max(versions)))
     if newest != OLDEST_GLIBC:
@@ -80,8 +64,8 @@ def test_program() -> str:
     return log
 
 
-def rows(*words: str | pathlib.Path, env: dict[str, str] | None = None) -> str:
-    return run(sys.executable, "tests/rows", *words, env=env)
+def rows(*words: Word, variables: Variables | None = None) -> str:
+    return log_of(sys.executable, "tests/rows", *words, variables=variables)
 
 
 def test_without_calls() -> str:
@@ -101,27 +85,27 @@ def test_c() -> str:
     with tempfile.TemporaryDirectory() as room:
         driver = pathlib.Path(room) / "driver"
         built = [f"-I{PREFIX}/include", "bindings/c/tests/driver.c", f"{PREFIX}/lib/libbcs.a"]
-        log = run(sys.executable, "bindings/c/tests/header.py") + run("bindings/c/test.sh")
-        log += run("gcc", "-std=gnu11", "-O2", "-Wall", "-Wextra", *built, "-o", driver)
-        log += run(sys.executable, "tests/rows/planted.py", driver) + test_without_calls()
+        log = log_of(sys.executable, "bindings/c/tests/header.py") + log_of("bindings/c/test.sh")
+        log += log_of("gcc", "-std=gnu11", "-O2", "-Wall", "-Wextra", *built, "-o", driver)
+        log += log_of(sys.executable, "tests/rows/planted.py", driver) + test_without_calls()
         return log + rows("c", driver) + rows("c-handles", driver, "handle")
 
 
 def test_python() -> str:
-    log = run("bindings/python/test.sh")
+    log = log_of("bindings/python/test.sh")
     driver = ["python3", "bindings/python/tests/driver.py"]
-    env = {"BCS_LIBRARY": f"{PREFIX}/lib/libbcs.so"}
-    return log + rows("--without", "changes", "python", *driver, env=env)
+    library: Variables = {"BCS_LIBRARY": f"{PREFIX}/lib/libbcs.so"}
+    return log + rows("--without", "changes", "python", *driver, variables=library)
 
 
 def script(*words: str) -> Callable[[], str]:
-    return lambda: run(*words)
+    return lambda: log_of(*words)
 
 
 # The longest first.
 PARTS: dict[str, Callable[[], str]] = {
     "windows": script("bindings/windows/test.sh"),
-    "everywhere": script("tests/everywhere.py", "out/dist"),
+    "portable-c": script("tests/portable_c.py", "out/dist"),
     "web": script("bindings/web/test.sh"),
     "arm64-program": script("bindings/arm64/test.py", "program"),
     "arm64-library": script("bindings/arm64/test.py", "library"),
@@ -143,15 +127,17 @@ PARTS: dict[str, Callable[[], str]] = {
     "dask": script("tests/dask_decode.py", f"{DIST}/bcs", f"{PREFIX}/lib/libbcs.so"),
     "imports": script("bindings/hosts/tests/imports.py", "out/dist"),
 }
+# These run in copies of the sources, with stand-ins for what is built.
+OF_COPIES = {"dist-scripts", "launcher", "tampering"}
 MADE = "dist made"
 LIBRARY = "library of C"
 
 
-def steps() -> list[Step]:
-    """What makes out/dist and installs the library of C, and the parts, for the gate."""
+def steps(after: tuple[str, ...] = ()) -> list[Step]:
+    """What makes out/dist, over what the steps before built, and installs the library of C; and the parts."""
     build = ["bindings/c/build.sh", "--prefix", str(PREFIX), "--from", DIST]
-    parts = [Step(name, python("tests/bindings.py", name), (LIBRARY,)) for name in PARTS]
-    return [Step(MADE, ["tools/make_dist.sh", "out/dist"]), Step(LIBRARY, build, (MADE,)), *parts]
+    parts = [Step(name, python("tests/bindings.py", name), () if name in OF_COPIES else (LIBRARY,)) for name in PARTS]
+    return [Step(MADE, ["tools/make_dist.sh", "out/dist"], after), Step(LIBRARY, build, (MADE,)), *parts]
 
 
 def set_variables() -> None:
@@ -166,22 +152,29 @@ def set_variables() -> None:
     )
 
 
-def main(names: list[str]) -> int:
+def main() -> int:
+    parser = argparse.ArgumentParser(description=__doc__, formatter_class=argparse.RawDescriptionHelpFormatter)
+    parser.add_argument("part", nargs="*", help=", ".join(PARTS))
+    names = parser.parse_args().part
     os.chdir(ROOT)
     if unknown := set(names) - PARTS.keys():
         sys.exit(f"bindings: unknown parts: {', '.join(sorted(unknown))}; these are: {', '.join(PARTS)}")
     set_variables()
     if not names:
         debian.install(NEEDED)
-        return 1 if side_by_side.run_all(steps(), side_by_side.lanes()) else 0
+        gate = gate_steps.gate()
+        gate.run(steps(), gate_steps.lanes())
+        gate.keep_seconds()
+        gate.print_table()
+        return 1 if gate.failed() else 0
     for name in names:
         try:
             print(PARTS[name](), end="", flush=True)
         except Failed as failed:
-            print(failed, end="")
+            print(failed, end="" if str(failed).endswith("\n") else "\n")
             sys.exit(f"bindings: FAILED: {name}")
     return 0
 
 
 if __name__ == "__main__":
-    sys.exit(main(sys.argv[1:]))
+    sys.exit(main())

@@ -9,9 +9,9 @@ import shutil
 import subprocess
 import sys
 import tempfile
-from typing import NoReturn
 
-ROOT = pathlib.Path(__file__).resolve().parent.parent
+from harness import ROOT, fail, passed, ran
+
 sys.path.insert(0, str(ROOT / "tools"))
 
 import toolchain  # noqa: E402
@@ -75,14 +75,6 @@ class Three(ctypes.Structure):
     _fields_ = [(name, ctypes.c_uint64) for name in ("first", "second", "third")]
 
 
-def fail(what: str) -> NoReturn:
-    sys.exit(f"building: FAILED: {what}")
-
-
-def passed(what: str) -> None:
-    print(f"building: {what}", flush=True)
-
-
 def refused(folder: pathlib.Path) -> bool:
     """Whether nothing is built in the folder, and nothing is written there."""
     before = sorted(folder.rglob("*")) if folder.exists() else None
@@ -142,7 +134,7 @@ def test_check(root: pathlib.Path) -> None:
 def check(root: pathlib.Path) -> tuple[int, str]:
     """The status of --check for the upper crate, and what it prints."""
     words = [sys.executable, "-B", str(root / "tools/build.py"), "--check", "upper"]
-    ended = subprocess.run(words, stdout=subprocess.PIPE, stderr=subprocess.STDOUT, text=True)
+    ended = ran(*words, merged=True)
     return ended.returncode, ended.stdout
 
 

@@ -16,13 +16,12 @@ import re
 import shutil
 import signal
 import subprocess
-import sys
 import tempfile
 import time
 from collections.abc import Iterator
 from typing import NamedTuple
 
-from trials import ROOT, Failed, clean_up_on_sigterm
+from harness import ROOT, Failed, arguments, clean_up_on_sigterm, end_with
 
 # Debian's, which has Dask.
 PYTHON = "/usr/bin/python3"
@@ -205,20 +204,16 @@ def test(program: str, room: pathlib.Path, cluster: Cluster) -> None:
 
 
 def main() -> None:
-    if len(sys.argv) != 3:
-        sys.exit(__doc__)
-    program, library = (str(pathlib.Path(name).resolve()) for name in sys.argv[1:])
+    args = arguments(__doc__, "program", "library")
+    program, library = (str(pathlib.Path(name).resolve()) for name in (args.program, args.library))
     clean_up_on_sigterm()
     with tempfile.TemporaryDirectory() as folder:
         room = pathlib.Path(folder)
         module = str(ROOT / "bindings/python")
         os.environ |= {"BCS_LIBRARY": library, "PYTHONPATH": module, "PYTHONDONTWRITEBYTECODE": "1"}
         os.environ["DASK_CONFIG"] = str(room / "config")
-        try:
-            test(program, room, Cluster(room))
-        except Failed as fault:
-            sys.exit(f"{fault}\ndask: FAILED")
+        test(program, room, Cluster(room))
 
 
 if __name__ == "__main__":
-    main()
+    end_with(main)

@@ -71,7 +71,7 @@ make_copy() {
     cp bcs test .gitattributes .gitignore "$room"
     cp tools/check_dist.sh tools/check_tracked.sh tools/compare_dist.sh tools/dist_sources.sh tools/sign.sh tools/take_dist.sh \
         "$room/tools"
-    cp tests/built.py "$room/tests"
+    cp tests/test_command.py "$room/tests"
     cp dist/README.md "$room/dist"
     cd "$room"
     mkdir -p crates/bcs/out

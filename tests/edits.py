@@ -11,7 +11,8 @@ import re
 import sys
 from typing import NamedTuple
 
-ROOT = pathlib.Path(__file__).resolve().parent.parent
+from harness import ROOT, arguments
+
 ROWS = ROOT / "tests/edits.rows"
 # Where the proof of a goal fails; and where a goal has no proof, which is told at a line of the source.
 ANSWER = re.compile(r"(?:\./)?proofs/(?P<path>\S+)/Answers\.antt:\d+:\d+: error: `(?P<goal>[^`]+)`")
@@ -90,11 +91,8 @@ def rejected_otherwise(log: str) -> list[str]:
     return [line for line in lines if not re.search(r": refused, as it must be: (note: |\S+:\d+:\d+: error: )", line)]
 
 
-def main(words: list[str]) -> int:
-    if len(words) != 1:
-        print(__doc__)
-        return 3
-    log = pathlib.Path(words[0]).read_text(encoding="utf-8", errors="replace")
+def main() -> int:
+    log = pathlib.Path(arguments(__doc__, "log").log).read_text(encoding="utf-8", errors="replace")
     otherwise = rejected_otherwise(log)
     for line in otherwise:
         print(f"edits: FAILED: no clause rejects this: {line}")
@@ -108,4 +106,4 @@ def main(words: list[str]) -> int:
 
 
 if __name__ == "__main__":
-    sys.exit(main(sys.argv[1:]))
+    sys.exit(main())

@@ -15,15 +15,14 @@ import pathlib
 import resource
 import select
 import subprocess
-import sys
 import tempfile
 import threading
 from collections.abc import Iterable
-from typing import Any, NoReturn
+from typing import Any
 
 import debian
+from harness import ROOT, fail, passed, program_in_folder
 
-ROOT = pathlib.Path(__file__).resolve().parent.parent
 REFUSALS = ["--refusals", "json"]
 NO_REFUSALS: list[str] = []
 DECODE = ["decode", "--lines", *REFUSALS, "examples/aptos_registry.json", "RawTransaction"]
@@ -45,14 +44,6 @@ LINE_BY_LINE: dict[str, tuple[list[str], list[str]]] = {
 }
 
 
-def fail(what: str) -> NoReturn:
-    sys.exit(f"engines: FAILED: {what}")
-
-
-def passed(what: str) -> None:
-    print(f"engines: {what}", flush=True)
-
-
 def example(name: str) -> str:
     return (ROOT / "examples" / name).read_text(encoding="utf-8").rstrip("\n")
 
@@ -72,7 +63,7 @@ def expect_answers(answers: list[str], engine: str) -> None:
         "refused": "LongForm",
         "place": 73,
         "at": ".payload::EntryFunction.module.name",
-        "message": "expected length of STR, found 8400, which isn't the shortest form of the number",
+        "message": "expected the length of STR, found 8400, which isn't the shortest form of the number",
     }
     for number, answer in enumerate(answers):
         found: dict[str, Any] = json.loads(answer)
@@ -198,10 +189,8 @@ def check_line_by_line(program: str, words: list[str], lines: list[str]) -> None
         fail(f"{process.named}: more answers than lines: {rest[:300]}")
 
 
-def main(folder: str) -> None:
-    program = str(pathlib.Path(folder).resolve() / "bcs")
-    if not os.access(program, os.X_OK):
-        fail(f"{program} isn't a program")
+def main() -> None:
+    program = str(program_in_folder(__doc__))
     os.chdir(ROOT)
     debian.install({"parallel": "parallel"})
     check_block(program, "ClickHouse's executable")
@@ -221,4 +210,4 @@ def main(folder: str) -> None:
 
 
 if __name__ == "__main__":
-    main(sys.argv[1] if len(sys.argv) > 1 else str(ROOT / "crates/bcs/out"))
+    main()

@@ -4,10 +4,18 @@
     tests/examples.py FOLDER
 
 FOLDER has the program `bcs`. An example that needs a program that isn't here is skipped, or fails if CI=true.
+
+The examples of documents run in a bare clone: a copy of the files that git tracks, in whose dist/ is this program, with
+no variable that says where a library is. So do the commands in README.md's table, which must end with status 0, and the
+Python in it. Commands of Python that load the library in dist/ are left out if dist/ has another program: then the
+library may be older than the module.
 """
 
+import filecmp
+import importlib.util
 import os
 import pathlib
+import platform
 import re
 import shlex
 import shutil
@@ -16,12 +24,23 @@ import sys
 import tempfile
 
 from document_examples import Example, examples_of
+from harness import ROOT, program_in_folder
 
-ROOT = pathlib.Path(__file__).resolve().parent.parent
 # programs that not every machine has
-TOOLS = ("yq", "openssl", "xxd", "node")
-# documents, and whether every block of sh is run
-DOCUMENTS = {"README.md": False, "docs/FORMAT.md": False, "docs/TRUST.md": False, "examples/README.md": True}
+TOOLS = ("openssl", "xxd", "node")
+# the commands in the table of README.md
+LEAST_ROWS = 5
+# other documents, and whether every block of sh is run
+DOCUMENTS = {
+    "docs/JSON.md": False,
+    "docs/PROGRAM.md": False,
+    "docs/TRUST.md": False,
+    "examples/README.md": True,
+}
+
+
+# how examples name a file that only PyYAML reads
+YAML = "yaml"
 
 
 def printed(command: list[str]) -> str:
@@ -33,10 +52,12 @@ def printed(command: list[str]) -> str:
 
 def missing_tools() -> list[str]:
     missing = [tool for tool in TOOLS if not shutil.which(tool)]
-    # Another program that is called yq prints YAML.
-    if "mikefarah" in printed(["yq", "--version"]):
-        missing.append("yq")
-    return missing
+    return missing if importlib.util.find_spec("yaml") else [*missing, YAML]
+
+
+def bare() -> dict[str, str]:
+    """The variables, without those that lead to a library or another program."""
+    return {name: value for name, value in os.environ.items() if not re.fullmatch(r"BCS_\w+|PYTHONPATH", name)}
 
 
 class Examples:
@@ -47,6 +68,8 @@ class Examples:
         self.passed = self.failed = 0
         self.missing = missing_tools()
         self.skipped: list[str] = []
+        of_dist = ROOT / "dist" / f"{platform.machine()}-linux/bcs"
+        self.is_own = of_dist.exists() and filecmp.cmp(program, of_dist, shallow=False)
         self.make_top(program)
 
     def make_top(self, program: pathlib.Path) -> None:
@@ -56,6 +79,21 @@ class Examples:
             if path.name != "bcs" and not path.name.startswith("."):
                 (self.top / path.name).symlink_to(path)
         (self.top / "bcs").symlink_to(program)
+
+    def make_clone(self, program: pathlib.Path) -> pathlib.Path:
+        """A bare clone of this tree, as it is now. Without git, it is the top."""
+        if not shutil.which("git"):
+            return self.top
+        listed = subprocess.run(["git", "ls-files", "-z"], cwd=ROOT, stdout=subprocess.PIPE, stderr=subprocess.DEVNULL)
+        if listed.returncode != 0:
+            return self.top
+        clone = self.room / "clone"
+        for name in map(os.fsdecode, listed.stdout.split(b"\0")[:-1]):
+            if (ROOT / name).is_file():
+                (clone / name).parent.mkdir(parents=True, exist_ok=True)
+                shutil.copy(ROOT / name, clone / name, follow_symlinks=False)
+        shutil.copy(program, clone / "dist" / f"{platform.machine()}-linux/bcs")
+        return clone
 
     def fail(self, what: str) -> None:
         self.failed += 1
@@ -74,23 +112,45 @@ class Examples:
             self.skipped.append(needed)
         return needed is not None
 
-    def run_document(self, name: str, runs_all: bool) -> None:
-        """The commands of a document are run in one shell, one example after another."""
+    def run_document(self, name: str, runs_all: bool, top: pathlib.Path) -> None:
+        """The commands of a document are run in one shell at this top, one example after another."""
         found = examples_of(ROOT / name, runs_all)
         if not found:
             self.fail(f"no example is found in {name}")
         folder = self.room / name.replace("/", "_")
         folder.mkdir()
+        of_python = [] if self.is_own else [example for example in found if "python3 " in example.commands]
+        for example in of_python:
+            print(f"examples: {name}, line {example.line}: skipped, since dist/ has another program")
+            found.remove(example)
         asked = {folder / str(number): example for number, example in enumerate(found) if not self.is_skipped(example)}
         script = "".join(
             f"{{\n{example.commands}\n}} >{shlex.quote(str(path))} {'2>&1' if example.has_errors else '2>/dev/null'}\n"
             for path, example in asked.items()
         )
         (folder / "script").write_text(script, encoding="utf-8")
-        subprocess.run(["bash", folder / "script"], cwd=self.top, stdin=subprocess.DEVNULL)
+        subprocess.run(["bash", folder / "script"], cwd=top, env=bare(), stdin=subprocess.DEVNULL)
         for path, example in asked.items():
             answer = path.read_bytes() if path.exists() else b"nothing, since the shell ended"
             self.check(f"{name}, line {example.line}", example.commands, example.wanted, answer)
+
+    def run_readme(self, clone: pathlib.Path) -> None:
+        self.run_document("README.md", False, clone)
+        rows = re.findall(r"^\| .* \| `([^|`]+)` \|$", (ROOT / "README.md").read_text(encoding="utf-8"), re.MULTILINE)
+        lines = [["bash", "-c", row] for row in rows]
+        if self.is_own:
+            lines.append([sys.executable, "-m", "doctest", "README.md"])
+        else:
+            lines = [line for line in lines if "python3" not in line[-1]]
+        for line in lines:
+            variables = bare() | ({} if line[0] == "bash" else {"PYTHONPATH": "bindings/python"})
+            ended = subprocess.run(line, cwd=clone, env=variables, stdin=subprocess.DEVNULL, capture_output=True)
+            if ended.returncode == 0:
+                self.passed += 1
+            else:
+                self.fail(f"README.md: {line[-1]}: status {ended.returncode}: {(ended.stdout + ended.stderr)[-300:]!r}")
+        if len(rows) < LEAST_ROWS:
+            self.fail(f"README.md has {len(rows)} commands in its table")
 
     def run_help(self) -> None:
         """The help of each command of the program has examples, as lines `COMMAND  # ANSWER`."""
@@ -124,16 +184,16 @@ def section(text: str, title: str) -> list[str]:
     return [line.removeprefix("  ") for line in lines if line.startswith("  ")]
 
 
-def main(folder: str) -> int:
-    program = pathlib.Path(folder).resolve() / "bcs"
-    if not os.access(program, os.X_OK):
-        sys.exit(f"examples: FAILED: {program} isn't a program")
+def main() -> int:
+    program = program_in_folder(__doc__)
     os.environ["PATH"] = f"{program.parent}:{os.environ['PATH']}"
     with tempfile.TemporaryDirectory() as room:
         examples = Examples(program, pathlib.Path(room))
         examples.run_help()
+        clone = examples.make_clone(program)
+        examples.run_readme(clone)
         for name, runs_all in DOCUMENTS.items():
-            examples.run_document(name, runs_all)
+            examples.run_document(name, runs_all, clone)
     if examples.skipped:
         needed = " ".join(sorted(set(examples.skipped)))
         print(f"examples: {len(examples.skipped)} are skipped, which need {needed}")
@@ -144,6 +204,4 @@ def main(folder: str) -> int:
 
 
 if __name__ == "__main__":
-    if len(sys.argv) != 2:
-        sys.exit(__doc__)
-    sys.exit(main(sys.argv[1]))
+    sys.exit(main())

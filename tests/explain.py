@@ -1,5 +1,6 @@
 #!/usr/bin/env python3
-"""Runs `bcs explain` at each row of explain.rows and at the bytes of the examples, whose tables are stored beside them.
+"""Runs `bcs explain` at each row of explain.rows and explain_views.rows, and at the bytes of the examples, whose tables
+are stored beside them.
 
     tests/explain.py [FOLDER]
 
@@ -15,15 +16,23 @@ import sys
 from collections.abc import Iterator
 from typing import NamedTuple
 
-ROOT = pathlib.Path(__file__).resolve().parent.parent
-sys.path.insert(0, str(ROOT / "tests/rows"))
-from explain_rows import EXAMPLES, ExplainRow, joined, rows_of_table  # noqa: E402 (the folder has to be known first)
+from harness import ROOT, end_with, program_in_folder, report
 
+sys.path.insert(0, str(ROOT / "tests/rows"))
+from explain_rows import (  # noqa: E402 (the folder has to be known first)
+    EXAMPLES,
+    ExplainRow,
+    joined,
+    rows_of_table,
+    rows_of_views,
+)
+
+BY_HAND = "tests/rows/bytes.rows"
 ROW_OF_BYTES = re.compile(r"\| (\d+) \|([^|]*)\|.*")
 
 
 class HandWritten(NamedTuple):
-    """Bytes in a row of BYTES.md, as digits: the file that has them, and where."""
+    """Bytes in a row of a table, as digits: the file that has them, and where."""
 
     file: str
     place: int
@@ -51,7 +60,7 @@ def faults_of_example(name: str, registry: str, format: str) -> Iterator[str]:
 def hand_written() -> Iterator[HandWritten]:
     """The rows of the tables that were written by hand."""
     name = ""
-    for line in pathlib.Path("examples/BYTES.md").read_text(encoding="utf-8").split("\n"):
+    for line in pathlib.Path(BY_HAND).read_text(encoding="utf-8").split("\n"):
         if line.startswith("## "):
             name = re.sub("[`,]", "", line.split()[1])
         elif row := ROW_OF_BYTES.fullmatch(line):
@@ -75,7 +84,7 @@ def faults_by_hand(row: HandWritten) -> Iterator[str]:
     digits = path.read_text(encoding="utf-8").replace("\n", "")
     table = path.with_suffix(".explained").read_text(encoding="utf-8")
     if not digits.startswith(row.digits, 2 * row.place) or not re.search(rf"^ *{row.place}  ", table, re.MULTILINE):
-        yield f"BYTES.md at {row.place} of {row.file}"
+        yield f"the bytes by hand at {row.place} of {row.file}"
 
 
 def faults_of_paths() -> Iterator[str]:
@@ -85,13 +94,11 @@ def faults_of_paths() -> Iterator[str]:
         yield ended.stdout
 
 
-def main(folder: str) -> int:
-    program = pathlib.Path(folder).resolve() / "bcs"
+def main() -> int:
+    program = program_in_folder(__doc__)
     os.chdir(ROOT)
-    if not os.access(program, os.X_OK):
-        sys.exit(f"explain: FAILED: {program} isn't a program")
     os.environ["PATH"] = f"{program.parent}:{os.environ['PATH']}"
-    rows, by_hand = list(rows_of_table(ROOT)), list(hand_written())
+    rows, by_hand = [*rows_of_table(ROOT), *rows_of_views(ROOT)], list(hand_written())
     tests = [
         *map(faults_of_row, rows),
         *(faults_of_example(name, *words) for name, words in EXAMPLES.items()),
@@ -99,11 +106,9 @@ def main(folder: str) -> int:
         faults_of_paths(),
     ]
     faults = [fault for test in tests for fault in test]
-    for fault in faults:
-        print(f"explain: FAILED: {fault}")
-    print(f"explain: {len(tests) - len(faults)} passed, {len(faults)} failed")
-    return 0 if rows and by_hand and not faults else 1
+    faults += [f"no {what} is found" for what, found in [("row", rows), ("example of BYTES.md", by_hand)] if not found]
+    return report(len(tests), faults)
 
 
 if __name__ == "__main__":
-    sys.exit(main(sys.argv[1] if len(sys.argv) > 1 else str(ROOT / "crates/bcs/out")))
+    end_with(main)

@@ -4,8 +4,11 @@
 First come the checks that take seconds: git tracks nothing that only a build may make, scripts are formatted and have
 no warning, what the documents name is there, and docs/DECISIONS.md lists what the public API has beyond the specified
 one. Then `rt ci` proves every crate and its tests, tries the must-fail edits, and builds the programs. The steps after
-it test what was built. All of them run, side by side, and a line for each says what it took. The last line is the
-closing line of `rt ci`, `N passed, M failed`.
+it test what was built.
+
+All steps run, side by side except for `rt ci`, and a failure keeps only those from running that need the failed one;
+these count as failed. A table at the end has the processor minutes of each step. The last line is the closing line of
+`rt ci`, `N passed, M failed`, with the failed steps in M.
 """
 
 from __future__ import annotations
@@ -22,8 +25,9 @@ from collections.abc import Iterator
 
 import bindings
 import debian
-import side_by_side
-from side_by_side import Step, python
+import gate_steps
+from gate_steps import Gate, Step, python
+from harness import Failed, clean_up_on_sigterm, run
 
 ROOT = pathlib.Path(__file__).resolve().parent.parent
 
@@ -68,26 +72,31 @@ def drop_libraries_without_stamp() -> None:
     interrupted, one may be an empty folder."""
     for library in ROOT.glob("crates/*/out/rlib"):
         if not (library / "stamp").exists():
-            subprocess.run(["rm", "-rf", str(library)], check=True)
+            run("rm", "-rf", library)
 
 
-def prove(log: pathlib.Path) -> tuple[bool, str]:
-    """Runs `rt ci`, and prints and logs what it prints. Returns whether it passed, and its last line, which isn't
-    printed.
+def prove(log: pathlib.Path) -> str:
+    """Runs `rt ci`, and prints and logs what it prints. Returns its last line, which isn't printed.
 
     Each check has one job. Otherwise, while only one crate can be proved, `rt` would give it all processors: each job
     would read all libraries below once more, and edits would wait. The prover's allocator keeps its memory: that takes
     5 % more, and saves a third of the page faults or more."""
     environment = os.environ | {"RT_JOBS": str(lanes()), "MIMALLOC_PURGE_DELAY": "-1"}
     last = ""
-    with log.open("w", encoding="utf-8") as file, subprocess.Popen(
-        ["rt", "ci"], env=environment, stdout=subprocess.PIPE, text=True, errors="replace"
-    ) as run:
-        for line in run.stdout or []:
-            print(last, end="", flush=True)
-            file.write(line)
-            last = line
-    return run.returncode == 0, last.strip()
+    with log.open("w", encoding="utf-8") as file, huge_pages(), subprocess.Popen(
+        ["rt", "ci"], env=environment, stdout=subprocess.PIPE, text=True, errors="replace", start_new_session=True
+    ) as proving:
+        try:
+            for line in proving.stdout or []:
+                print(last, end="", flush=True)
+                file.write(line)
+                last = line
+        except BaseException:
+            os.killpg(proving.pid, signal.SIGTERM)
+            raise
+    if proving.returncode != 0:
+        raise Failed(f"{gate_steps.fault_of(proving.returncode)}: {last.strip()}")
+    return last.strip()
 
 
 def note_what_was_proved(built_from: str) -> None:
@@ -98,65 +107,88 @@ def note_what_was_proved(built_from: str) -> None:
         (ROOT / "out/proved").write_text(built_from, encoding="utf-8")
 
 
-def passes(*words: str) -> bool:
-    return subprocess.run(words).returncode == 0
+def prove_these_sources(log: pathlib.Path) -> str:
+    drop_libraries_without_stamp()
+    built_from = run("tools/dist_sources.sh", "--built-from")
+    closing = prove(log)
+    note_what_was_proved(built_from)
+    return closing
+
+
+def install(needed: dict[str, str]) -> str:
+    debian.install(needed)
+    return f"{len(needed)} programs and files are there"
+
+
+QUICK = [
+    Step("lint", ["tests/lint.sh"]),
+    Step("tracked files", ["tools/check_tracked.sh"]),
+    Step("the gate's own tests", ["tests/gate_test.py"]),
+    Step("names in documents", ["tests/document_names.py"]),
+    Step("public items", ["tools/api.py", "--check"]),
+]
+PROVED = "rt ci"
 
 
 def steps(log: pathlib.Path) -> list[Step]:
-    """The steps over what `rt ci` built, the longest first. Those that measure time count that of the processor."""
+    """The steps over what `rt ci` built, and a few that only need its toolchain or its log. Those that measure time
+    count that of the processor. The first run starts them in this order."""
     program = "crates/bcs/out/bcs"
+    built, made = (PROVED,), (bindings.MADE,)
     return [
-        *bindings.steps(),
-        Step("packages", ["tests/packages.py"], (bindings.MADE,)),
-        Step("newcomer", python("tests/newcomer.py", program), (bindings.MADE,)),
-        Step("failing memory", ["tests/memory.py"]),
-        Step("give up", ["tests/give_up.py"]),
-        Step("program by rt", ["tests/program.py"]),
+        *bindings.steps(built),
+        Step("packages", ["tests/packages.py"], made),
+        Step("user commands", python("tests/user_commands.py", program), made),
+        Step("failing memory", ["tests/memory.py"], built),
+        Step("codec out of memory", ["tests/codec_out_of_memory.py"]),
+        Step("program by rt", ["tests/program.py"], built),
         Step("building", ["tests/building.py"]),
-        Step("engines", ["tests/engines.py"]),
-        Step("schema", ["tests/schema.sh"]),
-        Step("explain", ["tests/explain.py"]),
-        Step("mistakes", ["tests/mistakes.py"]),
+        Step("engines", ["tests/engines.py"], built),
+        Step("schema", ["tests/schema.sh"], built),
+        Step("move modules", python("tests/move_modules.py", program), built),
+        Step("move examples", python("tests/move_examples.py", program), built),
+        Step("explain", ["tests/explain.py"], built),
+        Step("mistakes", ["tests/mistakes.py"], built),
         Step("heap", ["tests/program_heap.sh"]),
         Step("trust", python("tools/trust.py", "--check")),
         Step("edits", python("tests/edits.py", str(log))),
-        Step("dist is current", ["tools/compare_dist.sh"], (bindings.MADE,)),
+        Step("dist is current", ["tools/compare_dist.sh"], made),
     ]
+
+
+def closing_line(log: str, failed: list[str]) -> str:
+    """That of `rt ci`, which ends its log, with the failed steps. Without one, no crate counts as passed."""
+    found = re.search(r"^(\d+) passed, (\d+) failed\s*\Z", log, flags=re.M)
+    passed, wrong = (int(found[1]), int(found[2])) if found else (0, 0)
+    wrong = max(wrong + len([name for name in failed if name != PROVED]), min(1, len(failed)))
+    return f"{passed} passed, {wrong} failed"
+
+
+def run_all(gate: Gate, log: pathlib.Path) -> None:
+    gate.attempt("the linters", lambda: install(LINTERS))
+    gate.run(QUICK, gate_steps.lanes())
+    gate.attempt(PROVED, lambda: prove_these_sources(log))
+    gate.attempt("the tools of the tests", lambda: install(bindings.NEEDED))
+    bindings.set_variables()
+    gate.run(steps(log), gate_steps.lanes())
 
 
 def main() -> int:
     os.chdir(ROOT)
     sys.dont_write_bytecode = True
-    debian.install(LINTERS)
     # So that the huge pages are put back, too.
-    signal.signal(signal.SIGTERM, lambda *_: sys.exit(143))
-    first = (
-        ["tools/check_tracked.sh"],
-        ["tests/lint.sh"],
-        ["tests/side_by_side_test.py"],
-        ["tests/names.py"],
-        ["tools/api.py", "--check"],
-    )
-    if not all([passes(*words) for words in first]):
-        print("0 passed, 1 failed")
-        return 1
-    built_from = subprocess.run(
-        ["tools/dist_sources.sh", "--built-from"], capture_output=True, text=True, check=True
-    ).stdout
-    drop_libraries_without_stamp()
+    clean_up_on_sigterm()
+    gate = gate_steps.gate()
     with tempfile.TemporaryDirectory() as folder:
-        room = pathlib.Path(folder)
-        with huge_pages():
-            has_passed, closing = prove(room / "log")
-        if has_passed:
-            note_what_was_proved(built_from)
-            bindings.set_variables()
-            debian.install(bindings.NEEDED)
-            if failed := side_by_side.run_all(steps(room / "log"), side_by_side.lanes()):
-                has_passed, closing = False, f"{closing.partition(',')[0]}, {len(failed)} failed"
-                print(f"gate: FAILED: {', '.join(failed)}")
-    print(closing)
-    return 0 if has_passed else 1
+        log = pathlib.Path(folder) / "log"
+        log.touch()
+        try:
+            run_all(gate, log)
+        finally:
+            gate.keep_seconds()
+            gate.print_table()
+        print(closing_line(log.read_text(encoding="utf-8"), gate.failed()))
+    return 1 if gate.failed() else 0
 
 
 if __name__ == "__main__":

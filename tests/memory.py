@@ -14,11 +14,10 @@ import sys
 import tempfile
 from concurrent.futures import ThreadPoolExecutor
 
+from harness import ROOT, Failed, end_with
 from memory_jobs import FILES, JOBS
-from memory_of_calls import Failed
 from memory_of_program import Program
 
-ROOT = pathlib.Path(__file__).resolve().parent.parent
 BCS, TEST_CALLS = ROOT / "crates/bcs/out/bcs", ROOT / "crates/test_calls/out/test_calls"
 STACK = 8 << 20
 
@@ -72,7 +71,4 @@ def main() -> None:
 
 
 if __name__ == "__main__":
-    try:
-        main()
-    except Failed as what:
-        sys.exit(f"memory: FAILED: {what}")
+    end_with(main)

@@ -1,5 +1,7 @@
 """The jobs at which tests/memory.py runs `bcs` with its requests for memory refused, and the files that they need."""
 
+import json
+
 from memory_of_program import Job
 
 S = '{"S":{"NEWTYPESTRUCT":"I16"}}'
@@ -11,7 +13,7 @@ NESTED = '{"L":{"STRUCT":[{"next":{"OPTION":{"TYPENAME":"L"}}}]}}'
 OPENED = "fault: open"
 NO_FILE = (
     "in the file no.file: No such file or directory"
-    "; a value itself goes to standard input, and a registry itself starts with {"
+    "; a value itself goes to standard input, and a registry or a module itself starts with {"
 )
 NOT_JSON = "at line 1, column 1: NotJson: the document ends there; } is missing"
 TOO_MANY_NODES = "at .: TooManyNodes: expected I16; --nodes allows 1"
@@ -20,7 +22,7 @@ VARIANTS = '{"E":{"ENUM":{"0":{"B":"UNIT"},"1":{"A":{"NEWTYPE":"U8"}}}}}'
 FULL = '{"MAP":{"KEY":{"OPTION":{"TUPLE":["U8"]}},"VALUE":{"TYPENAME":"E"}}}'
 TALLY = "lines with status 0: {}, with status 1: {}, with status 2: {}".format
 DEPTH = "TooDeep: more containers are open than allowed; --depth allows 0"
-YAML = "at line 1, column 1: NotJson: this looks like YAML; docs/REGISTRIES.md says how to convert it to JSON"
+YAML = "at line 1, column 1: NotJson: this looks like YAML; convert it to JSON with bcs-registry FILE"
 UNKNOWN = '{"S":{"NEWTYPESTRUCT":{"TYPENAME":"T"}}}'
 
 # As many containers are open as is allowed in `nested`. The standard input of every run is `number`.
@@ -28,6 +30,8 @@ FILES = {
     "registry": f"{S}\n".encode(),
     "number": b"-4660\n",
     "bytes": b"\xcc\xed",
+    "byte_string": b"\2\xcc\xed",
+    "byte_string_digits": b"02cced\n",
     "base64": b"zO0=\n",
     "map": b"[[1,true],[256,false]]\n",
     "map_bytes": b"\2\0\1\0\1\0\1",
@@ -52,6 +56,10 @@ WORDS_AND_ANSWERS = [
     Job(0, "-4660", ["decode", "--raw", "@registry", "S", "--nodes", "1000", "@bytes"]),
     Job(0, "*cced*I16 -4660*", ["explain", "--raw", "@registry", "S", "@bytes"], hints=3),
     Job(0, '{"bytes":"cced",*', ["explain", "--json", "--raw", "@registry", "S", "@bytes"], hints=3),
+    Job(
+        0, "*I16 -4660*[bcs]*", ["explain", "--raw", "@registry", '"BYTES"', "--inside", ".=S", "@byte_string"], hints=3
+    ),
+    Job(0, "cced", ["part", "--content", "{}", '"BYTES"', ".", "@byte_string_digits"]),
     Job(0, "*cced*.  inner", ["explain", "--paths", "--no-color", "--raw", "@registry", "S", "@bytes"]),
     Job(
         2,
@@ -94,6 +102,18 @@ MAPS = [
     Job(2, "refused: TooNested", ["decode", "--raw", NESTED, "L", "@nested"]),
     Job(0, "ok 500", ["scan", "--raw", NESTED, "L", "@nested"]),
 ]
+# A module of Aptos, and the registry for its struct.
+MODULE = json.dumps({
+    "address": "0x1", "name": "m", "structs": [{
+        "name": "S", "is_native": False, "generic_type_params": [{}], "fields": [
+            {"name": "a", "type": "vector<T0>"}, {"name": "b", "type": "0x1::option::Option<address>"},
+        ],
+    }],
+})  # fmt: skip
+MOVED = json.dumps({
+    "0x1::m::S<u8>": {"STRUCT": [{"a": "BYTES"}, {"b": {"OPTION": {"TYPENAME": "address"}}}]},
+    "address": {"NEWTYPESTRUCT": {"TUPLEARRAY": {"CONTENT": "U8", "SIZE": 32}}},
+}, separators=(",", ":"))  # fmt: skip
 # A registry in readable form, and examples.
 DISPLAYS = [
     Job(0, "S: NEWTYPESTRUCT, 2 bytes, used by no other\n  I16", ["show", "@registry"]),
@@ -108,6 +128,7 @@ DISPLAYS = [
     ),
     Job(0, '*"type": "boolean"*', ["schema", "@registry", BOOL]),
     Job(0, '*"#/$defs/I16"*', ["schema", "@registry", "S"]),
+    Job(0, MOVED, ["from-move", MODULE, "0x1::m::S<u8>"]),
     Job(0, "[]", ["example", "{}", LIST]),
     Job(0, '{"A":0}', ["example", "--variant", "A", VARIANTS, "E"]),
     Job(0, '[[{"some":[0]},"X"]]', ["example", "--full", '{"E":{"ENUM":{"0":{"X":"UNIT"}}}}', FULL]),
@@ -157,14 +178,14 @@ REFUSALS = [
         "refused: TooManyNodes at 0",
         ["decode", "--raw", "@registry", "S", "--nodes", "1", "@bytes"],
         place=TOO_MANY_NODES,
-        left_out=17,
+        left_out=18,
     ),
     Job(
         2,
         "refused: TooManyNodes at 0",
         ["part", "--raw", "@registry", "S", ".", "--nodes", "1", "@bytes"],
         place=TOO_MANY_NODES,
-        left_out=17,
+        left_out=18,
     ),
     Job(
         2,
@@ -193,7 +214,7 @@ REFUSALS = [
         2,
         "refused: UnknownVariant at 0",
         ["decode", "--raw", VARIANTS, "E", "@variant"],
-        place="at .: UnknownVariant: expected number of a variant; found 9; variants: 0 B, 1 A",
+        place="at .: UnknownVariant: expected the number of a variant; found 9; variants: 0 B, 1 A",
         left_out=16,
     ),
     Job(
@@ -258,7 +279,7 @@ TEXTS = [
     Job(0, "*Example:*", ["part", "--help"]),
     Job(0, "bcs *", ["--version"]),
     Job(3, "*error: *", []),
-    Job(3, "*frobnicate*", ["frobnicate"], hints=68),
+    Job(3, "*frobnicate*", ["frobnicate"], hints=74),
     Job(3, "*Usage: *", ["encode", "{}"]),
     Job(3, "*extra*", ["check", "{}", "extra"]),
     Job(3, "*--raw*", ["check", "{}", "--raw"], hints=9),

@@ -13,12 +13,13 @@ import os
 import pathlib
 import re
 import subprocess
-import sys
 import tempfile
 from collections import Counter
 from collections.abc import Iterator
 from concurrent.futures import ThreadPoolExecutor
 from typing import NamedTuple
+
+from harness import Failed, arguments, end_with
 
 CALLS = pathlib.Path(__file__).resolve().parent.parent / "crates/test_calls"
 PROGRAM = CALLS / "out/test_calls"
@@ -52,10 +53,6 @@ class Run(NamedTuple):
     lines: list[str]
     status: int
     requests: int
-
-
-class Failed(Exception):
-    """What is wrong."""
 
 
 def runs(refuser: str, rows: list[str], ranges: list[str]) -> list[Run]:
@@ -249,7 +246,8 @@ def groups_of(text: str) -> list[Group]:
     return [group for group in groups if group.rows]
 
 
-def main(refuser: str) -> None:
+def main() -> None:
+    refuser = arguments(__doc__, "refuser").refuser
     groups = groups_of((CALLS / "memory.rows").read_text(encoding="utf-8"))
     quiet = [group.rows for group in groups if any(row.startswith("quiet") for row in group.rows)]
     [falling] = [group.rows for group in groups if group.rows[0].startswith("stand_value")]
@@ -270,7 +268,4 @@ def main(refuser: str) -> None:
 
 
 if __name__ == "__main__":
-    try:
-        main(sys.argv[1])
-    except Failed as what:
-        sys.exit(f"memory: FAILED: {what}")
+    end_with(main)

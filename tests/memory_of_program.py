@@ -10,7 +10,8 @@ import re
 import subprocess
 from typing import NamedTuple
 
-from memory_of_calls import END, Failed
+from harness import Failed
+from memory_of_calls import END
 
 OUT_OF_MEMORY = "fault: memory"
 

@@ -8,14 +8,13 @@ were written from the wording rules, and never by the program.
 """
 
 import os
-import pathlib
 import subprocess
-import sys
 import tempfile
 from collections.abc import Iterator
 from typing import NamedTuple
 
-ROOT = pathlib.Path(__file__).resolve().parent.parent
+from harness import ROOT, end_with, program_in_folder
+
 TABLE = ROOT / "tests/rows/mistakes.rows"
 SECONDS = 30
 # Of so many mistakes, one may have a message that doesn't say what to do.
@@ -58,11 +57,9 @@ def faults_of(mistake: Mistake) -> Iterator[str]:
         yield f"{mistake.name}: {error}"
 
 
-def main(folder: str) -> int:
-    program = pathlib.Path(folder).resolve() / "bcs"
+def main() -> int:
+    program = program_in_folder(__doc__)
     os.chdir(ROOT)
-    if not os.access(program, os.X_OK):
-        sys.exit(f"mistakes: FAILED: {program} isn't a program")
     registries = {"A": "examples/aptos_registry.json", "S": "examples/sui_registry.json", "P": PAYMENT, "E": KIND}
     os.environ |= registries | {"PATH": f"{program.parent}:{os.environ['PATH']}", "LC_ALL": "C"}
     rows = list(mistakes())
@@ -79,4 +76,4 @@ def main(folder: str) -> int:
 
 
 if __name__ == "__main__":
-    sys.exit(main(sys.argv[1] if len(sys.argv) > 1 else str(ROOT / "crates/bcs/out")))
+    end_with(main)

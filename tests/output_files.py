@@ -18,9 +18,10 @@ import sys
 import tempfile
 import threading
 from collections.abc import Callable
-from typing import NamedTuple, NoReturn
+from typing import NamedTuple
 
 import debian
+from harness import fail, program_in_folder
 
 OLD = b"the old file\n"
 # More than the small file system and the size limit allow.
@@ -33,10 +34,6 @@ CALLS = "openat,newfstatat,readlink,write,fsync,fchown,fchmod,rename,unlink,clos
 LEAST_CALLS = 15
 CALL = re.compile(r"^(\w+)\(", re.MULTILINE)
 TEMPORARY = re.compile(r"\.file\.bcs-\d+")
-
-
-def fail(what: str) -> NoReturn:
-    sys.exit(f"output files: FAILED: {what}")
 
 
 def check(what: str, found: object, expected: object) -> None:
@@ -406,8 +403,7 @@ TESTS: list[Callable[[Room], None]] = [
 
 
 def main() -> None:
-    if len(sys.argv) != 2:
-        sys.exit(__doc__)
+    tested = program_in_folder(__doc__)
     if os.geteuid() != 0:
         fail("it needs root")
     debian.install({"strace": "strace"})
@@ -415,7 +411,7 @@ def main() -> None:
         top = pathlib.Path(name)
         top.chmod(0o755)
         program = top / "bcs"
-        program.write_bytes((pathlib.Path(sys.argv[1]) / "bcs").read_bytes())
+        program.write_bytes(tested.read_bytes())
         program.chmod(0o755)
         for test in TESTS:
             folder = top / test.__name__

@@ -11,10 +11,10 @@ import json
 import pathlib
 import resource
 import subprocess
-import sys
 import tempfile
 from collections.abc import Callable
-from typing import NoReturn
+
+from harness import fail, program_in_folder
 
 # The least stack that a program gets, in `ulimit -s 64`.
 STACK = 64 << 10
@@ -37,10 +37,6 @@ JOBS = {
         f"refused: TooDeep at {LEVELS * (CONTAINERS - 1)}\n",
     ),
 }
-
-
-def fail(what: str) -> NoReturn:
-    sys.exit(f"own stack: FAILED: {what}")
 
 
 def run(words: list[str | pathlib.Path], limit: int, most: int) -> tuple[int, str, str]:
@@ -80,9 +76,7 @@ def check_without_memory(program: pathlib.Path) -> None:
 
 
 def main() -> None:
-    if len(sys.argv) != 2:
-        sys.exit(__doc__)
-    program = pathlib.Path(sys.argv[1], "bcs").resolve()
+    program = program_in_folder(__doc__)
     with tempfile.TemporaryDirectory() as room:
         runs = check_deep_values(program, pathlib.Path(room))
     check_without_memory(program)

@@ -22,7 +22,7 @@ import debian
 import packages_installed as installed
 import packages_made as made
 from packages_made import Rooms
-from trials import Failed, clean_up_on_sigterm, run
+from harness import Failed, clean_up_on_sigterm, run
 
 # Why something that a part needs can't be had; nothing if it is there.
 Need = Callable[[Rooms], str]
@@ -58,7 +58,7 @@ def unpacked(kinds: tuple[str, ...], rooms: Rooms) -> str:
             continue
         start = time.monotonic()
         try:
-            run("tests/bare.sh", kind, rooms.debian(kind))
+            run("tests/unpack_debian.sh", kind, rooms.debian(kind))
         except Failed as fault:
             shutil.rmtree(rooms.debian(kind), ignore_errors=True)
             return f"Debian can't be had: {str(fault)[-1000:]}"

@@ -9,7 +9,7 @@ import re
 import shutil
 
 from packages_made import Rooms
-from trials import ROOT, Failed, Variables, Word, output_of_c_example, processor_seconds, refused, require_same, run
+from harness import ROOT, Failed, Variables, Word, output_of_c_example, processor_seconds, refused, require_same, run
 
 # A registry from which types are written.
 PAYMENT = '{"Payment":{"STRUCT":[{"to":"STR"},{"amount":"U64"}]}}'
@@ -108,14 +108,14 @@ def answer_in_clone(rooms: Rooms) -> str:
 
 
 def test_clone(rooms: Rooms, kind: str) -> str:
-    """What a new user runs takes less than two minutes of the processor's time on an idle machine. Here, other steps of
-    the gate run beside it, and it then takes up to twice as long."""
+    """What a new user runs takes less than two and a half minutes of the processor's time on an idle machine. Here,
+    other steps of the gate run beside it, and it then takes up to twice as long."""
     debian = rooms.debian(kind)
     clone(rooms, debian)
     before = processor_seconds()
     last = run(*within(debian, "/root/clone/test")).splitlines()[-1]
     spent = processor_seconds() - before
-    if not re.match("[1-9][0-9]* passed, 0 failed", last) or spent >= 240:
+    if not re.match("[1-9][0-9]* passed, 0 failed", last) or spent >= 300:
         raise Failed(f"{last}, in {spent:.0f} processor seconds")
     return f"{last}, in {spent:.2f} processor seconds"
 

@@ -9,7 +9,7 @@ import shutil
 import sys
 from typing import NamedTuple
 
-from trials import ROOT, Failed, Variables, Word, ran, refused, run
+from harness import ROOT, Failed, Variables, Word, ran, refused, run
 
 # The list of licences of Debian's package node-spdx-license-ids.
 SPDX_LICENCES = "/usr/share/nodejs/spdx-license-ids/index.json"
@@ -33,7 +33,7 @@ class Rooms(NamedTuple):
         return self.top / "made"
 
     def debian(self, kind: str) -> pathlib.Path:
-        """A bare Debian, of a kind that tests/bare.sh knows."""
+        """A bare Debian, of a kind that tests/unpack_debian.sh knows."""
         return self.top / kind
 
     def package(self, pattern: str) -> pathlib.Path:
@@ -174,7 +174,7 @@ def check_manual(rooms: Rooms) -> str:
 
 
 def compile_c_files(rooms: Rooms) -> str:
-    """Whether compilers warn of the program and the library in C. tests/everywhere.py runs them."""
+    """Whether compilers warn of the program and the library in C. tests/portable_c.py runs them."""
     run("tar", "-C", rooms.top, "-xJf", rooms.package("bcs-*-c.tar.xz"))
     (folder,) = rooms.top.glob("bcs-*-c")
     compilers = [name for name in ["gcc", "clang"] if shutil.which(name)]

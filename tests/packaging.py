@@ -8,18 +8,18 @@ part is skipped, and a line says so. With --all or CI=true that is a failure.
 
 from __future__ import annotations
 
+import argparse
 import os
 import pathlib
 import re
 import shutil
 import subprocess
-import sys
 import tempfile
 from collections.abc import Callable
 
 import packaging_install
 import packaging_prefixes
-from packaging_install import ROOT, Wrong, require
+from harness import ROOT, Failed, fail, require, run
 
 # A line, and what is offered at its end.
 CASES = """\
@@ -54,7 +54,7 @@ bcs part registry.json Beta beta.hex --name .|.field
 bcs part registry.json Gamma gamma.hex --name ::|::On
 bcs part registry.json Gamma gamma.hex --base64 --name |
 bcs part registry.json Gamma bad.json --name |
-bcs part registry.json Gamma gamma.hex --ra|--raw
+bcs part registry.json Gamma gamma.hex --ra|--range --raw
 bcs decode --lines --refusals |json
 bcs explain --color=al|always
 bcs explain --color reg|registry.json
@@ -108,15 +108,6 @@ zle -N finish && bindkey '^X' finish
 """
 
 
-def output(command: list[str | pathlib.Path], environment: dict[str, str] | None = None) -> str:
-    """What a command prints. It has to succeed."""
-    ran = subprocess.run(
-        command, env=environment, stdin=subprocess.DEVNULL, stdout=subprocess.PIPE, text=True, encoding="utf-8"
-    )
-    require(ran.returncode == 0, f"{' '.join(map(str, command[:2]))} ends with {ran.returncode}")
-    return ran.stdout
-
-
 def one_line(text: str) -> str:
     return " ".join(text.split())
 
@@ -152,13 +143,13 @@ class Packaging:
 
     def help_lines(self) -> list[tuple[str, str]]:
         """The lines of the help, each with its command. Headings and indentation aren't in the manual."""
-        whole = output([self.program, "--help"])
+        whole = run(self.program, "--help")
         listed = re.search(r"^Commands:(.*?)\n\n", whole, flags=re.M | re.S)
         commands = re.findall(r"^  ([a-z]+) ", listed[1], flags=re.M) if listed else []
         require(len(commands) > 1, "the help lists no commands")
         lines = []
         for command in ["", *(name for name in commands if name != "help")]:
-            text = output([self.program, *filter(None, [command]), "--help"])
+            text = run(self.program, *filter(None, [command]), "--help")
             text = re.sub(r"^[A-Z][a-z]*: ?", "", text, flags=re.M)
             lines += [(command, line) for line in re.split(r"\n *|  +", text) if line.strip()]
         return lines
@@ -166,7 +157,7 @@ class Packaging:
     def test_manual(self) -> bytes:
         """Returns the manual."""
         page = self.room / "bcs.1"
-        page.write_text(output([ROOT / "tools/packaging/manual.sh", self.program]), encoding="utf-8")
+        page.write_text(run(ROOT / "tools/packaging/manual.sh", self.program), encoding="utf-8")
         if self.has("man", "man-db"):
             environment = os.environ | {"LC_ALL": "C.UTF-8", "MANWIDTH": "10000"}
             ran = subprocess.run(
@@ -181,7 +172,7 @@ class Packaging:
             for command, line in self.help_lines():
                 require(one_line(line) in text, f"the manual hasn't what the help of bcs {command} says: {line}")
         if self.has("mandoc", "mandoc"):
-            output(["mandoc", "-T", "lint", "-W", "error", page])
+            run("mandoc", "-T", "lint", "-W", "error", page)
         print("packaging: the manual says what the help says")
         return page.read_bytes()
 
@@ -254,13 +245,13 @@ class Packaging:
         print(f"packaging: completions for {shell}: {len(CASES.splitlines())} lines")
 
 
-def main() -> int:
-    arguments = sys.argv[1:]
-    needs_all = "--all" in arguments or os.environ.get("CI") == "true"
-    names = [argument for argument in arguments if argument != "--all"]
-    if len(names) != 1:
-        sys.exit(__doc__)
-    program = pathlib.Path(names[0]).resolve()
+def main() -> None:
+    parser = argparse.ArgumentParser(description=__doc__, allow_abbrev=False)
+    parser.add_argument("--all", action="store_true")
+    parser.add_argument("program", type=pathlib.Path)
+    args = parser.parse_args()
+    needs_all = args.all or os.environ.get("CI") == "true"
+    program = args.program.resolve()
     with tempfile.TemporaryDirectory() as folder:
         room = pathlib.Path(folder).resolve()
         packaging = Packaging(program, room, needs_all)
@@ -276,11 +267,9 @@ def main() -> int:
             if packaging.has("busybox", "busybox-static"):
                 tools = packaging_install.test_busybox(program, room)
                 packaging_prefixes.test(program, room, str(tools / "sh"), variables={"PATH": str(tools)})
-        except (Wrong, subprocess.TimeoutExpired) as error:
-            print(f"packaging: FAILED: {error}")
-            return 1
-    return 0
+        except (Failed, subprocess.TimeoutExpired) as error:
+            fail(str(error))
 
 
 if __name__ == "__main__":
-    sys.exit(main())
+    main()

@@ -10,17 +10,9 @@ import shutil
 import subprocess
 from collections.abc import Mapping
 
-ROOT = pathlib.Path(__file__).resolve().parent.parent
+from harness import ROOT, require
+
 ESCAPE = "a\x1b[2Jb"
-
-
-class Wrong(Exception):
-    """A test failed."""
-
-
-def require(holds: bool, text: str) -> None:
-    if not holds:
-        raise Wrong(text)
 
 
 class Installer:
@@ -108,7 +100,7 @@ def test_installing(program: pathlib.Path, room: pathlib.Path, manual: bytes) ->
     require(files(place) == ["share/other", "share/zsh/site-functions/_bcs"], "--uninstall of a changed file")
     installer.fails("no record says that this script installed it", *to_place)
     installer.succeeds("--prefix", "/usr", "--no-record", variables={"DESTDIR": str(room / "staged")})
-    require(len(files(room / "staged")) == 6, "install with DESTDIR")
+    require(len(files(room / "staged")) == 7, "install with DESTDIR")
 
 
 def test_folders(program: pathlib.Path, room: pathlib.Path) -> None:
@@ -134,12 +126,12 @@ def test_parts(program: pathlib.Path, room: pathlib.Path) -> None:
     installer.succeeds("--library", "--prefix", str(place))
     require(installer.said == f"install: 12 files in {place}: {both}\n", f"install says: {installer.said!r}")
     installer.succeeds("--prefix", str(place), "--uninstall")
-    library = ["bcs.pc", "bcs.h", "libbcs.a", "libbcs.so.0", "libbcs_c.a", "installed"]
+    library = ["bcs.pc", "bcs.h", "libbcs.a", "libbcs.so.0", "installed"]
     require({pathlib.Path(name).name for name in files(place)} == {*library}, f"without the program: {files(place)}")
     installer.fails("none of this was installed", "--prefix", str(place), "--uninstall")
     installer.succeeds("--prefix", str(place))
     installer.succeeds("--prefix", str(place), "--uninstall", part="--library")
-    require(len(files(place)) == 7, f"without the library: {files(place)}")
+    require(len(files(place)) == 8, f"without the library: {files(place)}")
     installer.succeeds("--prefix", str(place), "--uninstall")
     require(not place.exists(), "--uninstall of the last part leaves the folder")
 
@@ -345,7 +337,7 @@ def test_busybox(program: pathlib.Path, room: pathlib.Path) -> pathlib.Path:
     others = snapshot(room / "by debian")
     for path, found in snapshot(place).items():
         other = room / "by debian" / path.relative_to(place)
-        is_of_its_own = path.name in ("bcs.pc", "bcs.1.gz", "installed")
+        is_of_its_own = path.name in ("bcs.pc", "bcs.1.gz", "bcs-registry.1.gz", "installed")
         require(is_of_its_own or found == others.get(other), f"busybox installs another {path.relative_to(place)}")
     require(files(place) == files(room / "by debian"), "busybox installs other files")
     installer.succeeds("--library", "--prefix", str(place), "--uninstall", variables={"PATH": str(tools)})

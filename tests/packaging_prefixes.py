@@ -7,7 +7,8 @@ import pathlib
 import shutil
 from collections.abc import Callable
 
-from packaging_install import Installer, Wrong, files, require, snapshot
+from harness import Failed, require
+from packaging_install import Installer, files, snapshot
 
 NOBODY = 65534
 # A command in PATH that replaces a folder by a link once its arguments name that folder or it runs there.
@@ -213,7 +214,7 @@ class Prefix:
         archive.symlink_to(self.victim / "file")
         link.unlink()
         link.mkdir()
-        (self.place / "lib/libbcs_c.a").unlink()
+        (self.place / "lib/pkgconfig/bcs.pc").unlink()
         before = snapshot(header, archive, link)
         for word in ["", "--uninstall"]:
             self.install(*filter(None, [word]))
@@ -221,7 +222,7 @@ class Prefix:
             require("changed" in said and all(f"'{path}'" in said for path in before), f"install {word} says: {said!r}")
             require(said.count("'") == 2 * len(before), f"install {word} names more than what has changed: {said!r}")
             require(snapshot(header, archive, link) == before, f"install {word} changes what somebody changed")
-            require((self.place / "lib/libbcs_c.a").exists() == (word == ""), f"install {word}: another file")
+            require((self.place / "lib/pkgconfig/bcs.pc").exists() == (word == ""), f"install {word}: another file")
         self.is_refused("you changed it and --uninstall left it; move it away")
         for path in before:
             path.rename(self.room / path.name)
@@ -250,8 +251,8 @@ def test(program: pathlib.Path, room: pathlib.Path, *shell: str, variables: dict
         prefix = Prefix(program, folder, list(shell), variables)
         try:
             run(prefix)
-        except Wrong as error:
-            raise Wrong(f"{run.__name__}: {error}") from None
+        except Failed as error:
+            raise Failed(f"{run.__name__}: {error}") from None
     print(f"packaging: install writes nothing outside of {len(tests)} hostile prefixes{' by busybox' if shell else ''}")
 
 

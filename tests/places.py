@@ -2,8 +2,8 @@
 """Tests that finding the place of a refusal, and explaining bytes, costs no more than reading them: places.py BCS.
 
 Each job is refused at the end of a large input, or prints a large value. It must end with the status, the output and
-the line on standard error that docs/FORMAT.md gives it, within SECONDS of processor time. A job that takes much more is
-stopped.
+the line on standard error that docs/PROGRAM.md gives it, within SECONDS of processor time. A job that takes much more
+is stopped.
 """
 
 import json
@@ -14,6 +14,8 @@ import tempfile
 from collections.abc import Iterator
 from pathlib import Path
 from typing import NamedTuple
+
+from harness import arguments, report
 
 SECONDS = 2.0
 COUNT = 100_000
@@ -120,30 +122,35 @@ def near_jobs() -> Iterator[Job]:
     """Among 100,000 of the longest names that are compared, the first thousand lack a third of the word, and none is
     nearer."""
     names, word = [f"{number:05}".translate(OTHERS) * 4 + "a" * 44 for number in range(COUNT)], "a" * 64
-    told = f"called {word}; did you mean {names[0]}?"
+    yield from name_jobs("100,000", names, word, names[0])
+
+
+def name_jobs(some: str, names: list[str], word: str, nearest: str) -> Iterator[Job]:
+    """The word isn't one of the names."""
+    told = f"called {word}; did you mean {nearest}?"
     yield Job(
-        "100,000 fields near an unknown member",
+        f"{some} fields near an unknown member",
         [fields(names), "S"],
         members([*names, word]),
         "refused: UnknownField\n",
         f"at the whole text: UnknownField: no field is {told}\n",
     )
     yield Job(
-        "100,000 members near a missing field",
+        f"{some} members near a missing field",
         [fields([word]), "S"],
         members(names),
         "refused: MissingField\n",
-        f"at the whole text: MissingField: no member is called {word}; found: {names[0]}\n",
+        f"at the whole text: MissingField: no member is called {word}; found: {nearest}\n",
     )
     yield Job(
-        "100,000 variants near an unknown one",
+        f"{some} variants near an unknown one",
         [json.dumps({"E": {"ENUM": {str(number): {name: "UNIT"} for number, name in enumerate(names)}}}), "E"],
         f'"{word}"'.encode(),
         "refused: UnknownVariant\n",
         f"at the whole text: UnknownVariant: no variant is {told}\n",
     )
     yield Job(
-        "100,000 containers near an unknown one",
+        f"{some} containers near an unknown one",
         [json.dumps(dict.fromkeys(names, "UNITSTRUCT")), f'{{"TYPENAME":"{word}"}}'],
         b"null",
         "refused: UnknownName\n",
@@ -225,7 +232,7 @@ def bytes_jobs() -> Iterator[Job]:
         [enum({}), "E"],
         uleb(COUNT),
         "refused: UnknownVariant at 0\n",
-        f"at .: UnknownVariant: expected number of a variant; found {COUNT}{numbered}\n",
+        f"at .: UnknownVariant: expected the number of a variant; found {COUNT}{numbered}\n",
     )
     rising = uleb(COUNT) + b"".join(number.to_bytes(4) + b"\1" for number in range(LAST))
     of_numbers = '{"MAP":{"KEY":{"TUPLEARRAY":{"CONTENT":"U8","SIZE":4}},"VALUE":"BOOL"}}'
@@ -293,18 +300,15 @@ def wrong_table(program: str, form: str) -> str:
     return too_slow(name, done)
 
 
-def main(program: str) -> int:
+def main() -> int:
+    program = arguments(__doc__, "program").program
     told = [wrong_place(program, "encode", [], job) for job in [*text_jobs(), *near_jobs()]]
     told += [wrong_place(program, "check", [], job) for job in registry_jobs()]
     told += [wrong_place(program, "grows", [], job) for job in growth_jobs()]
     told += [wrong_place(program, "decode", ["--raw"], job) for job in bytes_jobs()]
     told += [wrong_table(program, form) for form in ["--no-color", "--paths", "--tree", "--json"]]
-    failed = [wrong for wrong in told if wrong]
-    for wrong in failed:
-        print(f"places: FAILED: {wrong}")
-    print(f"places: {len(told) - len(failed)} passed, {len(failed)} failed")
-    return int(bool(failed))
+    return report(len(told), [wrong for wrong in told if wrong])
 
 
 if __name__ == "__main__":
-    sys.exit(main(sys.argv[1]))
+    sys.exit(main())

@@ -1,5 +1,5 @@
 #!/usr/bin/env python3
-"""Tests what a table of rows can't: many lines, deep registries, memory and time, and the examples of the README.
+"""Tests what a table of rows can't: many lines, deep registries, memory and time.
 
     tests/program.py [FOLDER]
 
@@ -10,15 +10,14 @@ logic of the toolchain that is installed here.
 import json
 import os
 import pathlib
-import re
 import resource
 import subprocess
 import sys
 import tempfile
 from concurrent.futures import ThreadPoolExecutor
-from typing import NoReturn
 
-ROOT = pathlib.Path(__file__).resolve().parent.parent
+from harness import ROOT, end_with, fail, passed, program_in_folder, run
+
 COUNT = 10_000
 STACK = 8 << 20
 # Of the containers in examples/. Fewer mean that a registry wasn't read.
@@ -28,20 +27,8 @@ LEVELS = 32
 FORMS: list[list[str]] = [[], ["--full"]]
 
 
-def fail(what: str) -> NoReturn:
-    sys.exit(f"program: FAILED: {what}")
-
-
-def passed(what: str) -> None:
-    print(f"program: {what}", flush=True)
-
-
 def set_stack() -> None:
     resource.setrlimit(resource.RLIMIT_STACK, (STACK, STACK))
-
-
-def output_of(*command: str | pathlib.Path) -> str:
-    return subprocess.run(command, stdout=subprocess.PIPE, encoding="utf-8", check=True).stdout
 
 
 class Program:
@@ -65,7 +52,7 @@ class Program:
             fail(f"{' '.join(words)[:300]}: status {ended.returncode}, {ended.stdout[:300]}")
 
     def check_version(self) -> None:
-        said, kit = self.run("--version").stdout.rstrip("\n"), output_of("rt", "version").rstrip("\n")
+        said, kit = self.run("--version").stdout.rstrip("\n"), run("rt", "version").rstrip("\n")
         if said.partition("proved with Rattle ")[2] != kit.partition(" ")[2]:
             fail(f"it says '{said}', and the toolchain is {kit}")
         passed(said)
@@ -112,7 +99,7 @@ class Program:
                 fail(what)
 
     def check_many_containers(self) -> None:
-        made = output_of(sys.executable, "bench/many_containers.py")
+        made = run(sys.executable, "bench/many_containers.py")
         if made != pathlib.Path("examples/many_containers.json").read_text(encoding="utf-8"):
             fail("examples/many_containers.json isn't what its script prints")
         self.expect(["check", "examples/many_containers.json"], 0, ["ok 400"])
@@ -163,20 +150,8 @@ def deep_registry() -> str:
     return json.dumps(containers)
 
 
-def check_embedding() -> None:
-    """The example of Rattle in docs/EMBEDDING.md is the program `example_library`."""
-    page = pathlib.Path("docs/EMBEDDING.md").read_text(encoding="utf-8").partition("\n## Rattle\n")[2]
-    block = re.search(r"^```rust\n(.*?)^```$", page, re.M | re.S)
-    source = re.search(r"^use .*", pathlib.Path("crates/example_library/src/main.rt").read_text("utf-8"), re.M | re.S)
-    if not block or not source or block[1] != source[0]:
-        fail("the example of Rattle in docs/EMBEDDING.md isn't crates/example_library/src/main.rt")
-    passed("the example of Rattle in docs/EMBEDDING.md is crates/example_library/src/main.rt")
-
-
-def main(folder: str) -> None:
-    path = pathlib.Path(folder).resolve() / "bcs"
-    if not os.access(path, os.X_OK):
-        fail(f"{path} isn't a program")
+def main() -> None:
+    path = program_in_folder(__doc__)
     os.chdir(ROOT)
     with tempfile.TemporaryDirectory() as room:
         program = Program(path, pathlib.Path(room))
@@ -185,10 +160,9 @@ def main(folder: str) -> None:
         program.check_output()
         program.check_costs()
         program.check_many_containers()
-        check_embedding()
         program.check_deep_examples()
         program.check_examples()
 
 
 if __name__ == "__main__":
-    main(sys.argv[1] if len(sys.argv) > 1 else str(ROOT / "crates/bcs/out"))
+    end_with(main)

@@ -9,9 +9,10 @@ from __future__ import annotations
 import os
 import pathlib
 import subprocess
-import sys
 import tempfile
 from typing import IO
+
+from harness import arguments, fail, passed
 
 MANY = 1 << 20
 FORMAT = '{"SEQ":{"OPTION":"U8"}}'
@@ -34,7 +35,7 @@ def calls(program: str, words: list[str], source: pathlib.Path | None, wanted: s
     counts = pathlib.Path(f"/proc/{process.pid}/io").read_text(encoding="ascii").splitlines()
     answer, _ = process.communicate()
     if (process.returncode, answer) != (0, wanted):
-        sys.exit(f"reading: FAILED: {words}: status {process.returncode}, {answer!r}")
+        fail(f"{words}: status {process.returncode}, {answer!r}")
     return int(dict(line.split(": ") for line in counts)["syscr"])
 
 
@@ -52,9 +53,7 @@ def is_left(program: str, value: bytes, rest: bytes) -> bool:
 
 
 def main() -> None:
-    if len(sys.argv) != 2:
-        sys.exit(__doc__)
-    program = sys.argv[1]
+    program = arguments(__doc__, "program").program
     value = length(MANY) + bytes(MANY)
     most = len(value) // BLOCK + 1 + START
     with tempfile.TemporaryDirectory() as room:
@@ -64,10 +63,10 @@ def main() -> None:
         for words, source in [(job, file), ([*job, str(file)], None)]:
             found = calls(program, words, source, f"ok {len(value)}\n")
             if found > most:
-                sys.exit(f"reading: FAILED: {words}: {found} calls read {len(value)} bytes, and at most {most} may")
+                fail(f"{words}: {found} calls read {len(value)} bytes, and at most {most} may")
     if not is_left(program, length(1000) + bytes(1000), bytes(range(100))):
-        sys.exit("reading: FAILED: scan --front doesn't leave the bytes after the value")
-    print(f"reading: {len(value)} options by at most {most} calls; --front leaves what follows")
+        fail("scan --front doesn't leave the bytes after the value")
+    passed(f"{len(value)} options by at most {most} calls; --front leaves what follows")
 
 
 if __name__ == "__main__":

@@ -4,7 +4,7 @@
 
 tests/schema.sh runs this. First it tries all integers at which some rule changes, in all spellings, and hexadecimal for
 a few bytes. Then it tries COUNT random documents, for random registries and formats: values in all spellings, and the
-same with one or two changes. `bcs encode` and the validator check each document. docs/FORMAT.md says which rules a
+same with one or two changes. `bcs encode` and the validator check each document. docs/JSON.md says which rules a
 schema can't express: a document that breaks one of these may pass the validator, if the refusal has the name of such a
 rule. Each schema is also checked against the schema of schemas.
 """
@@ -15,8 +15,9 @@ import sys
 from collections import Counter
 from collections.abc import Iterator
 from random import Random
-from typing import Any, NamedTuple
+from typing import Any, NamedTuple, NoReturn
 
+from harness import arguments, fail
 from jsonschema import Draft202012Validator, RefResolutionError, SchemaError
 
 # What the schema has to refuse.
@@ -291,8 +292,8 @@ class Asked(NamedTuple):
     texts: list[str]
 
 
-def fail(asked: Asked, what: str) -> None:
-    sys.exit(f"schema: FAILED: {what}\nat the registry {asked.registry}\nand the format {asked.format} {asked.options}")
+def fail_at(asked: Asked, what: str) -> NoReturn:
+    fail(f"{what}\nat the registry {asked.registry}\nand the format {asked.format} {asked.options}")
 
 
 def run(program: str, *words: str, given: str = "") -> str:
@@ -300,7 +301,7 @@ def run(program: str, *words: str, given: str = "") -> str:
         [program, *words], input=given, capture_output=True, text=True, encoding="utf-8", check=False
     )
     if answer.returncode not in (0, 2):
-        sys.exit(f"schema: FAILED: bcs {words}: status {answer.returncode}: {answer.stderr[-500:]}")
+        fail(f"bcs {words}: status {answer.returncode}: {answer.stderr[-500:]}")
     return answer.stdout
 
 
@@ -327,13 +328,13 @@ def judge(asked: Asked, validator: Any, text: str, answer: str) -> str:
     if verdict in UNSAID_FIRST:
         return verdict
     if verdict not in SAID | UNSAID_LAST | {"taken"}:
-        fail(asked, f"the text {text} is answered {answer}")
+        fail_at(asked, f"the text {text} is answered {answer}")
     exact, plain = readings(text)
     wanted = verdict not in SAID
     if validator.is_valid(exact) != wanted:
-        fail(asked, f"the text {text} is {verdict}, and the schema {'takes' if not wanted else 'refuses'} it")
+        fail_at(asked, f"the text {text} is {verdict}, and the schema {'takes' if not wanted else 'refuses'} it")
     if validator.is_valid(plain) != wanted and not (verdict == "BadNumber" and is_named_float(text)):
-        fail(asked, f"the text {text} is {verdict}, and the schema differs by more than a float")
+        fail_at(asked, f"the text {text} is {verdict}, and the schema differs by more than a float")
     return verdict
 
 
@@ -348,7 +349,7 @@ def judge_all(program: str, asked: Asked) -> Iterator[str]:
         for text, answer in zip(asked.texts, answers, strict=True):
             yield judge(asked, validator, text, answer)
     except (SchemaError, RefResolutionError) as error:
-        fail(asked, f"the schema is none: {error.args[0]}")
+        fail_at(asked, f"the schema is none: {error.args[0]}")
 
 
 def digits_changed(number: int) -> Iterator[str]:
@@ -397,10 +398,11 @@ def main(program: str, count: int, seed: int) -> None:
         verdicts.update(judge_all(program, random_ones(random, min(count - begin, TEXTS_OF_ONE))))
     missing = (SAID | UNSAID_LAST | UNSAID_FIRST | {"taken"}) - set(verdicts)
     if missing and count >= 5000:
-        sys.exit(f"schema: FAILED: no text is {', '.join(sorted(missing))}")
+        fail(f"no text is {', '.join(sorted(missing))}")
     told = ", ".join(f"{verdict} {many}" for verdict, many in verdicts.most_common())
     print(f"schema: {verdicts.total()} texts, as the schemas say: {told}")
 
 
 if __name__ == "__main__":
-    main(sys.argv[1], int(sys.argv[2]), int(sys.argv[3]))
+    args = arguments(__doc__, "program", count=5000, seed=1)
+    main(args.program, args.count, args.seed)

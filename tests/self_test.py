@@ -7,11 +7,10 @@ import pathlib
 import re
 import shlex
 import subprocess
-import sys
 import tempfile
-from typing import NamedTuple, NoReturn
+from typing import NamedTuple
 
-ROOT = pathlib.Path(__file__).resolve().parent.parent
+from harness import ROOT, arguments, fail, passed
 
 
 class Planted(NamedTuple):
@@ -62,7 +61,7 @@ def find_planted(planted: Planted, program: str, room: pathlib.Path) -> None:
         fail(f"{planted.name}: {last}")
     if "FAILED" not in ended.stdout:
         fail(f"{planted.name}: nothing says what failed")
-    print(f"test: {planted.name} is found: {last}", flush=True)
+    passed(f"{planted.name} is found: {last}")
 
 
 def find_wrong_table(program: str, room: pathlib.Path) -> None:
@@ -78,14 +77,11 @@ def find_wrong_table(program: str, room: pathlib.Path) -> None:
         fail("a wrong table passes")
     if not re.fullmatch(rf"rows: [1-9]\d* passed, {len(WRONG_ANSWERS)} failed", last):
         fail(f"a wrong table: {last}")
-    print(f"test: {len(WRONG_ANSWERS)} wrong answers of a table are found", flush=True)
+    passed(f"{len(WRONG_ANSWERS)} wrong answers of a table are found")
 
 
-def fail(what: str) -> NoReturn:
-    sys.exit(f"test: {what}")
-
-
-def main(program: str) -> None:
+def main() -> None:
+    program = arguments(__doc__, "program").program
     with tempfile.TemporaryDirectory() as room:
         find_wrong_table(program, pathlib.Path(room))
         for planted in PLANTED:
@@ -93,4 +89,4 @@ def main(program: str) -> None:
 
 
 if __name__ == "__main__":
-    main(sys.argv[1])
+    main()

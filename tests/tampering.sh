@@ -173,7 +173,7 @@ tracks() {
 
 test_ignored_files() {
     local name
-    for name in out/proved crates/bcs/out/bcs bindings/web/out/deep/er/file tests/__pycache__/built.cpython-311.pyc Out/x; do
+    for name in out/proved crates/bcs/out/bcs bindings/web/out/deep/er/file tests/__pycache__/test_command.cpython-311.pyc Out/x; do
         tracks "$name"
     done
     ln -s crates out2

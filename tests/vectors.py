@@ -22,7 +22,7 @@ from collections.abc import Callable
 import debian
 import vectors_bugs as bugs
 import vectors_consumers as consumers
-from trials import ROOT, Failed, clean_up_on_sigterm, processor_seconds, run
+from harness import ROOT, Failed, clean_up_on_sigterm, processor_seconds, run
 
 # Processor seconds for the planted bugs and the changed registries, and for the lines of a registry of 400 containers.
 MOST_SECONDS, MOST_SECONDS_OF_400 = 120, 5

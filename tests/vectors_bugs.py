@@ -11,7 +11,7 @@ import subprocess
 from collections.abc import Callable
 from typing import NamedTuple
 
-from trials import ROOT, Failed, Word, run
+from harness import ROOT, Failed, Word, run
 
 CODECS = ROOT / "tests/codecs"
 # A codec with a bug may never come to an end, or take all memory.

@@ -1,4 +1,4 @@
-"""The part of tests/vectors.py that runs the consumers of docs/VECTORS.md: each in its language, over a codec of that
+"""The part of tests/vectors.py that runs the consumers in examples/vectors: each in its language, over a codec of that
 language. They have to pass with the right lines, and to fail if one line is wrong."""
 
 from __future__ import annotations
@@ -6,11 +6,13 @@ from __future__ import annotations
 import json
 import pathlib
 import re
+
 from typing import NamedTuple
 
-from trials import ROOT, Failed, Variables, Word, ran, require_same, run
+from harness import ROOT, Failed, Variables, Word, ran, require_same, run
 
 PAGE = ROOT / "docs/VECTORS.md"
+PROGRAMS = ROOT / "examples/vectors"
 CODECS = ROOT / "tests/codecs"
 # What stands for the types of a user.
 SDK = CODECS / "sdk"
@@ -31,7 +33,7 @@ serde_json = "1"
 
 
 class Consumer(NamedTuple):
-    """A program of the page: the files beside it, its own name, where the lines are, and what runs and compiles it."""
+    """A program in examples/vectors: the files beside it, its name, where its lines are, what compiles and runs it."""
 
     language: str
     files: dict[str, str | pathlib.Path]
@@ -103,16 +105,6 @@ def all_of(libraries: pathlib.Path) -> list[Consumer]:
     ]
 
 
-def block(language: str) -> str:
-    """The one block of the page in a language that reads vectors.jsonl, or the one for Hypothesis."""
-    kind, word = ("python", "from hypothesis") if language == "hypothesis" else (language, "vectors.jsonl")
-    blocks = re.findall(rf"^```{kind}\n(.*?)^```$", PAGE.read_text(encoding="utf-8"), flags=re.M | re.S)
-    found = [text for text in blocks if word in text]
-    if len(found) != 1:
-        raise Failed(f"docs/VECTORS.md has {len(found)} consumers in {language}, and not one")
-    return str(found[0])
-
-
 def wrong(lines: list[str]) -> list[tuple[str, list[str]]]:
     """Lines of which one is wrong: accepted and refused bytes changed, and no lines at all."""
     accepted = next(index for index, line in enumerate(lines) if '"json"' in line and '"bytes":"0' in line)
@@ -144,7 +136,8 @@ def write(folder: pathlib.Path, files: dict[str, str | pathlib.Path]) -> None:
 
 
 def require_right(consumer: Consumer, room: pathlib.Path, vectors: pathlib.Path) -> str:
-    folder, program = room / consumer.language, block(consumer.language)
+    folder = room / consumer.language
+    program = (PROGRAMS / pathlib.PurePath(consumer.program).name).read_text(encoding="utf-8")
     write(folder, {**consumer.files, consumer.program: program, consumer.lines or "no_lines": ""})
     if consumer.compiler:
         run(*consumer.compiler, folder=folder)

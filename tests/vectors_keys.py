@@ -8,7 +8,7 @@ import sys
 import types
 from typing import Any, NamedTuple
 
-from trials import ROOT, Failed
+from harness import ROOT, Failed
 from vectors_bugs import CODECS, Bug, planted
 
 sys.path[:0] = [str(CODECS), str(ROOT / "bindings/python")]

@@ -9,7 +9,7 @@ import sys
 from collections.abc import Iterator
 from typing import Any
 
-from trials import ROOT, Failed
+from harness import ROOT, Failed
 
 sys.path[:0] = [str(ROOT / "tests/codecs"), str(ROOT / "bindings/python")]
 import check  # noqa: E402 (the folders have to be known first)

@@ -26,6 +26,7 @@ from __future__ import annotations
 import hashlib
 import pathlib
 import sys
+from collections.abc import Iterator
 
 sys.dont_write_bytecode = True
 sys.path.insert(0, str(pathlib.Path(__file__).resolve().parent.parent / "tools/packaging"))
@@ -41,14 +42,12 @@ import rust_crate  # noqa: E402
 import tarball  # noqa: E402
 
 
-def made() -> dict[str, bytes]:
-    """All packages, by their names."""
+def made() -> Iterator[tuple[str, bytes]]:
+    """The packages with their names, each as soon as it is made, and their checksums last."""
     bill = bill_of_materials.make()
-    packages = {f"bcs-{facts.version()}.spdx.json": bill.data}
+    yield f"bcs-{facts.version()}.spdx.json", bill.data
     for kind in [debian_packages, python_wheel, python_sdist, node_package, rust_crate, go_module, c_package, tarball]:
-        packages |= kind.make(bill)
-    sums = [f"{hashlib.sha256(packages[name]).hexdigest()}  {name}\n" for name in sorted(packages)]
-    return packages | {"SHA256SUMS": "".join(sums).encode()}
+        yield from kind.make(bill).items()
 
 
 def main() -> None:
@@ -57,9 +56,16 @@ def main() -> None:
     facts.require_dist()
     folder = pathlib.Path(sys.argv[1])
     folder.mkdir(parents=True, exist_ok=True)
-    for name, data in made().items():
+    # An older file would vouch for packages that are not there yet.
+    sums = folder / "SHA256SUMS"
+    sums.unlink(missing_ok=True)
+    lines: list[str] = []
+    for name, data in made():
         (folder / name).write_bytes(data)
-        print(f"{len(data):9} {folder / name}")
+        lines.append(f"{hashlib.sha256(data).hexdigest()}  {name}\n")
+        print(f"{len(data):9} {folder / name}", flush=True)
+    sums.write_text("".join(sorted(lines, key=lambda line: line[66:])), encoding="ascii")
+    print(f"{sums.stat().st_size:9} {sums}")
 
 
 if __name__ == "__main__":

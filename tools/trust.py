@@ -209,6 +209,10 @@ def definitions_table() -> list[str]:
     ]
 
 
+# the objects of the static library
+LIBRARY = {"bcs_c.o": "the proved part of the library", "library.o": "the C around it", "heap.o": "its heap"}
+
+
 def symbols(file: str, options: list[str]) -> Iterator[tuple[str, str, str]]:
     """Of each symbol of a file of dist/, the member of the archive that names it, its kind and its name."""
     ran = subprocess.run(
@@ -227,7 +231,7 @@ def system_table() -> list[str]:
     """One row for each object file: the names that no other object of the same file defines."""
     files: list[tuple[str, list[str], dict[str, str]]] = [
         ("bcs", ["-D"], {"bcs": "the program"}),
-        ("libbcs_c.a", [], {"bcs_c.o": "the proved part of the library", "library.o": "the C around it"}),
+        ("libbcs.a", [], LIBRARY),
     ]
     rows = ["| File | C functions and variables that it asks for |", "|---|---|"]
     for file, options, titles in files:

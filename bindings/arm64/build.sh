@@ -1,6 +1,6 @@
 #!/bin/sh
-# bindings/arm64/build.sh [--code FILE] [--program-code FILE] FOLDER: makes the program bcs and the C libraries libbcs.a,
-# libbcs.so and libbcs_c.a in FOLDER, for Linux on arm64. The files are the LLVM modules of the proved code of the library and of
+# bindings/arm64/build.sh [--code FILE] [--program-code FILE] FOLDER: makes the program bcs and the C libraries libbcs.a and
+# libbcs.so in FOLDER, for Linux on arm64. The files are the LLVM modules of the proved code of the library and of
 # the program, as `tools/proved_code.py` makes them with `--module` and `--program-module`. If you don't name one, that is done
 # first. All tools come from the toolchain, and no header, start file or library comes from the machine, so the files are the
 # same on every machine.
@@ -95,19 +95,19 @@ make_program() {
         "$room/start.o" "$room/linux.o" "$room/program_heap.o" "$room/statx.o" "$room/program.o"
 }
 
-# A few lines of C under the name of each proved call that returns an answer lead to that call. Each static library except
-# libbcs_c.a is one object, so that it exports only the header's calls.
+# A few lines of C under the name of each proved call that returns an answer lead to that call. The heap is an object of its own in
+# the static library, so whoever defines its functions replaces it.
 make_libraries() {
     retarget "$module" "$room/code.o"
     "$here/shims.py" "$room"
     tool llvm-objcopy --redefine-syms="$room/symbols" "$room/code.o"
     compile_c "$room/shims.c"
     tool ld.lld -m aarch64linux -r "$room/code.o" "$room/shims.o" -o "$room/bcs_c.o"
-    tool ld.lld -m aarch64linux -r "$room/bcs_c.o" "$room/library.o" "$room/heap.o" "$room/static.o" -o "$room/bcs.o"
-    tool llvm-objcopy --wildcard --keep-global-symbol='bcs_*' --localize-symbol='bcs_c_*' --strip-unneeded "$room/bcs.o"
-    rm -f "$folder/libbcs.a" "$folder/libbcs_c.a"
-    tool llvm-ar rcs "$folder/libbcs.a" "$room/bcs.o"
-    tool llvm-ar rcs "$folder/libbcs_c.a" "$room/bcs_c.o" "$room/library.o"
+    tool llvm-objcopy --wildcard --keep-global-symbol='bcs_c_*' --strip-unneeded "$room/bcs_c.o"
+    mkdir "$room/static"
+    tool ld.lld -m aarch64linux -r "$room/heap.o" "$room/static.o" -o "$room/static/heap.o"
+    rm -f "$folder/libbcs.a"
+    tool llvm-ar rcs "$folder/libbcs.a" "$room/bcs_c.o" "$room/library.o" "$room/static/heap.o"
     link "$folder/libbcs.so" -shared -soname libbcs.so.0 --version-script "$root/bindings/c/libbcs.map" \
         "$room/bcs_c.o" "$room/library.o" "$room/heap.o"
 }

@@ -14,15 +14,13 @@ Makes the C library, and installs it with its header:
     FOLDER/include/bcs.h
     FOLDER/lib/libbcs.a            for static linking
     FOLDER/lib/libbcs.so           for dynamic linking, a link to libbcs.so.0
-    FOLDER/lib/libbcs_c.a          the same without a heap, for one of your own
     FOLDER/lib/pkgconfig/bcs.pc    for pkg-config
 
 Options:
     --prefix FOLDER    where to install (default: bindings/c/out)
-    --archive FILE     the proved archive, or a libbcs_c.a that was made from it (default: crates/bcs_c/out/libbcs_c.a, which
+    --archive FILE     the proved archive, or a libbcs.a that was made from it (default: crates/bcs_c/out/libbcs_c.a, which
                        `rt lib` proves and builds if it is missing or older than its sources)
-    --from FOLDER      a folder with libbcs.a, libbcs.so and libbcs_c.a to install, such as dist/x86_64-linux; nothing is
-                       compiled then
+    --from FOLDER      a folder with libbcs.a and libbcs.so to install, such as dist/x86_64-linux; nothing is compiled then
     --help             prints this text
 
 The variable CC names the compiler (default: cc). The code is for Linux on processors of the level x86-64-v2: Intel's since
@@ -93,7 +91,7 @@ compiler() {
 check_tools() {
     # shellcheck disable=SC2086
     set -- ${CC:-cc}
-    for tool in "$1" ar ld objcopy; do
+    for tool in "$1" ar ld; do
         command -v "$tool" >/dev/null || fail "command not found: $tool; on Debian: apt-get install gcc libc6-dev"
     done
 }
@@ -104,27 +102,28 @@ compile() {
     for source in library heap static; do
         compiler -std=c11 -O2 -fPIC -Wall -Wextra -c "$here/$source.c" -o "$room/$source.o"
     done
-    cp "$archive" "$room/libbcs_c.a"
-    ar d "$room/libbcs_c.a" library.o
-    ar rcs "$room/libbcs_c.a" "$room/library.o"
+    cp "$archive" "$room/proved.a"
+    ar d "$room/proved.a" library.o heap.o
 
-    # The static library is one object, so that it exports only the header's calls.
-    ld -r --whole-archive "$room/libbcs_c.a" --no-whole-archive "$room/heap.o" "$room/static.o" -o "$room/bcs.o"
-    objcopy --wildcard --keep-global-symbol='bcs_*' --localize-symbol='bcs_c_*' "$room/bcs.o"
-    ar rcs "$room/libbcs.a" "$room/bcs.o"
+    # The heap is an object of its own, so whoever defines its functions replaces it.
+    mkdir "$room/static"
+    ld -r "$room/heap.o" "$room/static.o" -o "$room/static/heap.o"
+    cp "$room/proved.a" "$room/libbcs.a"
+    ar rcs "$room/libbcs.a" "$room/library.o" "$room/static/heap.o"
 
     # The mark of the level lets the loader reject an older processor. A linker from before 2021 can't set it, and warns or fails.
     level=-Wl,-z,x86-64-v2
     compiler -shared "$level" "$room/heap.o" -o "$room/trial.so" >"$room/warnings" 2>&1 && [ ! -s "$room/warnings" ] || level=
     compiler -shared -Wl,-soname,libbcs.so.0 -Wl,--version-script="$here/libbcs.map" -Wl,-z,defs,-z,relro,-z,now \
-        ${level:+"$level"} -Wl,--whole-archive "$room/libbcs_c.a" -Wl,--no-whole-archive "$room/heap.o" -o "$room/libbcs.so"
+        ${level:+"$level"} -Wl,--whole-archive "$room/proved.a" -Wl,--no-whole-archive "$room/library.o" "$room/heap.o" \
+        -o "$room/libbcs.so"
 }
 
 if [ -z "$from" ]; then
     find_archive
     compile
 else
-    cp "$from"/libbcs.a "$from"/libbcs.so "$from"/libbcs_c.a "$room" || fail "not all libraries are in $from"
+    cp "$from"/libbcs.a "$from"/libbcs.so "$room" || fail "not all libraries are in $from"
 fi
 mkdir -p "$prefix/include" "$prefix/lib/pkgconfig" || fail "can't create the folder $prefix"
 prefix=$(cd "$prefix" && pwd)
@@ -132,7 +131,7 @@ prefix=$(cd "$prefix" && pwd)
 "$root/tools/packaging/pkg_config.sh" "$prefix" >"$room/bcs.pc"
 
 install -m 644 "$here/include/bcs.h" "$prefix/include/"
-install -m 644 "$room/libbcs.a" "$room/libbcs_c.a" "$prefix/lib/"
+install -m 644 "$room/libbcs.a" "$prefix/lib/"
 install -m 755 "$room/libbcs.so" "$prefix/lib/libbcs.so.0"
 ln -sfn libbcs.so.0 "$prefix/lib/libbcs.so"
 install -m 644 "$room/bcs.pc" "$prefix/lib/pkgconfig/"

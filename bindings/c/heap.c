@@ -1,7 +1,7 @@
 /* The heap of the proved code, over malloc. The proved archive leaves these three functions open, and their contracts are
    in the toolchain's libc/src/heap.rt: an alignment divides 16, which malloc gives on a 64-bit machine, and a length is
    below 2 to the 63. A handle keeps blocks that its calls have taken, until a later call or bcs_close frees them, so they
-   must outlive the call. To take memory from elsewhere, define the three yourself and link libbcs_c.a in the place of libbcs.a. */
+   must outlive the call. To take memory from elsewhere, define the three yourself: they replace these of libbcs.a. */
 #include <stdbool.h>
 #include <stddef.h>
 #include <stdlib.h>

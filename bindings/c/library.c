@@ -150,6 +150,9 @@ enum need {
     TEXT_CONTAINER = ON(1360, 1168),    /* reading or printing the JSON of a value: for each open container (1010; 1168) */
     NESTING_CONTAINER = ON(1024, 848),  /* and for each one that nests in the JSON (730; 880) */
     TEXT_LEVEL = ON(1936, 1536),        /* and for each level, as long as that nests (1330; 1680) */
+    INSIDE = ON(56 << 10, 48 << 10),    /* explaining byte strings in a value, with up to 32 levels of their formats (38900) */
+    INSIDE_STEP = ON(7 << 10, 6 << 10), /* and for each byte string that such a byte string is in (5280) */
+    MODULES = ON(192 << 10, 144 << 10), /* reading any modules of a Move chain, and any types (117080) */
 };
 
 #define MOST_LEVELS 32
@@ -356,10 +359,10 @@ static bool fit_depth(bcs_c_handle_ask *ask, size_t left, struct shape registry)
     return true;
 }
 
-/* Begins a call on a handle or, if that is NULL, on the text of a registry. */
+/* Begins a call on a handle or, if that is NULL, on the text of a registry. It leaves `spare` bytes of stack. */
 static bcs_answer begin(struct use *use, bcs_handle *handle, const uint8_t *registry, size_t registry_length,
-                        const bcs_c_handle_ask *ask) {
-    const size_t left = stack_left();
+                        const bcs_c_handle_ask *ask, size_t spare) {
+    const size_t whole = stack_left(), left = whole > spare ? whole - spare : 0;
     use->slot = NULL;
     use->own.registry = NULL;
     use->proved = &use->own;
@@ -410,7 +413,7 @@ static bcs_answer code_if_lowered(struct use *use, const uint8_t *text, size_t t
     return use->is_lowered ? bcs_c_handle_to_bcs(use->proved, &use->ask, text, text_length, NULL, 0) : plain(BCS_DONE);
 }
 
-/* The next five write about a refusal. If the depth was lowered, they first make sure that it isn't TooDeep; if it is, or if
+/* The next six write about a refusal. If the depth was lowered, they first make sure that it isn't TooDeep; if it is, or if
    memory or stack ran out on the way, that is their answer. */
 static bcs_answer explain(struct use *use, uint32_t form, const uint8_t *bytes, size_t bytes_length, uint8_t *out,
                           size_t out_length) {
@@ -418,6 +421,48 @@ static bcs_answer explain(struct use *use, uint32_t form, const uint8_t *bytes, 
     return is_final(scanned)
                ? scanned
                : bcs_c_handle_explain(use->proved, &use->ask, form, bytes, bytes_length, out, out_length);
+}
+
+#define STEP_INSIDE "[bcs]"
+#define MOST_STEPS_INSIDE 15
+
+/* What explaining byte strings needs, in addition to the value. A name of a view has one of these steps for each byte string that
+   the view's own is in. */
+static size_t need_inside(const uint8_t *views, size_t length) {
+    const size_t step = sizeof STEP_INSIDE - 1;
+    size_t steps = 0;
+    for (size_t at = 0; at + step <= length; at++) {
+        size_t same = 0;
+        while (same < step && views[at + same] == (uint8_t)STEP_INSIDE[same]) {
+            same++;
+        }
+        steps += same == step;
+    }
+    return length > 0 ? INSIDE + least(steps, MOST_STEPS_INSIDE) * INSIDE_STEP : 0;
+}
+
+/* At most how deep the JSON of a format in these lines nests. */
+static size_t most_nesting(const uint8_t *lines, size_t length) {
+    size_t opened = 0;
+    for (size_t at = 0; at < length && opened < MOST_NESTING_READ; at++) {
+        opened += lines[at] == '{' || lines[at] == '[';
+    }
+    return opened;
+}
+
+static bcs_answer explain_with(struct use *use, uint32_t form, const uint8_t *views, size_t views_length,
+                               const uint8_t *bytes, size_t bytes_length, uint8_t *out, size_t out_length) {
+    if (!fits_reading(use->left, most_nesting(views, views_length))) {
+        return plain(BCS_STACK);
+    }
+    /* Only the call itself knows whether a value inside is too deep. */
+    const bcs_answer tried = use->is_lowered
+                                 ? bcs_c_handle_explain_with(use->proved, &use->ask, form, views, views_length, bytes,
+                                                             bytes_length, NULL, 0)
+                                 : plain(BCS_DONE);
+    return is_final(tried) ? tried
+                           : bcs_c_handle_explain_with(use->proved, &use->ask, form, views, views_length, bytes,
+                                                       bytes_length, out, out_length);
 }
 
 static bcs_answer stop_place(struct use *use, uint32_t what, const uint8_t *bytes, size_t bytes_length, uint8_t *out,
@@ -470,12 +515,13 @@ static bcs_answer example(struct use *use, uint32_t form, const uint8_t *variant
         const bcs_answer begun = BEGUN;                                                                                \
         return begun.status == BCS_DONE ? end(&use, CALL) : begun;                                                     \
     }
-#define ON_THE_HANDLE handle != NULL ? begin(&use, handle, NULL, 0, &ask) : plain(BCS_CLOSED)
+#define ON_THE_HANDLE_WITH(spare) handle != NULL ? begin(&use, handle, NULL, 0, &ask, spare) : plain(BCS_CLOSED)
+#define ON_THE_HANDLE ON_THE_HANDLE_WITH(0)
 #define WITH_HANDLE(name, PARAMETERS, CALL)                                                                            \
     bcs_answer bcs_handle_##name(bcs_handle *handle, FORMAT_AND_LIMITS PARAMETERS) BODY(ON_THE_HANDLE, CALL)
 #define BOTH(name, PARAMETERS, CALL)                                                                                   \
     bcs_answer bcs_##name(const uint8_t *registry, size_t registry_length, FORMAT_AND_LIMITS PARAMETERS)               \
-        BODY(begin(&use, NULL, registry, registry_length, &ask), CALL)                                                 \
+        BODY(begin(&use, NULL, registry, registry_length, &ask, 0), CALL)                                                 \
     bcs_answer bcs_handle_##name(bcs_handle *handle, FORMAT_AND_LIMITS PARAMETERS) BODY(ON_THE_HANDLE, CALL)
 
 #define IF_READ(input, call) (can_read(use.left, input, input##_length) ? (call) : plain(BCS_STACK))
@@ -493,7 +539,12 @@ BOTH(scan, IN(bytes), bcs_c_handle_scan(use.proved, &use.ask, bytes, bytes_lengt
 BOTH(part, IN(bytes) IN(path), bcs_c_handle_part(use.proved, &use.ask, bytes, bytes_length, path, path_length))
 WITH_HANDLE(part_named, NUMBER(notation) IN(name) IN(bytes),
             bcs_c_handle_part_named(use.proved, &use.ask, notation, name, name_length, bytes, bytes_length))
+WITH_HANDLE(content, NUMBER(notation) IN(name) IN(bytes),
+            bcs_c_handle_content(use.proved, &use.ask, notation, name, name_length, bytes, bytes_length))
 BOTH(explain, NUMBER(form) IN(bytes) OUT, explain(&use, form, bytes, bytes_length, out, out_length))
+bcs_answer bcs_handle_explain_with(bcs_handle *handle, FORMAT_AND_LIMITS NUMBER(form) IN(views) IN(bytes) OUT)
+    BODY(ON_THE_HANDLE_WITH(need_inside(views, views_length)),
+         explain_with(&use, form, views, views_length, bytes, bytes_length, out, out_length))
 BOTH(text_place, NUMBER(what) IN(text) OUT,
      IF_READ(text, text_place(&use, what, text, text_length, out, out_length)))
 BOTH(stop_place, NUMBER(what) IN(bytes) OUT, stop_place(&use, what, bytes, bytes_length, out, out_length))
@@ -506,7 +557,7 @@ bcs_answer bcs_handle_show(bcs_handle *handle, uint32_t form, const uint8_t *nam
                            size_t out_length) {
     const bcs_c_handle_ask ask = {NULL, 0, 0, 0};
     struct use use;
-    const bcs_answer begun = handle != NULL ? begin(&use, handle, NULL, 0, &ask) : plain(BCS_CLOSED);
+    const bcs_answer begun = handle != NULL ? begin(&use, handle, NULL, 0, &ask, 0) : plain(BCS_CLOSED);
     return begun.status == BCS_DONE
                ? end(&use, bcs_c_handle_show(use.proved, form, name, name_length, out, out_length))
                : begun;
@@ -550,6 +601,19 @@ bcs_answer bcs_growth_place(const uint8_t *older, size_t older_length, const uin
     return can_read_both(older, older_length, newer, newer_length)
                ? bcs_c_growth_place(older, older_length, newer, newer_length, out, out_length)
                : plain(BCS_STACK);
+}
+
+bcs_answer bcs_registry_of_modules(const uint8_t *modules, size_t modules_length, const uint8_t *types, size_t types_length,
+                                   uint8_t *out, size_t out_length) {
+    return stack_left() >= MODULES
+               ? bcs_c_registry_of_modules(modules, modules_length, types, types_length, out, out_length)
+               : plain(BCS_STACK);
+}
+
+bcs_answer bcs_modules_place(const uint8_t *modules, size_t modules_length, const uint8_t *types, size_t types_length,
+                             uint8_t *out, size_t out_length) {
+    return stack_left() >= MODULES ? bcs_c_modules_place(modules, modules_length, types, types_length, out, out_length)
+                                   : plain(BCS_STACK);
 }
 
 bcs_answer bcs_registry_place(uint32_t what, const uint8_t *registry, size_t registry_length, uint8_t *out,

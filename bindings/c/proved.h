@@ -40,8 +40,13 @@ bcs_answer bcs_c_handle_part(bcs_c_handle *handle, const bcs_c_handle_ask *ask, 
                              size_t bytes_length, const uint8_t *path, size_t path_length);
 bcs_answer bcs_c_handle_part_named(bcs_c_handle *handle, const bcs_c_handle_ask *ask, uint32_t notation,
                                    const uint8_t *name, size_t name_length, const uint8_t *bytes, size_t bytes_length);
+bcs_answer bcs_c_handle_content(bcs_c_handle *handle, const bcs_c_handle_ask *ask, uint32_t notation,
+                                const uint8_t *name, size_t name_length, const uint8_t *bytes, size_t bytes_length);
 bcs_answer bcs_c_handle_explain(bcs_c_handle *handle, const bcs_c_handle_ask *ask, uint32_t form, const uint8_t *bytes,
                                 size_t bytes_length, uint8_t *out, size_t out_length);
+bcs_answer bcs_c_handle_explain_with(bcs_c_handle *handle, const bcs_c_handle_ask *ask, uint32_t form,
+                                     const uint8_t *views, size_t views_length, const uint8_t *bytes,
+                                     size_t bytes_length, uint8_t *out, size_t out_length);
 bcs_answer bcs_c_handle_text_place(bcs_c_handle *handle, const bcs_c_handle_ask *ask, uint32_t what,
                                    const uint8_t *text, size_t text_length, uint8_t *out, size_t out_length);
 bcs_answer bcs_c_handle_stop_place(bcs_c_handle *handle, const bcs_c_handle_ask *ask, uint32_t what,
@@ -63,6 +68,10 @@ bcs_answer bcs_c_growth_list(const uint8_t *older, size_t older_length, const ui
                              uint8_t *out, size_t out_length);
 bcs_answer bcs_c_growth_place(const uint8_t *older, size_t older_length, const uint8_t *newer, size_t newer_length,
                               uint8_t *out, size_t out_length);
+bcs_answer bcs_c_registry_of_modules(const uint8_t *modules, size_t modules_length, const uint8_t *types,
+                                     size_t types_length, uint8_t *out, size_t out_length);
+bcs_answer bcs_c_modules_place(const uint8_t *modules, size_t modules_length, const uint8_t *types, size_t types_length,
+                               uint8_t *out, size_t out_length);
 bcs_answer bcs_c_fault_name(uint32_t fault, uint8_t *out, size_t out_length);
 
 #endif

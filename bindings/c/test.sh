@@ -36,7 +36,7 @@ run_sanitized() {
 
 # A second build makes the same files again, over those of the first.
 for time in first second; do
-    "$here/build.sh" --prefix "$room/again" --archive "$prefix/lib/libbcs_c.a" >"$room/log" || fail "build, the $time time"
+    "$here/build.sh" --prefix "$room/again" --archive "$prefix/lib/libbcs.a" >"$room/log" || fail "build, the $time time"
     [ -e "$room/once" ] || cp -a "$room/again" "$room/once"
     diff -r "$room/once" "$room/again" || fail "build makes another library the $time time"
 done
@@ -62,8 +62,8 @@ exports_the_header() {
     sed -n 's/.* \(bcs_.*\)@@BCS_0$/\1/p' "$room/nm" | sort | diff "$room/declared" - \
         || fail "the dynamic library in $1 doesn't export exactly the header's calls"
     nm -g --defined-only "$1/lib/libbcs.a" >"$room/nm"
-    sed -n 's/.* [A-Z] //p' "$room/nm" | sort | diff "$room/declared" - \
-        || fail "the static library in $1 doesn't export exactly the header's calls"
+    sed -n 's/.* [A-Z] //p' "$room/nm" | grep -Evx 'bcs_c_[a-z_]*|rattle_(alloc|realloc|dealloc)' | sort \
+        | diff "$room/declared" - || fail "the static library in $1 doesn't export exactly the header's calls"
     readelf -d "$1/lib/libbcs.so" | grep -q 'soname: \[libbcs.so.0\]' || fail "the library in $1 has no soname"
     readelf -n "$1/lib/libbcs.so" | grep -q 'x86 ISA needed: x86-64-v2' || fail "the library in $1 isn't marked"
 }
@@ -110,17 +110,17 @@ for name in calls refusals handles places documents beside; do
 done
 echo "c: all calls, with texts and on handles, and each status and fault, under the sanitizers of addresses and undefined behaviour"
 
-# The layer over the proved code is compiled for a sanitizer only here. It takes precedence over the one in libbcs_c.a.
-run_sanitized calls libbcs_c.a "$here/library.c" "$here/heap.c"
-run_sanitized memory libbcs_c.a "$here/library.c" >"$room/sweep"
+# The layer over the proved code is compiled for a sanitizer only here. It takes precedence over the one in libbcs.a.
+run_sanitized calls libbcs.a "$here/library.c" "$here/heap.c"
+run_sanitized memory libbcs.a "$here/library.c" >"$room/sweep"
 awk -F'[:,] ' '{ for (i = 2; i <= NF; i++) if ($i ~ / requests$/) { requests += $i; jobs++ } }
     END { print "c: " jobs " jobs with each of their " requests " requests for memory refused in turn"; exit !requests }' \
     "$room/sweep" || fail "memory.c prints no requests"
 run threads libbcs.a
-run threads libbcs_c.a -fsanitize=thread "$here/library.c" "$here/heap.c"
+run threads libbcs.a -fsanitize=thread "$here/library.c" "$here/heap.c"
 wrapped=-Wl,--wrap=bcs_c_open,--wrap=bcs_c_close,--wrap=bcs_c_handle_scan
-run_sanitized sharing libbcs_c.a "$here/library.c" "$here/heap.c" "$wrapped"
-run sharing libbcs_c.a -fsanitize=thread "$here/library.c" "$here/heap.c" "$wrapped"
+run_sanitized sharing libbcs.a "$here/library.c" "$here/heap.c" "$wrapped"
+run sharing libbcs.a -fsanitize=thread "$here/library.c" "$here/heap.c" "$wrapped"
 echo "c: 40 threads on one handle, also under the sanitizer of threads"
 
 compile "$tests/stack.c" "$prefix/lib/libbcs.a" -pthread -o "$room/stack"

@@ -247,18 +247,7 @@ func (r *Registry) Part(format string, data []byte, path string) (*Part, error) 
 	steps := []byte(path)
 	answer := C.bcs_handle_part(q.handle, at(q.format), size(q.format), q.depth, q.nodes, at(data), size(data), at(steps),
 		size(steps))
-	if answer.status == C.BCS_NO {
-		return nil, nil
-	}
-	if answer.status == C.BCS_PATH {
-		return nil, refusalOf(KindPath, answer, func(out *C.uint8_t, length C.size_t) C.bcs_answer {
-			return C.bcs_path_place(at(steps), size(steps), out, length)
-		})
-	}
-	if err := q.refusal(answer, KindBytes, data); err != nil {
-		return nil, err
-	}
-	return partOf(answer, data), nil
+	return q.part(answer, data, C.BCS_STEPS, steps)
 }
 
 // PartByName is Part with the name of the part, as [Registry.Explain] prints it: .payload::EntryFunction.args[0].
@@ -280,26 +269,64 @@ func (r *Registry) partNamed(format string, data []byte, notation C.uint32_t, na
 	text := []byte(name)
 	answer := C.bcs_handle_part_named(q.handle, at(q.format), size(q.format), q.depth, q.nodes, notation, at(text), size(text),
 		at(data), size(data))
-	if answer.status == C.BCS_NO {
-		return nil, nil
+	return q.part(answer, data, notation, text)
+}
+
+// Content returns the content of the byte string to which the path leads: its bytes without the length before them. The part has to
+// be of the format BYTES, STR, or a list or an array of U8; for any other the reason of the error is NoContent.
+func (r *Registry) Content(format string, data []byte, path string) (*Part, error) {
+	return r.content(format, data, C.BCS_STEPS, path)
+}
+
+// ContentByName is Content with the name of the part, as [Registry.Explain] prints it.
+func (r *Registry) ContentByName(format string, data []byte, name string) (*Part, error) {
+	return r.content(format, data, C.BCS_NAME, name)
+}
+
+// ContentByPointer is Content with a JSON Pointer into the value's JSON document.
+func (r *Registry) ContentByPointer(format string, data []byte, pointer string) (*Part, error) {
+	return r.content(format, data, C.BCS_POINTER, pointer)
+}
+
+func (r *Registry) content(format string, data []byte, notation C.uint32_t, name string) (*Part, error) {
+	q, err := r.askAbout(format, data)
+	if err != nil {
+		return nil, err
 	}
-	if answer.status == C.BCS_PATH {
-		refused := newError(KindPath, answer)
-		refused.Message = "expected a name such as .payload.args[1]"
-		if notation == C.BCS_POINTER {
-			refused.Message = "expected a JSON Pointer such as /payload/args/1"
-		}
-		return nil, refused
+	defer q.end()
+	text := []byte(name)
+	answer := C.bcs_handle_content(q.handle, at(q.format), size(q.format), q.depth, q.nodes, notation, at(text), size(text),
+		at(data), size(data))
+	return q.part(answer, data, notation, text)
+}
+
+// part returns the part that a call found by this name, or nil.
+func (q *question) part(answer C.bcs_answer, data []byte, notation C.uint32_t, name []byte) (*Part, error) {
+	switch {
+	case answer.status == C.BCS_NO:
+		return nil, nil
+	case answer.status == C.BCS_PATH && notation == C.BCS_STEPS:
+		return nil, refusalOf(KindPath, answer, func(out *C.uint8_t, length C.size_t) C.bcs_answer {
+			return C.bcs_path_place(at(name), size(name), out, length)
+		})
+	case answer.status == C.BCS_PATH && notation == C.BCS_NAME:
+		return nil, badPath(answer, "expected a name such as .payload.args[1]")
+	case answer.status == C.BCS_PATH:
+		return nil, badPath(answer, "expected a JSON Pointer such as /payload/args/1")
+	case answer.status == C.BCS_REFUSED && answer.fault == C.BCS_PATH_NO_CONTENT:
+		return nil, badPath(answer, "expected a part that is BYTES, STR, or a list or an array of U8")
 	}
 	if err := q.refusal(answer, KindBytes, data); err != nil {
 		return nil, err
 	}
-	return partOf(answer, data), nil
+	place, end := int(answer.place), int(answer.place)+int(answer.length)
+	return &Part{Place: place, Data: data[place:end:end]}, nil
 }
 
-func partOf(answer C.bcs_answer, data []byte) *Part {
-	place, end := int(answer.place), int(answer.place)+int(answer.length)
-	return &Part{Place: place, Data: data[place:end:end]}
+func badPath(answer C.bcs_answer, message string) *Error {
+	refused := newError(KindPath, answer)
+	refused.Message = message
+	return refused
 }
 
 // Explain shows data piece by piece, as `bcs explain` prints it. Damaged bytes aren't an error of the call.
@@ -313,6 +340,10 @@ func (r *Registry) Explain(format string, data []byte, form Form) (*Explanation,
 		return C.bcs_handle_explain(q.handle, at(q.format), size(q.format), q.depth, q.nodes, C.uint32_t(form), at(data),
 			size(data), out, length)
 	})
+	return q.explanation(out, answer, data)
+}
+
+func (q *question) explanation(out []byte, answer C.bcs_answer, data []byte) (*Explanation, error) {
 	if err := q.refusal(answer, KindBytes, data); err != nil {
 		return nil, err
 	}
@@ -320,7 +351,7 @@ func (r *Registry) Explain(format string, data []byte, form Form) (*Explanation,
 	if answer.fault == C.BCS_FAULT_NONE {
 		return explanation, nil
 	}
-	err = q.refused(answer, KindBytes, data)
+	err := q.refused(answer, KindBytes, data)
 	if damage, is := err.(*Error); is && damage.Kind == KindBytes {
 		explanation.Damage = damage
 		return explanation, nil

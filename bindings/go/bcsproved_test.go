@@ -190,7 +190,7 @@ func TestRefusals(t *testing.T) {
 		{decode("Point", "070000"), Error{KindBytes, "TrailingBytes", 2, "", ""}},
 		{decode(`"BOOL"`, "02"), Error{KindBytes, "BadBool", 0, ".", "expected BOOL, 00 or 01, found 02"}},
 		{decode(`"BOOL"`, ""), Error{KindBytes, "EndOfInput", 0, ".", "expected BOOL, found the end of the input"}},
-		{badScan, Error{KindBytes, "UnknownVariant", 0, ".", "expected number of a variant; found 1; variants: 0 Dot, 2 Circle"}},
+		{badScan, Error{KindBytes, "UnknownVariant", 0, ".", "expected the number of a variant; found 1; variants: 0 Dot, 2 Circle"}},
 		{badPart, Error{KindBytes, "BadBool", 1, "[0]", "expected BOOL, 00 or 01, found 02"}},
 		{tooNested, Error{KindBytes, "TooNested", -1, "", ""}},
 		{badPath, Error{KindPath, "BadPath", -1, "", ""}},

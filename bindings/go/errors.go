@@ -32,6 +32,7 @@ const (
 	KindBytes    Kind = "bytes"
 	KindPath     Kind = "path"
 	KindExample  Kind = "example" // the format has no such example
+	KindModules  Kind = "modules" // the modules of a Move chain, or a type that is requested of them
 	KindValue    Kind = "value"   // a Go value or a Go type, since it isn't one of the format
 	KindStack    Kind = "stack"   // the thread has too little stack left for the call
 )
@@ -50,7 +51,8 @@ type Error struct {
 
 	// At says where the fault is. Of JSON, a Go value or a format it is a JSON Pointer (RFC 6901) such as /payload/args/1, which is
 	// empty for the whole; of bytes the field path, such as .payload.args[1]; of a registry or growth a definition, such as
-	// Shape, field side; of a path a step, such as step 2 x. Names are as they are, never escaped or cut.
+	// Shape, field side; of a path a step, such as step 2 x; of modules a JSON Pointer, or the type that was requested. Names are as
+	// they are, never escaped or cut.
 	At string
 
 	// Message says what was expected there, or what is wrong. The text is for people, and may change.
@@ -139,7 +141,13 @@ func failure(answer C.bcs_answer) error {
 
 // refused returns the error for JSON or bytes that are refused.
 func (q *question) refused(answer C.bcs_answer, kind Kind, input []byte) error {
-	err := refusalOf(kind, answer, func(out *C.uint8_t, length C.size_t) C.bcs_answer { return q.place(kind, input, out, length) })
+	err := refusalOf(kind, answer, func(out *C.uint8_t, length C.size_t) C.bcs_answer {
+		place := q.place(kind, input, out, length)
+		if place.status == C.BCS_DONE && place.place != answer.place { // of bytes inside of a byte string, C reports nothing
+			place.status, place.length = C.BCS_NO, 0
+		}
+		return place
+	})
 	if refused, is := err.(*Error); is && refused.Kind == KindBytes && answer.fault != C.BCS_SHOWN_TOO_NESTED {
 		refused.Place = int(answer.place)
 	}

@@ -80,7 +80,9 @@ enum proved {
     SCAN,
     PART,
     PART_NAMED,
+    CONTENT,
     EXPLAIN,
+    EXPLAIN_WITH,
     TEXT_PLACE,
     STOP_PLACE,
     TEXT_REFUSAL,
@@ -93,6 +95,8 @@ enum proved {
     GROWTH_LIST,
     GROWTH_PLACE,
     GROWS,
+    REGISTRY_OF_MODULES,
+    MODULES_PLACE,
     REGISTRY_PLACE,
     REGISTRY_REFUSAL,
     FAULT_NAME,
@@ -154,7 +158,8 @@ static u64 take(struct box *box, u64 length) {
 /* How many bytes the output gets first: for most inputs enough, and else the call is made again. */
 static u64 first_room(const struct call *call, u64 input) {
     const u64 most = 16 << 20;
-    const u64 guess = call->proved != EXPLAIN ? 4 * input + 256 : 64 * input < most ? 64 * input + 256 : most;
+    const bool explains = call->proved == EXPLAIN || call->proved == EXPLAIN_WITH;
+    const u64 guess = !explains ? 4 * input + 256 : 64 * input < most ? 64 * input + 256 : most;
     return guess < call->out_length ? guess : call->out_length;
 }
 
@@ -194,6 +199,13 @@ static void make_proved(struct box *box, const struct call *call, const struct p
     case PART_NAMED:
         Z_bcsZ_bcs_c_handle_part_named(in, answer, handle, ask, call->number, first, first_length, second, second_length);
         break;
+    case CONTENT:
+        Z_bcsZ_bcs_c_handle_content(in, answer, handle, ask, call->number, first, first_length, second, second_length);
+        break;
+    case EXPLAIN_WITH:
+        Z_bcsZ_bcs_c_handle_explain_with(in, answer, handle, ask, call->number, first, first_length, second, second_length,
+                                         out, room);
+        break;
     case EXPLAIN: Z_bcsZ_bcs_c_handle_explain(in, answer, handle, ask, call->number, first, first_length, out, room); break;
     case TEXT_PLACE:
         Z_bcsZ_bcs_c_handle_text_place(in, answer, handle, ask, call->number, first, first_length, out, room);
@@ -211,6 +223,10 @@ static void make_proved(struct box *box, const struct call *call, const struct p
     case GROWTH_LIST: Z_bcsZ_bcs_c_growth_list(in, answer, first, first_length, second, second_length, out, room); break;
     case GROWTH_PLACE: Z_bcsZ_bcs_c_growth_place(in, answer, first, first_length, second, second_length, out, room); break;
     case GROWS: Z_bcsZ_bcs_c_grows(in, answer, first, first_length, second, second_length); break;
+    case REGISTRY_OF_MODULES:
+        Z_bcsZ_bcs_c_registry_of_modules(in, answer, first, first_length, second, second_length, out, room);
+        break;
+    case MODULES_PLACE: Z_bcsZ_bcs_c_modules_place(in, answer, first, first_length, second, second_length, out, room); break;
     case REGISTRY_PLACE: Z_bcsZ_bcs_c_registry_place(in, answer, call->number, first, first_length, out, room); break;
     case REGISTRY_REFUSAL: Z_bcsZ_bcs_c_registry_refusal(in, answer, first, first_length, out, room); break;
     case FAULT_NAME: Z_bcsZ_bcs_c_fault_name(in, answer, call->number, out, room); break;
@@ -360,6 +376,9 @@ ON_HANDLE(compare, COMPARE, IN(one) IN(other), GIVEN(first, one), GIVEN(second, 
 ON_HANDLE(scan, SCAN, IN(bytes), GIVEN(first, bytes))
 ON_HANDLE(part, PART, IN(bytes) IN(path), GIVEN(first, bytes), GIVEN(second, path))
 ON_HANDLE(part_named, PART_NAMED, NUMBER(notation) IN(name) IN(bytes), .number = notation, GIVEN(first, name), GIVEN(second, bytes))
+ON_HANDLE(content, CONTENT, NUMBER(notation) IN(name) IN(bytes), .number = notation, GIVEN(first, name), GIVEN(second, bytes))
+ON_HANDLE(explain_with, EXPLAIN_WITH, NUMBER(form) IN(views) IN(bytes) OUT, .number = form, GIVEN(first, views),
+          GIVEN(second, bytes), TO_OUT)
 ON_HANDLE(explain, EXPLAIN, NUMBER(form) IN(bytes) OUT, .number = form, GIVEN(first, bytes), TO_OUT)
 ON_HANDLE(text_place, TEXT_PLACE, NUMBER(what) IN(text) OUT, .number = what, GIVEN(first, text), TO_OUT)
 ON_HANDLE(stop_place, STOP_PLACE, NUMBER(what) IN(bytes) OUT, .number = what, GIVEN(first, bytes), TO_OUT)
@@ -396,6 +415,16 @@ static bcs_answer bcs_c_growth_place(const uint8_t *older, size_t older_length, 
 
 static bcs_answer bcs_c_grows(const uint8_t *older, size_t older_length, const uint8_t *newer, size_t newer_length) {
     return run_alone((struct call){.proved = GROWS, GIVEN(first, older), GIVEN(second, newer)});
+}
+
+static bcs_answer bcs_c_registry_of_modules(const uint8_t *modules, size_t modules_length, const uint8_t *types,
+                                            size_t types_length, uint8_t *out, size_t out_length) {
+    return run_alone((struct call){.proved = REGISTRY_OF_MODULES, GIVEN(first, modules), GIVEN(second, types), TO_OUT});
+}
+
+static bcs_answer bcs_c_modules_place(const uint8_t *modules, size_t modules_length, const uint8_t *types,
+                                      size_t types_length, uint8_t *out, size_t out_length) {
+    return run_alone((struct call){.proved = MODULES_PLACE, GIVEN(first, modules), GIVEN(second, types), TO_OUT});
 }
 
 static bcs_answer bcs_c_registry_place(uint32_t what, const uint8_t *registry, size_t registry_length, uint8_t *out,

@@ -97,6 +97,21 @@ CREATE FUNCTION @extschema@.bcs_part_by_pointer(registry pg_catalog.json, format
     nodes pg_catalog.int8 DEFAULT 50000, depth pg_catalog.int4 DEFAULT 100)
     RETURNS pg_catalog.bytea AS 'MODULE_PATHNAME', 'bcs_pg_part_by_pointer'
     LANGUAGE C IMMUTABLE STRICT PARALLEL SAFE COST 20;
+CREATE FUNCTION @extschema@.bcs_content(registry pg_catalog.json, format pg_catalog.text,
+    bytes pg_catalog.bytea, path pg_catalog.text,
+    nodes pg_catalog.int8 DEFAULT 50000, depth pg_catalog.int4 DEFAULT 100)
+    RETURNS pg_catalog.bytea AS 'MODULE_PATHNAME', 'bcs_pg_content'
+    LANGUAGE C IMMUTABLE STRICT PARALLEL SAFE COST 20;
+CREATE FUNCTION @extschema@.bcs_content_by_name(registry pg_catalog.json, format pg_catalog.text,
+    bytes pg_catalog.bytea, name pg_catalog.text,
+    nodes pg_catalog.int8 DEFAULT 50000, depth pg_catalog.int4 DEFAULT 100)
+    RETURNS pg_catalog.bytea AS 'MODULE_PATHNAME', 'bcs_pg_content_by_name'
+    LANGUAGE C IMMUTABLE STRICT PARALLEL SAFE COST 20;
+CREATE FUNCTION @extschema@.bcs_content_by_pointer(registry pg_catalog.json, format pg_catalog.text,
+    bytes pg_catalog.bytea, pointer pg_catalog.text,
+    nodes pg_catalog.int8 DEFAULT 50000, depth pg_catalog.int4 DEFAULT 100)
+    RETURNS pg_catalog.bytea AS 'MODULE_PATHNAME', 'bcs_pg_content_by_pointer'
+    LANGUAGE C IMMUTABLE STRICT PARALLEL SAFE COST 20;
 CREATE FUNCTION @extschema@.bcs_part_place(registry pg_catalog.json, format pg_catalog.text,
     bytes pg_catalog.bytea, path pg_catalog.text,
     nodes pg_catalog.int8 DEFAULT 50000, depth pg_catalog.int4 DEFAULT 100)
@@ -107,6 +122,25 @@ CREATE FUNCTION @extschema@.bcs_explain(registry pg_catalog.json, format pg_cata
     nodes pg_catalog.int8 DEFAULT 6250, depth pg_catalog.int4 DEFAULT 100)
     RETURNS pg_catalog.text AS 'MODULE_PATHNAME', 'bcs_pg_explain'
     LANGUAGE C IMMUTABLE STRICT PARALLEL SAFE COST 500;
+CREATE FUNCTION @extschema@.bcs_explain_with(registry pg_catalog.json, format pg_catalog.text,
+    bytes pg_catalog.bytea, form pg_catalog.text, views pg_catalog.text,
+    nodes pg_catalog.int8 DEFAULT 6250, depth pg_catalog.int4 DEFAULT 100)
+    RETURNS pg_catalog.text AS 'MODULE_PATHNAME', 'bcs_pg_explain_with'
+    LANGUAGE C IMMUTABLE STRICT PARALLEL SAFE COST 500;
+
+-- The registry for types of a Move chain, from the JSON of its modules, and notes about the registry for people.
+CREATE FUNCTION @extschema@.bcs_registry_of_modules(modules pg_catalog.json, types pg_catalog.text[])
+    RETURNS pg_catalog.json AS 'MODULE_PATHNAME', 'bcs_pg_registry_of_modules'
+    LANGUAGE C IMMUTABLE STRICT PARALLEL SAFE COST 2000;
+CREATE FUNCTION @extschema@.bcs_registry_of_modules(modules pg_catalog.text, types pg_catalog.text[])
+    RETURNS pg_catalog.json AS 'MODULE_PATHNAME', 'bcs_pg_registry_of_modules'
+    LANGUAGE C IMMUTABLE STRICT PARALLEL SAFE COST 2000;
+CREATE FUNCTION @extschema@.bcs_notes_of_modules(modules pg_catalog.json, types pg_catalog.text[])
+    RETURNS pg_catalog.text AS 'MODULE_PATHNAME', 'bcs_pg_notes_of_modules'
+    LANGUAGE C IMMUTABLE STRICT PARALLEL SAFE COST 2000;
+CREATE FUNCTION @extschema@.bcs_notes_of_modules(modules pg_catalog.text, types pg_catalog.text[])
+    RETURNS pg_catalog.text AS 'MODULE_PATHNAME', 'bcs_pg_notes_of_modules'
+    LANGUAGE C IMMUTABLE STRICT PARALLEL SAFE COST 2000;
 
 -- With the text of a registry or a name in bcs_registries, whose text may change. The planner replaces a call with a constant
 -- text, which isn't a name, by one of the functions above, so that indexes can use it.
@@ -178,6 +212,21 @@ CREATE FUNCTION @extschema@.bcs_part_by_pointer(registry pg_catalog.text, format
     nodes pg_catalog.int8 DEFAULT 50000, depth pg_catalog.int4 DEFAULT 100)
     RETURNS pg_catalog.bytea AS 'MODULE_PATHNAME', 'bcs_pg_part_by_pointer'
     LANGUAGE C STABLE SUPPORT @extschema@.bcs_support STRICT PARALLEL SAFE COST 20;
+CREATE FUNCTION @extschema@.bcs_content(registry pg_catalog.text, format pg_catalog.text,
+    bytes pg_catalog.bytea, path pg_catalog.text,
+    nodes pg_catalog.int8 DEFAULT 50000, depth pg_catalog.int4 DEFAULT 100)
+    RETURNS pg_catalog.bytea AS 'MODULE_PATHNAME', 'bcs_pg_content'
+    LANGUAGE C STABLE SUPPORT @extschema@.bcs_support STRICT PARALLEL SAFE COST 20;
+CREATE FUNCTION @extschema@.bcs_content_by_name(registry pg_catalog.text, format pg_catalog.text,
+    bytes pg_catalog.bytea, name pg_catalog.text,
+    nodes pg_catalog.int8 DEFAULT 50000, depth pg_catalog.int4 DEFAULT 100)
+    RETURNS pg_catalog.bytea AS 'MODULE_PATHNAME', 'bcs_pg_content_by_name'
+    LANGUAGE C STABLE SUPPORT @extschema@.bcs_support STRICT PARALLEL SAFE COST 20;
+CREATE FUNCTION @extschema@.bcs_content_by_pointer(registry pg_catalog.text, format pg_catalog.text,
+    bytes pg_catalog.bytea, pointer pg_catalog.text,
+    nodes pg_catalog.int8 DEFAULT 50000, depth pg_catalog.int4 DEFAULT 100)
+    RETURNS pg_catalog.bytea AS 'MODULE_PATHNAME', 'bcs_pg_content_by_pointer'
+    LANGUAGE C STABLE SUPPORT @extschema@.bcs_support STRICT PARALLEL SAFE COST 20;
 CREATE FUNCTION @extschema@.bcs_part_place(registry pg_catalog.text, format pg_catalog.text,
     bytes pg_catalog.bytea, path pg_catalog.text,
     nodes pg_catalog.int8 DEFAULT 50000, depth pg_catalog.int4 DEFAULT 100)
@@ -187,6 +236,11 @@ CREATE FUNCTION @extschema@.bcs_explain(registry pg_catalog.text, format pg_cata
     bytes pg_catalog.bytea, form pg_catalog.text DEFAULT 'ways'::pg_catalog.text,
     nodes pg_catalog.int8 DEFAULT 6250, depth pg_catalog.int4 DEFAULT 100)
     RETURNS pg_catalog.text AS 'MODULE_PATHNAME', 'bcs_pg_explain'
+    LANGUAGE C STABLE SUPPORT @extschema@.bcs_support STRICT PARALLEL SAFE COST 500;
+CREATE FUNCTION @extschema@.bcs_explain_with(registry pg_catalog.text, format pg_catalog.text,
+    bytes pg_catalog.bytea, form pg_catalog.text, views pg_catalog.text,
+    nodes pg_catalog.int8 DEFAULT 6250, depth pg_catalog.int4 DEFAULT 100)
+    RETURNS pg_catalog.text AS 'MODULE_PATHNAME', 'bcs_pg_explain_with'
     LANGUAGE C STABLE SUPPORT @extschema@.bcs_support STRICT PARALLEL SAFE COST 500;
 
 -- Registries by name. When a change is committed, every process closes the ones that it has open.

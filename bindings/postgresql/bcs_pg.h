@@ -26,6 +26,7 @@ typedef struct Question
 	bool		is_capped;		/* bcs.max_nodes allows fewer nodes than the query does */
 	struct piece input;
 	struct piece second;
+	struct piece views;
 	uint32		form;			/* of pieces */
 } Question;
 
@@ -34,9 +35,16 @@ extern void define_nodes(void);
 extern Question question_of_bytes(FunctionCallInfo fcinfo, int inputs);
 extern Question question_of_text(FunctionCallInfo fcinfo, int inputs);
 extern Question question_of_jsonb(FunctionCallInfo fcinfo, int inputs);
+extern void check_stack(uint32 depth);
 extern void cap_nodes(Question *question, int weight);
 extern struct piece utf8_of(struct piece text);
 extern struct piece argument(FunctionCallInfo fcinfo, int place);
+
+/* functions.c: what a call writes, as a value with a zero behind it, which must be done or refused; and a UTF-8 text in the encoding
+ * of the database. */
+typedef bcs_answer Writing(const Question *question, uint8_t *out, size_t room);
+extern struct varlena *written(const Question *question, Writing *call, size_t room);
+extern struct varlena *server_text(struct varlena *utf8);
 
 /* registries.c: the registry of the first argument. */
 extern const Registry *registry_of_call(FunctionCallInfo fcinfo);
@@ -52,10 +60,11 @@ extern void use_registry(Registry *registry);
 extern void bound_cache(const Registry *spared);
 extern void close_names(void);
 
-/* refusal.c: raises the error for what an answer refuses of a question, or of the text of a registry in UTF-8. And the JSON that
- * says why and where bytes stop being a value. */
+/* refusal.c: raises the error for what an answer refuses of a question, or of the text of a registry in UTF-8; or for a type that no
+ * call may be asked for. And the JSON that says why and where bytes stop being a value. */
 extern pg_attribute_noreturn() void refuse(const Question *question, bcs_answer answer);
 extern pg_attribute_noreturn() void refuse_registry(struct piece text, bcs_answer answer);
+extern pg_attribute_noreturn() void refuse_type(struct piece type, const char *message);
 extern pg_attribute_noreturn() void raise_memory(void);
 extern const char *json_of_stop(const Question *question, bcs_answer answer);
 

@@ -33,8 +33,6 @@ ended(bcs_answer answer)
 }
 
 /* The calls that write an answer. */
-typedef bcs_answer Writing(const Question *question, uint8_t *out, size_t room);
-
 static bcs_answer
 write_text(const Question *question, uint8_t *out, size_t room)
 {
@@ -58,20 +56,31 @@ write_normal(const Question *question, uint8_t *out, size_t room)
 
 /* Pieces that end where bcs.max_nodes stops them aren't those that the query asks for. */
 static bcs_answer
-write_pieces(const Question *question, uint8_t *out, size_t room)
+unless_capped(const Question *question, bcs_answer answer)
 {
-	bcs_answer	answer = bcs_handle_explain(ASK(&question->ask), question->form, PIECE(question->input), out, room);
-
 	if (question->is_capped && is_beyond_nodes(answer.fault))
 		answer.status = BCS_REFUSED;
 	return answer;
 }
 
+static bcs_answer
+write_pieces(const Question *question, uint8_t *out, size_t room)
+{
+	return unless_capped(question, bcs_handle_explain(ASK(&question->ask), question->form, PIECE(question->input), out, room));
+}
+
+static bcs_answer
+write_pieces_with(const Question *question, uint8_t *out, size_t room)
+{
+	return unless_capped(question, bcs_handle_explain_with(ASK(&question->ask), question->form, PIECE(question->views),
+														   PIECE(question->input), out, room));
+}
+
 /* The longest answer: a value of the server, with a zero behind it. */
 #define MOST_ROOM (MaxAllocSize - VARHDRSZ - 1)
 
-/* What a call writes, as a value with a zero behind it. If the room is too small, the call returns how much it needs. */
-static struct varlena *
+/* (If the room is too small, the call returns how much it needs.) */
+struct varlena *
 written(const Question *question, Writing *call, size_t room)
 {
 	for (;;)
@@ -97,8 +106,8 @@ written(const Question *question, Writing *call, size_t room)
 	}
 }
 
-/* A UTF-8 text in the encoding of the database, with a zero behind it. */
-static struct varlena *
+/* (There is a zero behind the text.) */
+struct varlena *
 server_text(struct varlena *utf8)
 {
 	const size_t length = VARSIZE(utf8) - VARHDRSZ;
@@ -256,6 +265,14 @@ part_named(const Question *question, uint32 notation)
 															PIECE(question->input))));
 }
 
+/* Where the content of the byte string is that a path leads to, or that has this name in a notation. */
+static bcs_answer
+content_of(const Question *question, uint32 notation)
+{
+	return done_or_no(question, ended(bcs_handle_content(ASK(&question->ask), notation, PIECE(question->second),
+														 PIECE(question->input))));
+}
+
 static Datum
 bytes_of_part(FunctionCallInfo fcinfo, const Question *question, bcs_answer answer)
 {
@@ -294,6 +311,36 @@ bcs_pg_part_by_pointer(PG_FUNCTION_ARGS)
 	return bytes_of_part(fcinfo, &question, part_named(&question, BCS_POINTER));
 }
 
+PG_FUNCTION_INFO_V1(bcs_pg_content);
+
+Datum
+bcs_pg_content(PG_FUNCTION_ARGS)
+{
+	Question	question = question_of_bytes(fcinfo, 2);
+
+	return bytes_of_part(fcinfo, &question, content_of(&question, BCS_STEPS));
+}
+
+PG_FUNCTION_INFO_V1(bcs_pg_content_by_name);
+
+Datum
+bcs_pg_content_by_name(PG_FUNCTION_ARGS)
+{
+	Question	question = question_of_bytes(fcinfo, 2);
+
+	return bytes_of_part(fcinfo, &question, content_of(&question, BCS_NAME));
+}
+
+PG_FUNCTION_INFO_V1(bcs_pg_content_by_pointer);
+
+Datum
+bcs_pg_content_by_pointer(PG_FUNCTION_ARGS)
+{
+	Question	question = question_of_bytes(fcinfo, 2);
+
+	return bytes_of_part(fcinfo, &question, content_of(&question, BCS_POINTER));
+}
+
 PG_FUNCTION_INFO_V1(bcs_pg_part_place);
 
 Datum
@@ -307,16 +354,30 @@ bcs_pg_part_place(PG_FUNCTION_ARGS)
 	PG_RETURN_INT64(answer.place);
 }
 
-PG_FUNCTION_INFO_V1(bcs_pg_explain);
-
-Datum
-bcs_pg_explain(PG_FUNCTION_ARGS)
+static Datum
+explained(FunctionCallInfo fcinfo, int inputs, Writing *call)
 {
-	Question	question = question_of_bytes(fcinfo, 2);
+	Question	question = question_of_bytes(fcinfo, inputs);
 
 	cap_nodes(&question, NODES_OF_PIECE);
 	if (!is_form(question.second, &question.form))
 		ereport(ERROR,
 				(errcode(ERRCODE_INVALID_PARAMETER_VALUE), errmsg("bcs: a form is ways, paths, tree or json")));
-	PG_RETURN_POINTER(server_text(written(&question, write_pieces, room_of_pieces(question.input.length))));
+	PG_RETURN_POINTER(server_text(written(&question, call, room_of_pieces(question.input.length))));
+}
+
+PG_FUNCTION_INFO_V1(bcs_pg_explain);
+
+Datum
+bcs_pg_explain(PG_FUNCTION_ARGS)
+{
+	return explained(fcinfo, 2, write_pieces);
+}
+
+PG_FUNCTION_INFO_V1(bcs_pg_explain_with);
+
+Datum
+bcs_pg_explain_with(PG_FUNCTION_ARGS)
+{
+	return explained(fcinfo, 3, write_pieces_with);
 }

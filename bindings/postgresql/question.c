@@ -28,7 +28,7 @@ define_nodes(void)
 #define STACK_OF_CONTAINER (13 * 1024)
 
 /* A call can't check how deep the stack is, so this checks it before, for the deepest value that the limit allows. */
-static void
+void
 check_stack(uint32 depth)
 {
 	static pg_stack_base_t base = NULL;
@@ -130,16 +130,18 @@ question_of_call(FunctionCallInfo fcinfo, int inputs)
 	return question;
 }
 
-/* If there are two inputs, the second is a text. */
+/* If there are two inputs, the second is a text, and so is a third one, which is views. */
 Question
 question_of_bytes(FunctionCallInfo fcinfo, int inputs)
 {
 	const struct piece input = argument(fcinfo, 2);
-	const struct piece second = inputs == 2 ? utf8_of(argument(fcinfo, 3)) : input;
+	const struct piece second = inputs >= 2 ? utf8_of(argument(fcinfo, 3)) : input;
+	const struct piece views = inputs == 3 ? utf8_of(argument(fcinfo, 4)) : input;
 	Question	question = question_of_call(fcinfo, inputs);
 
 	question.input = input;
 	question.second = second;
+	question.views = views;
 	return question;
 }
 

@@ -8,7 +8,7 @@
 static int
 sqlstate_of(bcs_answer answer)
 {
-	if (answer.status != BCS_REFUSED)
+	if (answer.status != BCS_REFUSED || is_of_modules(answer) || is_without_content(answer))
 		return ERRCODE_INVALID_PARAMETER_VALUE;
 	if (is_beyond_limits(answer.fault))
 		return ERRCODE_PROGRAM_LIMIT_EXCEEDED;
@@ -24,29 +24,39 @@ raise_memory(void)
 	pg_unreachable();
 }
 
-/* What the library reports about the place, with a zero behind it; nothing if that is too long. */
-static struct piece
-told(const struct refused *refused, uint32 what)
+/* What a call reports about a refusal, with a zero behind it; nothing if that is too long. */
+static const uint8_t *
+told(const struct refused *refused, telling *tell, bcs_answer *answer)
 {
-	bcs_answer	answer = {.status = BCS_SHORT, .length = PLACE_ROOM};
 	uint8_t    *out = NULL;
 
-	while (is_to_ask_again(answer))
+	*answer = (bcs_answer) {.status = BCS_SHORT, .length = PLACE_ROOM};
+	while (is_to_ask_again(*answer))
 	{
-		const size_t room = answer.length;
+		const size_t room = answer->length;
 
 		if (out != NULL)
 			pfree(out);
 		out = palloc(room + 1);
-		answer = tell_place(refused, what, out, room);
+		*answer = tell(refused, out, room);
 		CHECK_FOR_INTERRUPTS();
 	}
-	if (answer.status == BCS_MEMORY)
+	if (answer->status == BCS_MEMORY)
 		raise_memory();
-	if (answer.status != BCS_DONE)
-		answer.length = 0;
-	out[answer.length] = '\0';
-	return (struct piece) {out, answer.length};
+	out[answer->status == BCS_DONE ? answer->length : 0] = '\0';
+	return out;
+}
+
+/* What is known of a refusal. A place that is too long is left out. */
+static struct report
+report_of(const struct refused *refused)
+{
+	bcs_answer	answer;
+	const uint8_t *text = told(refused, tell_refusal, &answer);
+
+	if (answer.status == BCS_SHORT)
+		text = told(refused, tell_message, &answer);
+	return report_in(text, answer.status == BCS_DONE ? answer.length : 0);
 }
 
 /* Why and where bytes stop being a value, in printable ASCII. */
@@ -54,22 +64,21 @@ const char *
 json_of_stop(const Question *question, bcs_answer answer)
 {
 	const struct refused refused = {answer, &question->ask, question->input, question->second};
-	const struct piece where = told(&refused, BCS_WHERE);
-	const char *message = (const char *) told(&refused, BCS_WANTED).at;
+	const struct report report = report_of(&refused);
 	StringInfoData json;
 
 	initStringInfo(&json);
 	appendStringInfo(&json, "{\"refused\":\"%s\",\"place\":" UINT64_FORMAT, bcs_fault_text(answer.fault),
 					 answer.place);
-	if (where.length != 0)
+	if (report.place.length != 0)
 	{
 		appendStringInfoString(&json, ",\"at\":");
-		escape_json(&json, (const char *) where.at);
+		escape_json(&json, (const char *) report.place.at);
 	}
-	if (message[0] != '\0')
+	if (report.message[0] != '\0')
 	{
 		appendStringInfoString(&json, ",\"message\":");
-		escape_json(&json, message);
+		escape_json(&json, report.message);
 	}
 	appendStringInfoChar(&json, '}');
 	return json.data;
@@ -77,18 +86,17 @@ json_of_stop(const Question *question, bcs_answer answer)
 
 /* The place behind the fault's name, in printable ASCII, which is the same in each encoding of a database. */
 static const char *
-place_told(const struct refused *refused)
+place_told(bcs_answer answer, struct piece place)
 {
-	const struct piece where = told(refused, BCS_WHERE);
 	char	   *text;
 
-	if (is_stop(refused->answer))
-		return psprintf(" at byte " UINT64_FORMAT "%s%s", refused->answer.place, where.length != 0 ? ", " : "",
-						(const char *) where.at);
-	if (where.length == 0)
+	if (is_stop(answer))
+		return psprintf(" at byte " UINT64_FORMAT "%s%s", answer.place, place.length != 0 ? ", " : "",
+						(const char *) place.at);
+	if (place.length == 0)
 		return "";
-	text = palloc(write_place(refused->answer, where, NULL) + 1);
-	text[write_place(refused->answer, where, text)] = '\0';
+	text = palloc(write_place(answer, place, NULL) + 1);
+	text[write_place(answer, place, text)] = '\0';
 	return psprintf(" at %s", text);
 }
 
@@ -96,7 +104,6 @@ static pg_attribute_noreturn() void
 raise_refusal(const struct refused *refused, bool is_capped)
 {
 	const bcs_answer answer = refused->answer;
-	const bool	has_place = is_placed(answer);
 	const char *words = "";
 	const char *place = "";
 
@@ -106,10 +113,13 @@ raise_refusal(const struct refused *refused, bool is_capped)
 		ereport(ERROR,
 				(errcode(ERRCODE_STATEMENT_TOO_COMPLEX),
 				 errmsg("bcs: this thread has too little stack left for the value")));
-	if (has_place)
-		place = place_told(refused);
-	if (has_place && !is_stop(answer))
-		words = (const char *) told(refused, BCS_WANTED).at;
+	if (is_placed(answer))
+	{
+		const struct report report = report_of(refused);
+
+		place = place_told(answer, report.place);
+		words = is_stop(answer) ? "" : report.message;
+	}
 	ereport(ERROR,
 			(errcode(sqlstate_of(answer)),
 			 errmsg("bcs: refused: %s%s%s", bcs_fault_text(answer.fault), what_is_refused(answer), place),
@@ -133,4 +143,15 @@ refuse_registry(struct piece text, bcs_answer answer)
 	const struct refused refused = {.answer = answer, .input = text};
 
 	raise_refusal(&refused, false);
+}
+
+void
+refuse_type(struct piece type, const char *message)
+{
+	const bcs_answer answer = {BCS_REFUSED, BCS_MOVE_BAD_TYPE, 0, 0};
+
+	ereport(ERROR,
+			(errcode(sqlstate_of(answer)), errmsg("bcs: refused: %s%s", bcs_fault_text(answer.fault), place_told(answer, type)),
+			 errdetail_internal("%s", message)));
+	pg_unreachable();
 }

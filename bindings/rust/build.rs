@@ -44,7 +44,7 @@ fn find_library() -> Result<PathBuf, String> {
         None if source.is_file() && of_cargo("CARGO_CFG_TARGET_FAMILY") == "unix" => compile(&source)?,
         None => ask_pkg_config()?,
     };
-    // The folder stands in cargo's instructions, and a relative one would be looked for elsewhere at link time.
+    // The folder is in cargo's instructions, and a relative one would be looked for elsewhere at link time.
     let folder = folder.canonicalize().map_err(|error| format!("{}: {error}", folder.display()))?;
     if folder.join("libbcs.a").is_file() {
         Ok(folder)

@@ -1,4 +1,4 @@
-"""The driver for SQL: reads lines of calls and answers them, as bindings/README.md says, with statements in a database.
+"""The driver for SQL: reads lines of calls and answers them, as tests/rows/driver.py says, by statements.
 
     /usr/bin/python3 bindings/sql/driver.py sqlite EXTENSION
     /usr/bin/python3 bindings/sql/driver.py postgresql CONNECTION
@@ -28,6 +28,10 @@ class Answered(Exception):
 MEMBERS = {"refused": "refused", "place": "place", "at": "name"}
 # How the message of bcs_fault goes on behind what was expected.
 FOUND = (", ", "; ", " in UTF-8, ")
+# What bcs_explain calls the numbers before others, as in docs/PROGRAM.md. Messages have an article before them.
+NUMBERS = ("length of ", "number of a variant")
+# The whole message where bcs_explain expects no value of the format.
+NO_VALUE = "BCS has no F32, F64 or CHAR; this format can't have a value"
 STATUSES = {" in the registry": "registry", " in the format": "format", " in the path": "path"}
 
 
@@ -46,16 +50,20 @@ class NoUnicode(bytes):
 
 
 class Database(Protocol):
-    """What the calls need of a database. ENCODE and DECODE are its expressions for JSON."""
+    """What the calls need of a database: its expressions for JSON as bytes, for bytes as JSON, and for types."""
 
     encode: str
     decode: str
+    cast: str
 
     def text(self, data: bytes) -> str | bytes:
         """The argument for a string."""
 
     def registry(self, data: bytes) -> str | bytes:
         """The argument for a registry."""
+
+    def types(self, lines: bytes) -> object:
+        """The argument for types, which are one on each line."""
 
     def value(self, expression: str, *arguments: object) -> Any:
         """The value of an expression, with an argument for each `?` in it."""
@@ -65,6 +73,7 @@ class Sqlite:
     """A string may have any bytes there, and Python passes them as a BLOB."""
 
     encode, decode = "bcs_encode(?, ?, ?, ?, ?)", "bcs_decode(?, ?, ?, ?, ?)"
+    cast = "?"
 
     def __init__(self, extension: str) -> None:
         import sqlite3
@@ -83,6 +92,9 @@ class Sqlite:
     def registry(self, data: bytes) -> str | bytes:
         return self.text(data)
 
+    def types(self, lines: bytes) -> object:
+        return self.text(lines)
+
     def value(self, expression: str, *arguments: object) -> Any:
         for place, argument in reversed(list(enumerate(arguments))):
             if isinstance(argument, NoUnicode):
@@ -98,6 +110,7 @@ class Postgresql:
     """A string there is Unicode without the character U+0000."""
 
     encode, decode = "bcs_encode_json(?, ?, ?, ?, ?)", "bcs_decode_json(?, ?, ?, ?, ?)::text"
+    cast = "cast(? as text[])"
 
     def __init__(self, connection: str) -> None:
         import psycopg2
@@ -123,6 +136,9 @@ class Postgresql:
         if data[:1].isalpha() or data[:1] == b"_":
             raise Unsayable
         return self.text(data)
+
+    def types(self, lines: bytes) -> object:
+        return self.text(lines).removesuffix("\n").split("\n") if lines else []
 
     def value(self, expression: str, *arguments: object) -> Any:
         try:
@@ -191,6 +207,29 @@ class Calls:
         data = self.ask(f"bcs_part_by_{notation}(?, ?, ?, ?, ?, ?)", *asked, self.text(name))
         return None if data is None else ("-", 0, len(data), data)
 
+    def content(self, *question: Any) -> Answer | None:
+        *asked, name, notation = question
+        call = {"steps": "bcs_content"}.get(notation, f"bcs_content_by_{notation}")
+        data = self.ask(f"{call}(?, ?, ?, ?, ?, ?)", *asked, self.text(name))
+        return None if data is None else ("-", 0, len(data), data)
+
+    def explain_with(self, *question: Any) -> Answer:
+        """SQL shows only in the text where bytes in a byte string stop."""
+        *asked, form, views = question
+        told = [
+            self.ask("bcs_explain_with(?, ?, ?, ?, ?, ?, ?)", *asked, it, self.text(views)) for it in (form, "json")
+        ]
+        last, text = json.loads(told[1].splitlines()[-1]), told[0].encode()
+        return last.get("refused", "-"), last["place"] if "refused" in last else 0, len(text), text
+
+    def registry_of_modules(self, modules: bytes, lines: bytes) -> Answer:
+        """The registry, and the notes, which another function returns."""
+        arguments = self.text(modules), self.database.types(lines)
+        cast = self.database.cast
+        registry = self.database.value(f"cast(bcs_registry_of_modules(?, {cast}) as text)", *arguments)
+        notes = self.database.value(f"bcs_notes_of_modules(?, {cast})", *arguments)
+        return self.written(registry if notes is None else f"{registry}\n{notes}")
+
     def stop_place(self, *question: Any) -> Answer | None:
         """bcs_fault has both halves as members."""
         *asked, what = question
@@ -213,28 +252,40 @@ def is_the_same(fault: dict[str, Any] | None, last: dict[str, Any]) -> bool:
     """Whether bcs_fault reports what the last line of bcs_explain does, and what was found."""
     if fault is None or "refused" not in last:
         return fault is None and "refused" not in last
-    expected, message = f"expected {last['want']}", fault.get("message", "")
-    is_message = message == expected or message.startswith(tuple(expected + found for found in FOUND))
+    is_message = is_message_of(last, fault.get("message", ""))
     return is_message and all(fault.get(name) == last.get(old) for name, old in MEMBERS.items())
+
+
+def is_message_of(last: dict[str, Any], message: str) -> bool:
+    """Whether the message says what the last line of bcs_explain expects."""
+    if last["refused"] == "Unsupported":
+        return message == NO_VALUE
+    article = "the " if last["want"].startswith(NUMBERS) else ""
+    expected = f"expected {article}{last['want']}"
+    return message == expected or message.startswith(tuple(expected + found for found in FOUND))
+
+
+def done(told: Answer) -> tuple[str, ...]:
+    fault, place, length, output = told
+    return "done", fault, str(place), str(length), output.hex()
 
 
 def answer(calls: Calls, line: str) -> tuple[str, ...]:
     """SQL lacks some calls, and takes a format that isn't JSON for the name of a container."""
     call, *words = line.split("\t")
-    if call in ("grows", "fault_name", "text_place", "registry_place"):
+    if call in ("grows", "fault_name", "text_place", "registry_place", "modules_place"):
         raise Unsayable
+    if call == "registry_of_modules":
+        return done(calls.registry_of_modules(*(bytes.fromhex(word) for word in words)))
     registry, format = (bytes.fromhex(word) for word in words[:2])
     if format[:1] not in (b"{", b'"'):
         raise Unsayable
-    plain = {"explain": 1, "stop_place": 1, "part_named": 2}.get(call)
+    plain = {"explain": 1, "explain_with": 1, "stop_place": 1, "part_named": 2, "content": 2}.get(call)
     rest = [word if place == plain else bytes.fromhex(word) for place, word in enumerate(words[4:])]
     told = getattr(calls, call)(
         calls.database.registry(registry), calls.text(format), (int(words[3]), int(words[2])), *rest
     )
-    if told is None:
-        return "no", "-", "0", "0", ""
-    fault, place, length, output = told
-    return "done", fault, str(place), str(length), output.hex()
+    return ("no", "-", "0", "0", "") if told is None else done(told)
 
 
 def connected(kind: str, where: str) -> Database:

@@ -1,4 +1,4 @@
-"""JSON documents at formats, for the tests of both databases: the bytes that docs/FORMAT.md specifies, or a rejection.
+"""JSON documents at formats, for the tests of both databases: the bytes of docs/ENCODING.md, or a rejection.
 Nothing here calls what is tested."""
 
 from __future__ import annotations

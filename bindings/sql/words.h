@@ -48,8 +48,16 @@ static inline bool is_beyond_limits(uint32_t fault) {
            fault == BCS_SHOWN_TOO_NESTED;
 }
 
+/* Whether a path leads to a part that isn't a byte string. */
+static inline bool is_without_content(bcs_answer answer) {
+    return answer.status == BCS_REFUSED && answer.fault == BCS_PATH_NO_CONTENT;
+}
+
 /* The words after the fault's name, if it isn't the value that is refused. */
 static inline const char *what_is_refused(bcs_answer answer) {
+    if (is_without_content(answer)) {
+        return ": the part isn't BYTES, STR, or a list or an array of U8";
+    }
     switch (answer.status) {
         case BCS_REGISTRY:
             return " in the registry";
@@ -90,32 +98,83 @@ static inline bool is_to_ask_again(bcs_answer answer) {
     return answer.status == BCS_SHORT && answer.length <= MOST_EXPLAINED;
 }
 
-/* Whether the library reports the place of the refusal. */
-static inline bool is_placed(bcs_answer answer) {
-    return answer.status == BCS_REGISTRY || (answer.status == BCS_REFUSED && answer.fault > 300 && answer.fault < 500);
+/* Whether modules are refused, or a type that is requested of them. */
+static inline bool is_of_modules(bcs_answer answer) {
+    return answer.status == BCS_REFUSED && answer.fault > 800 && answer.fault < 900;
 }
 
-/* A refusal: of the text of a registry, of bytes, or of one of two texts, which are the same if a function has only one. */
+/* Whether the library reports the place of the refusal. */
+static inline bool is_placed(bcs_answer answer) {
+    return answer.status == BCS_REGISTRY || is_of_modules(answer) ||
+           (answer.status == BCS_REFUSED && answer.fault > 300 && answer.fault < 500);
+}
+
+/* A refusal: of the text of a registry, of bytes, or of one of two texts, which are the same if a function has only one; or of
+   modules, or of one of the types, which are the second. */
 struct refused {
     bcs_answer answer;
-    const struct ask *ask; /* null for a registry */
+    const struct ask *ask; /* null for a registry and for modules */
     struct piece input, second;
 };
 
 /* The first room for the place of a refusal, which is often enough. */
 #define PLACE_ROOM 500
 
-/* What the library reports about the place of a refusal: BCS_DONE, BCS_SHORT or BCS_MEMORY. */
-static inline bcs_answer tell_place(const struct refused *refused, uint32_t what, uint8_t *out, size_t room) {
+/* What the library reports about a refusal: its place, a zero, and a message; or only the message. BCS_DONE, BCS_SHORT or
+   BCS_MEMORY; BCS_NO if there is nothing to report. */
+typedef bcs_answer telling(const struct refused *refused, uint8_t *out, size_t room);
+
+static inline bcs_answer tell_refusal(const struct refused *refused, uint8_t *out, size_t room) {
     bcs_answer told;
     if (refused->answer.status == BCS_REGISTRY) {
-        return bcs_registry_place(what, PIECE(refused->input), out, room);
+        return bcs_registry_refusal(PIECE(refused->input), out, room);
+    }
+    if (is_of_modules(refused->answer)) {
+        return bcs_modules_place(PIECE(refused->input), PIECE(refused->second), out, room);
     }
     if (is_stop(refused->answer)) {
-        return bcs_handle_stop_place(ASK(refused->ask), what, PIECE(refused->input), out, room);
+        return bcs_handle_stop_refusal(ASK(refused->ask), PIECE(refused->input), out, room);
     }
-    told = bcs_handle_text_place(ASK(refused->ask), what, PIECE(refused->input), out, room);
-    return told.status == BCS_NO ? bcs_handle_text_place(ASK(refused->ask), what, PIECE(refused->second), out, room) : told;
+    told = bcs_handle_text_refusal(ASK(refused->ask), PIECE(refused->input), out, room);
+    return told.status == BCS_NO ? bcs_handle_text_refusal(ASK(refused->ask), PIECE(refused->second), out, room) : told;
+}
+
+static inline bcs_answer tell_message(const struct refused *refused, uint8_t *out, size_t room) {
+    const bcs_answer nothing = {.status = BCS_NO};
+    bcs_answer told;
+    if (refused->answer.status == BCS_REGISTRY) {
+        return bcs_registry_place(BCS_WANTED, PIECE(refused->input), out, room);
+    }
+    if (is_of_modules(refused->answer)) {
+        return nothing;
+    }
+    if (is_stop(refused->answer)) {
+        return bcs_handle_stop_place(ASK(refused->ask), BCS_WANTED, PIECE(refused->input), out, room);
+    }
+    told = bcs_handle_text_place(ASK(refused->ask), BCS_WANTED, PIECE(refused->input), out, room);
+    return told.status == BCS_NO ? bcs_handle_text_place(ASK(refused->ask), BCS_WANTED, PIECE(refused->second), out, room) : told;
+}
+
+/* A place, which may have zeros, and a message. Both have a zero behind them, and either may be empty. */
+struct report {
+    struct piece place;
+    const char *message;
+};
+
+/* Takes apart what a call reported: the last zero ends the place. There is a zero behind the text. */
+static inline struct report report_in(const uint8_t *text, size_t length) {
+    size_t message = length;
+    while (message > 0 && text[message - 1] != '\0') {
+        message--;
+    }
+    return message > 0 ? (struct report){{text, message - 1}, (const char *)text + message}
+                       : (struct report){{text + length, 0}, (const char *)text};
+}
+
+/* The length of the first line, which is the JSON of a registry that was made of modules. Notes for people follow it. */
+static inline size_t length_of_line(const uint8_t *text, size_t length) {
+    const uint8_t *const end = length > 0 ? memchr(text, '\n', length) : NULL;
+    return end != NULL ? (size_t)(end - text) : length;
 }
 
 /* The character at the front of UTF-8, and how many bytes it has. */

@@ -8,8 +8,6 @@ SQLITE_EXTENSION_INIT1
 
 /* The calls that write an answer. */
 
-typedef bcs_answer writing(const struct question *question, uint8_t *out, size_t room);
-
 static bcs_answer write_text(const struct question *question, uint8_t *out, size_t room) {
     return bcs_handle_from_bcs(ASK(&question->ask), PIECE(question->input), out, room);
 }
@@ -22,13 +20,15 @@ static bcs_answer write_normal(const struct question *question, uint8_t *out, si
     return bcs_handle_normalise(ASK(&question->ask), PIECE(question->input), out, room);
 }
 
+static bcs_answer write_pieces_with(const struct question *question, uint8_t *out, size_t room) {
+    return bcs_handle_explain_with(ASK(&question->ask), question->form, PIECE(question->views), PIECE(question->input), out, room);
+}
+
 static bcs_answer write_pieces(const struct question *question, uint8_t *out, size_t room) {
     return bcs_handle_explain(ASK(&question->ask), question->form, PIECE(question->input), out, room);
 }
 
-/* What a call writes, in memory of SQLite, of which `most` bytes are the longest value. BCS_SHORT: it is longer. Null: there is
-   no memory, or that. */
-static uint8_t *written(const struct question *question, writing *call, size_t room, size_t most, bcs_answer *answer) {
+uint8_t *written(const struct question *question, writing *call, size_t room, size_t most, bcs_answer *answer) {
     for (room = room < most ? room : most;; room = answer->length) {
         uint8_t *out = NULL;
         *answer = (bcs_answer){.status = BCS_MEMORY};
@@ -47,10 +47,7 @@ static uint8_t *written(const struct question *question, writing *call, size_t r
     }
 }
 
-enum kind { A_BLOB, A_TEXT, A_JSON };
-
-/* The answer, in memory that is SQLite's from now on. */
-static void answer_owned(sqlite3_context *context, enum kind kind, uint8_t *out, size_t length) {
+void answer_owned(sqlite3_context *context, enum kind kind, uint8_t *out, size_t length) {
     if (kind == A_BLOB) {
         sqlite3_result_blob64(context, out, length, sqlite3_free);
         return;
@@ -132,6 +129,18 @@ static bcs_answer find_by_pointer(const struct question *question) {
     return bcs_handle_part_named(ASK(&question->ask), BCS_POINTER, PIECE(question->second), PIECE(question->input));
 }
 
+static bcs_answer find_content(const struct question *question) {
+    return bcs_handle_content(ASK(&question->ask), BCS_STEPS, PIECE(question->second), PIECE(question->input));
+}
+
+static bcs_answer find_content_by_name(const struct question *question) {
+    return bcs_handle_content(ASK(&question->ask), BCS_NAME, PIECE(question->second), PIECE(question->input));
+}
+
+static bcs_answer find_content_by_pointer(const struct question *question) {
+    return bcs_handle_content(ASK(&question->ask), BCS_POINTER, PIECE(question->second), PIECE(question->input));
+}
+
 /* Where a part is. False: there is no such part, or the refusal is reported. */
 static bool find_part(sqlite3_context *context, struct question *question, finding *find, bcs_answer *answer) {
     *answer = find(question);
@@ -164,6 +173,18 @@ static void part_by_pointer(sqlite3_context *context, int count, sqlite3_value *
     answer_part(context, find_by_pointer, count, values);
 }
 
+static void content(sqlite3_context *context, int count, sqlite3_value **values) {
+    answer_part(context, find_content, count, values);
+}
+
+static void content_by_name(sqlite3_context *context, int count, sqlite3_value **values) {
+    answer_part(context, find_content_by_name, count, values);
+}
+
+static void content_by_pointer(sqlite3_context *context, int count, sqlite3_value **values) {
+    answer_part(context, find_content_by_pointer, count, values);
+}
+
 static void part_place(sqlite3_context *context, int count, sqlite3_value **values) {
     struct question question;
     bcs_answer answer;
@@ -175,16 +196,24 @@ static void part_place(sqlite3_context *context, int count, sqlite3_value **valu
     }
 }
 
-static void explain(sqlite3_context *context, int count, sqlite3_value **values) {
+static void answer_explained(sqlite3_context *context, writing *call, int inputs, int count, sqlite3_value **values) {
     struct question question;
-    if (take_question_of_bytes(context, &question, 2, count, values)) {
+    if (take_question_of_bytes(context, &question, inputs, count, values)) {
         if (is_form(question.second, &question.form)) {
-            answer_written(context, &question, write_pieces, room_of_pieces(question.input.length), A_TEXT);
+            answer_written(context, &question, call, room_of_pieces(question.input.length), A_TEXT);
         } else {
             sqlite3_result_error(context, "bcs: a form is ways, paths, tree or json", -1);
         }
         drop_question(&question);
     }
+}
+
+static void explain(sqlite3_context *context, int count, sqlite3_value **values) {
+    answer_explained(context, write_pieces, 2, count, values);
+}
+
+static void explain_with(sqlite3_context *context, int count, sqlite3_value **values) {
+    answer_explained(context, write_pieces_with, 3, count, values);
 }
 
 static bcs_answer verdict(struct question *question) {
@@ -262,6 +291,10 @@ static const struct {
     {"bcs_equal", 2, true, equal},         {"bcs_part", 2, true, part},     {"bcs_part_place", 2, true, part_place},
     {"bcs_scan", 1, true, scan},           {"bcs_is", 1, true, is},         {"bcs_fault", 1, true, fault},
     {"bcs_explain", 2, false, explain},
+    {"bcs_explain_with", 3, false, explain_with},
+    {"bcs_content", 2, true, content},
+    {"bcs_content_by_name", 2, true, content_by_name},
+    {"bcs_content_by_pointer", 2, true, content_by_pointer},
     {"bcs_part_by_name", 2, true, part_by_name},
     {"bcs_part_by_pointer", 2, true, part_by_pointer},
 };
@@ -282,6 +315,9 @@ static int create_functions(sqlite3 *database, struct connection *connection) {
                                                 flags | innocuous, connection, functions[number].function, NULL, NULL,
                                                 leave_connection);
         }
+    }
+    if (status == SQLITE_OK) {
+        status = create_functions_of_modules(database, connection, flags);
     }
     for (int count = 0; count <= 1 && status == SQLITE_OK; count++) {
         connection->functions++;

@@ -45,7 +45,7 @@ struct question {
     struct registry *registry;
     sqlite3_int64 memory; /* of the call and its registry */
     char *format; /* its JSON, in memory of SQLite */
-    struct piece input, second;
+    struct piece input, second, views;
     uint32_t form; /* of pieces */
 };
 
@@ -62,13 +62,43 @@ void leave_connection(void *connection);
    of the statement if its argument is constant, and no longer otherwise. */
 struct registry *take_registry(sqlite3_context *context, struct piece text, sqlite3_int64 memory);
 void give_registry_back(sqlite3_context *context, struct registry *registry, sqlite3_int64 memory);
+/* Limits the memory that the call in progress may take, until another limit is set: NO_LIMIT at its end. */
+void limit_memory(sqlite3_int64 memory);
 /* Counts memory for an answer as that of the call, as long as the call runs. False: that is beyond its limit. */
 bool count_output(size_t length);
 void forget_output(size_t length);
 /* Limits the registries that stay open after a statement. */
 void limit_cache(struct connection *connection, sqlite3_int64 bytes);
 
+/* bcs_sqlite.c */
+
+/* A call that writes an answer. */
+typedef bcs_answer writing(const struct question *question, uint8_t *out, size_t room);
+
+/* What a call writes, in memory of SQLite, of which `most` bytes are the longest value. BCS_SHORT: it is longer. Null: there is
+   no memory, or that. */
+uint8_t *written(const struct question *question, writing *call, size_t room, size_t most, bcs_answer *answer);
+
+enum kind { A_BLOB, A_TEXT, A_JSON };
+
+/* The answer, in memory that is SQLite's from now on. */
+void answer_owned(sqlite3_context *context, enum kind kind, uint8_t *out, size_t length);
+
+/* modules.c: the functions that make registries from modules. */
+
+int create_functions_of_modules(sqlite3 *database, struct connection *connection, int flags);
+
 /* question.c */
+
+/* Which types an argument may have, as bits. */
+enum types { IS_BLOB = 1 << SQLITE_BLOB, IS_TEXT = 1 << SQLITE_TEXT, IS_INTEGER = 1 << SQLITE_INTEGER };
+
+/* Reads an argument of these types: the bytes of a BLOB, or a text in UTF-8. Otherwise an error is reported: the message, or that
+   memory ran out. */
+bool take_piece(sqlite3_context *context, sqlite3_value *value, int types, const char *message, struct piece *piece);
+bool are_some_null(int count, sqlite3_value **values);
+/* How much memory a call may take for its inputs, by whether it has limits. */
+sqlite3_int64 memory_of_call(const struct question *question, int inputs, bool has_limits);
 
 /* Reads the arguments: a registry, a format, `inputs` inputs, and limits. If these return false, an argument is null, or an error
    is reported. Each argument has its type: nothing is converted that could be meant otherwise. */

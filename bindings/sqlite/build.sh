@@ -6,7 +6,7 @@ set -eu
 unset CDPATH
 here=$(cd "$(dirname "$0")" && pwd)
 folder=${1:-$here/out}
-proved=${BCS_LIB:-$here/../../dist/$(uname -m)-linux}/libbcs_c.a
+proved=${BCS_LIB:-$here/../../dist/$(uname -m)-linux}/libbcs.a
 if ! [ -e "$proved" ]; then
     echo "build: no $proved" >&2
     exit 1

@@ -3,9 +3,6 @@
 #include "bcs_sqlite.h"
 SQLITE_EXTENSION_INIT3
 
-/* Which types an argument may have, as bits. */
-enum types { BLOB = 1 << SQLITE_BLOB, TEXT = 1 << SQLITE_TEXT, INTEGER = 1 << SQLITE_INTEGER };
-
 /* An argument has another type, or memory ran out. */
 static bool refuse_argument(sqlite3_context *context, const char *message) {
     if (message != NULL) {
@@ -16,8 +13,8 @@ static bool refuse_argument(sqlite3_context *context, const char *message) {
     return false;
 }
 
-/* The bytes of a BLOB, or a text in UTF-8, for which SQLite may need memory. A pointer to no bytes isn't null. */
-static bool take_piece(sqlite3_context *context, sqlite3_value *value, int types, const char *message, struct piece *piece) {
+/* (SQLite may need memory for a text in UTF-8. A pointer to no bytes isn't null.) */
+bool take_piece(sqlite3_context *context, sqlite3_value *value, int types, const char *message, struct piece *piece) {
     const int type = sqlite3_value_type(value);
     const void *at;
     if (!(types & 1 << type)) {
@@ -31,7 +28,7 @@ static bool take_piece(sqlite3_context *context, sqlite3_value *value, int types
     return piece->at != NULL || refuse_argument(context, NULL);
 }
 
-static bool are_some_null(int count, sqlite3_value **values) {
+bool are_some_null(int count, sqlite3_value **values) {
     for (int place = 0; place < count; place++) {
         if (sqlite3_value_type(values[place]) == SQLITE_NULL) {
             return true;
@@ -63,8 +60,8 @@ static bool take_limits(sqlite3_context *context, struct ask *ask, int place, in
 /* The registry comes last, since nothing here may close it again. */
 static bool take_ask(sqlite3_context *context, struct question *question, sqlite3_value **values) {
     struct piece registry, format;
-    if (!take_piece(context, values[0], TEXT | BLOB, "bcs: the registry is neither TEXT nor BLOB", &registry) ||
-        !take_piece(context, values[1], TEXT, "bcs: the format isn't TEXT", &format)) {
+    if (!take_piece(context, values[0], IS_TEXT | IS_BLOB, "bcs: the registry is neither TEXT nor BLOB", &registry) ||
+        !take_piece(context, values[1], IS_TEXT, "bcs: the format isn't TEXT", &format)) {
         return false;
     }
     question->format = sqlite3_malloc64(write_format(format, NULL));
@@ -81,12 +78,12 @@ static bool take_ask(sqlite3_context *context, struct question *question, sqlite
     return true;
 }
 
-static sqlite3_int64 memory_of_call(const struct question *question, int inputs, bool has_limits) {
-    const size_t length = question->input.length + (inputs == 2 ? question->second.length : 0);
+sqlite3_int64 memory_of_call(const struct question *question, int inputs, bool has_limits) {
+    const size_t length = question->input.length + (inputs >= 2 ? question->second.length : 0) + question->views.length;
     return has_limits ? NO_LIMIT : STANDARD_MEMORY + MEMORY_OF_BYTE * (sqlite3_int64)length;
 }
 
-/* `types` are those of the first input. A second one is a text, which with bytes is a path or a form. */
+/* `types` are those of the first input. A second one is a text, which with bytes is a path or a form. A third one is views. */
 static bool take_inputs(sqlite3_context *context, struct question *question, int inputs, int types, const char *message,
                         int count, sqlite3_value **values) {
     *question = (struct question){.context = context};
@@ -95,11 +92,14 @@ static bool take_inputs(sqlite3_context *context, struct question *question, int
         return false;
     }
     question->second = question->input;
-    if (inputs == 2 && types == BLOB) {
-        types = TEXT;
+    if (inputs >= 2 && types == IS_BLOB) {
+        types = IS_TEXT;
         message = "bcs: the path or the form isn't TEXT";
     }
-    if (inputs == 2 && !take_piece(context, values[3], types, message, &question->second)) {
+    if (inputs >= 2 && !take_piece(context, values[3], types, message, &question->second)) {
+        return false;
+    }
+    if (inputs == 3 && !take_piece(context, values[4], IS_TEXT, "bcs: the views aren't TEXT", &question->views)) {
         return false;
     }
     question->memory = memory_of_call(question, inputs, count > 2 + inputs);
@@ -107,12 +107,12 @@ static bool take_inputs(sqlite3_context *context, struct question *question, int
 }
 
 bool take_question(sqlite3_context *context, struct question *question, int inputs, int count, sqlite3_value **values) {
-    return take_inputs(context, question, inputs, TEXT | INTEGER, "bcs: the value is neither TEXT nor INTEGER", count, values);
+    return take_inputs(context, question, inputs, IS_TEXT | IS_INTEGER, "bcs: the value is neither TEXT nor INTEGER", count, values);
 }
 
 bool take_question_of_bytes(sqlite3_context *context, struct question *question, int inputs, int count,
                             sqlite3_value **values) {
-    return take_inputs(context, question, inputs, BLOB, "bcs: the bytes are no BLOB", count, values);
+    return take_inputs(context, question, inputs, IS_BLOB, "bcs: the bytes are no BLOB", count, values);
 }
 
 void drop_question(struct question *question) {

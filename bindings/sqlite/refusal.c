@@ -2,69 +2,76 @@
 #include "bcs_sqlite.h"
 SQLITE_EXTENSION_INIT3
 
-/* What the library reports about the place, in memory of SQLite with a zero behind it, and nothing if that is too long; null if
-   memory ran out. */
-static uint8_t *told(const struct refused *refused, uint32_t what, size_t *length) {
-    bcs_answer answer = {.status = BCS_SHORT, .length = PLACE_ROOM};
+/* What a call reports about a refusal, in memory of SQLite with a zero behind it, and nothing if that is too long; null if memory
+   ran out. */
+static uint8_t *told(const struct refused *refused, telling *tell, bcs_answer *answer) {
     uint8_t *out = NULL;
-    while (is_to_ask_again(answer)) {
-        const size_t room = answer.length;
+    *answer = (bcs_answer){.status = BCS_SHORT, .length = PLACE_ROOM};
+    while (is_to_ask_again(*answer)) {
+        const size_t room = answer->length;
         sqlite3_free(out);
         out = sqlite3_malloc64(room + 1);
-        answer = out != NULL ? tell_place(refused, what, out, room) : (bcs_answer){.status = BCS_MEMORY};
+        *answer = out != NULL ? tell(refused, out, room) : (bcs_answer){.status = BCS_MEMORY};
     }
-    if (answer.status == BCS_MEMORY) {
+    if (answer->status == BCS_MEMORY) {
         sqlite3_free(out);
         return NULL;
     }
-    *length = answer.status == BCS_DONE ? answer.length : 0;
-    out[*length] = '\0';
+    out[answer->status == BCS_DONE ? answer->length : 0] = '\0';
     return out;
 }
 
-/* The place in printable ASCII. The library reports names of a text or a registry as they are. */
-static char *place_told(const struct refused *refused) {
-    size_t length = 0;
-    uint8_t *where = told(refused, BCS_WHERE, &length);
-    const struct piece place = {where, length};
-    char *text = NULL;
-    if (where != NULL && !is_stop(refused->answer)) {
-        text = sqlite3_malloc64(write_place(refused->answer, place, NULL) + 1);
-        if (text != NULL) {
-            text[write_place(refused->answer, place, text)] = '\0';
-        }
-    } else if (where != NULL) {
-        text = sqlite3_mprintf("%.*s", (int)length, (const char *)where);
+/* What is known of a refusal, in memory that is returned; null if memory ran out. A place that is too long is left out. */
+static uint8_t *take_report(const struct refused *refused, struct report *report) {
+    bcs_answer answer;
+    uint8_t *text = told(refused, tell_refusal, &answer);
+    if (text != NULL && answer.status == BCS_SHORT) {
+        sqlite3_free(text);
+        text = told(refused, tell_message, &answer);
     }
-    sqlite3_free(where);
+    if (text != NULL) {
+        *report = report_in(text, answer.status == BCS_DONE ? answer.length : 0);
+    }
+    return text;
+}
+
+/* The place in printable ASCII, in memory of SQLite; null if memory ran out. The library reports names of a text, a registry or
+   modules as they are. */
+static char *place_told(const struct refused *refused, struct piece place) {
+    char *text;
+    if (is_stop(refused->answer)) {
+        return sqlite3_mprintf("%.*s", (int)place.length, (const char *)place.at);
+    }
+    text = sqlite3_malloc64(write_place(refused->answer, place, NULL) + 1);
+    if (text != NULL) {
+        text[write_place(refused->answer, place, text)] = '\0';
+    }
     return text;
 }
 
 /* The text of a refusal; null if memory ran out. */
 static char *message_of(const struct refused *refused, const char *name, const char *what) {
-    size_t length = 0;
+    struct report report;
+    uint8_t *memory;
     char *where, *text = NULL;
-    uint8_t *expected;
     if (!is_placed(refused->answer)) {
         return sqlite3_mprintf("bcs: refused: %s%s", name, what);
     }
-    where = place_told(refused);
-    if (where == NULL) {
-        return NULL;
-    }
-    if (is_stop(refused->answer)) {
+    memory = take_report(refused, &report);
+    where = memory != NULL ? place_told(refused, report.place) : NULL;
+    if (where != NULL && is_stop(refused->answer)) {
         text = sqlite3_mprintf("bcs: refused: %s at byte %llu%s%s", name, (unsigned long long)refused->answer.place,
                                where[0] != '\0' ? ", " : "", where);
-    } else if ((expected = told(refused, BCS_WANTED, &length)) != NULL) {
-        text = sqlite3_mprintf("bcs: refused: %s%s%s%s: %.*s", name, what, where[0] != '\0' ? " at " : "", where,
-                               (int)length, (const char *)expected);
-        sqlite3_free(expected);
+    } else if (where != NULL) {
+        text = sqlite3_mprintf("bcs: refused: %s%s%s%s: %s", name, what, where[0] != '\0' ? " at " : "", where,
+                               report.message);
     }
     sqlite3_free(where);
+    sqlite3_free(memory);
     return text;
 }
 
-static void tell_refusal(sqlite3_context *context, const struct refused *refused) {
+static void raise_refusal(sqlite3_context *context, const struct refused *refused) {
     char *text = NULL;
     if (refused->answer.status == BCS_STACK) {
         sqlite3_result_error(context, "bcs: this thread has too little stack left for the value", -1);
@@ -83,12 +90,12 @@ static void tell_refusal(sqlite3_context *context, const struct refused *refused
 
 void refuse(sqlite3_context *context, const struct question *question, bcs_answer answer) {
     const struct refused refused = {answer, &question->ask, question->input, question->second};
-    tell_refusal(context, &refused);
+    raise_refusal(context, &refused);
 }
 
 void refuse_registry(sqlite3_context *context, struct piece text, bcs_answer answer) {
     const struct refused refused = {.answer = answer, .input = text};
-    tell_refusal(context, &refused);
+    raise_refusal(context, &refused);
 }
 
 /* A member of JSON with a text in printable ASCII, unless that is empty. */
@@ -118,12 +125,10 @@ static char *json_with(bcs_answer answer, const char *where, const char *message
 
 char *json_of_stop(const struct question *question, bcs_answer answer) {
     const struct refused refused = {answer, &question->ask, question->input, question->second};
-    size_t length;
-    char *const where = (char *)told(&refused, BCS_WHERE, &length);
-    char *const message = where != NULL ? (char *)told(&refused, BCS_WANTED, &length) : NULL;
-    char *const json = message != NULL ? json_with(answer, where, message) : NULL;
-    sqlite3_free(where);
-    sqlite3_free(message);
+    struct report report;
+    uint8_t *const memory = take_report(&refused, &report);
+    char *const json = memory != NULL ? json_with(answer, (const char *)report.place.at, report.message) : NULL;
+    sqlite3_free(memory);
     if (json != NULL) {
         json[strlen(json) - 1] = '}'; /* in place of the comma */
     }

@@ -7,6 +7,10 @@ SQLITE_EXTENSION_INIT3
 /* How many bytes the call in progress may still take. */
 static __thread sqlite3_int64 left = NO_LIMIT;
 
+void limit_memory(sqlite3_int64 memory) {
+    left = memory;
+}
+
 bool count_output(size_t length) {
     const bool is_within = (sqlite3_int64)length <= left;
     left -= is_within ? (sqlite3_int64)length : 0;

@@ -14,7 +14,7 @@ fail() {
 # compile OPTIONS..: the test, with the extension linked into it.
 compile() {
     gcc -std=gnu11 -g -Wall -Wextra -Werror -DSQLITE_CORE "$@" -I"$root/bindings/c/include" -I"$root/bindings/sql" \
-        "$here"/*.c "$here/tests/connection.c" "$BCS_LIB/libbcs_c.a" -lsqlite3 -o "$room/connection"
+        "$here"/*.c "$here/tests/connection.c" "$BCS_LIB/libbcs.a" -lsqlite3 -o "$room/connection"
 }
 
 room=$(mktemp -d)

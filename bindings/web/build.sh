@@ -23,7 +23,7 @@ if [ $# != 1 ] || [ "$1" != "${1#-}" ]; then
 fi
 folder=$1
 "$here/module.py" ${code+--code "$code"} ${program_code+--program-code "$program_code"} "$folder"
-for name in bcs own_module loader registry format_calls holder refusals limits interruptions errors support calls writing reading \
+for name in bcs own_module loader registry format_calls holder modules views refusals limits interruptions errors support calls writing reading \
     json_output move_types shapes texts hex octets program host system types declarations identifiers; do
     install -m 644 "$here/$name.mjs" "$folder/"
 done

@@ -4,8 +4,7 @@ import { Interruption, interruptionOf } from './interruptions.mjs';
 
 const STATUSES = ['done', 'short', 'registry', 'format', 'limits', 'refused', 'memory', 'no', 'path', 'newer', 'closed'];
 export const FORMS = ['ways', 'paths', 'tree', 'json'];
-// (their numbers begin with 1)
-const NOTATIONS = [undefined, 'name', 'pointer'];
+const NOTATIONS = ['steps', 'name', 'pointer'];
 const ANSWER_SIZE = 24;
 const SLICE_SIZE = 16;
 const LIMITS_SIZE = 8;
@@ -235,8 +234,14 @@ export class Calls {
     return this.#onHandle('part_named', ask.registry, [asked(ask), NOTATIONS.indexOf(notation), name, bytes]);
   }
 
-  explain(ask, form, bytes) {
-    return this.#on('explain', ask, [FORMS.indexOf(form), bytes], Math.min(64 * bytes.length + 256, FIRST_PIECES));
+  /** The content of a byte string. `notation` is `steps`, `name` or `pointer`. */
+  content(ask, notation, name, bytes) {
+    return this.#on('content', ask, [NOTATIONS.indexOf(notation), name, bytes]);
+  }
+
+  /** `views` has a line for each view. */
+  explain(ask, form, views, bytes) {
+    return this.#on('explain_with', ask, [FORMS.indexOf(form), views, bytes], Math.min(64 * bytes.length + 256, FIRST_PIECES));
   }
 
   /** Where a text is refused, and what was expected there, with a NUL between them. */
@@ -278,6 +283,15 @@ export class Calls {
 
   growthList(older, newer) {
     return this.#run((room) => wholeCall(room, 'bcs_c_growth_list', [older, newer], FIRST_DOCUMENT));
+  }
+
+  registryOfModules(modules, types) {
+    return this.#run((room) => wholeCall(room, 'bcs_c_registry_of_modules', [modules, types], FIRST_DOCUMENT));
+  }
+
+  /** The same of modules, or of a type that is requested of them. */
+  modulesPlace(modules, types) {
+    return this.#run((room) => wholeCall(room, 'bcs_c_modules_place', [modules, types], FIRST_PLACE));
   }
 
   /** The same of the text of a registry. */

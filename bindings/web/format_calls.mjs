@@ -1,10 +1,15 @@
 // The calls on one format of an open registry.
+import { FORMS } from './calls.mjs';
 import { ALL_NODES } from './limits.mjs';
 import { reported } from './refusals.mjs';
 import { valueOf } from './reading.mjs';
 import { bytesForCall, stringOfUtf8 } from './texts.mjs';
+import { linesOfViews, refusedView } from './views.mjs';
 import { jsonOfValue } from './writing.mjs';
 
+// The fault of a part without a content.
+const NO_CONTENT = 602;
+const WITH_CONTENT = 'only a BYTES, a STR, and a list or an array of U8 have a content';
 // What a name of a part looks like, by its notation.
 const EXAMPLES = { name: 'a name such as .payload.args[1]', pointer: 'a JSON Pointer such as /payload/args/1' };
 
@@ -69,8 +74,24 @@ export class FormatCalls {
     return this.#ofBytes(bytes, (calls, ask) => calls.scan(ask, bytes)).length;
   }
 
-  explained(bytes, form) {
-    return stringOfUtf8(this.#ofBytes(bytes, (calls, ask) => calls.explain(ask, form, bytes)).output);
+  explained(bytes, form, views) {
+    const lines = linesOfViews(views);
+    const placing = (calls, ask, { status }) => this.#refusedOf(calls, ask, views, status);
+    return stringOfUtf8(this.#answer(this.#nodesFor(bytes), (calls, ask) => calls.explain(ask, form, lines, bytes), placing).output);
+  }
+
+  /** Which of the views is refused, each asked by itself. */
+  #refusedOf(calls, ask, views, status) {
+    const found = views.find((view) => calls.explain(ask, FORMS[0], linesOfViews([view]), new Uint8Array()).status === status);
+    if (found === undefined) return {};
+    const told = found.format && reported(calls.formatPlace({ ...ask, format: found.format.bytes }));
+    return refusedView(found, status, told);
+  }
+
+  /** The content of a part, a byte string. `notation` is `steps`, `name` or `pointer`. */
+  content(bytes, notation, name) {
+    const placing = notation === 'steps' ? (calls) => reported(calls.pathPlace(name)) : () => ({ detail: `expected ${EXAMPLES[notation]}` });
+    return this.#partBy(bytes, (calls, ask) => calls.content(ask, notation, name, bytes), placing);
   }
 
   /** The part to which a path leads. */
@@ -85,7 +106,10 @@ export class FormatCalls {
   }
 
   #partBy(bytes, call, placing) {
-    const placed = (calls, ask, { status }) => (status === 'path' ? placing(calls) : reported(calls.stopRefusal(ask, bytes)));
+    const placed = (calls, ask, { status, fault }) => {
+      if (status === 'path') return placing(calls);
+      return fault === NO_CONTENT ? { detail: WITH_CONTENT } : reported(calls.stopRefusal(ask, bytes));
+    };
     const { status, place, length } = this.#answer(this.#nodesFor(bytes), call, placed);
     return status === 'no' ? undefined : { place, bytes: bytes.slice(place, place + length) };
   }
@@ -114,8 +138,8 @@ export class FormatCalls {
     const limits = { depth: this.#limits.depth, nodes: this.#limits.nodes ?? nodes };
     const ask = { registry: this.#holder.opened, format: this.#format.bytes, ...limits };
     const placed = (calls, answer) => {
-      if (answer.status === 'format') return reported(calls.formatPlace(ask));
-      return placing?.(calls, ask, answer);
+      const told = answer.status === 'format' ? reported(calls.formatPlace(ask)) : {};
+      return told.detail === undefined ? placing?.(calls, ask, answer) : told;
     };
     return this.#bcs.answerOf((calls) => call(calls, ask), placed);
   }

@@ -8,6 +8,8 @@ const WORDS =
   'readonly require return satisfies set static string super switch symbol this throw true try type typeof undefined unique ' +
   'unknown using var void while with yield accessor ArrayBuffer Map ReadonlyMap Uint8Array Types';
 const PLAIN = /^[A-Za-z][A-Za-z0-9_]*$/;
+// What comes before the name of a type of Move.
+const MODULE = /0x[0-9a-f]+::[A-Za-z_][A-Za-z0-9_]*::/g;
 
 /** The names in the order of their bytes, so that two spellings of one registry give the same. */
 export function sorted(names) {
@@ -20,10 +22,21 @@ export class Identifiers {
   // the last number that was tried behind each text
   #numbers = new Map();
 
-  /** One for each name, which is the name itself where that is a good one. */
+  /**
+   * One for each name, which is the name itself where that is a good one. Those of Move's types leave the modules out, if no other
+   * one is like that: `CoinStore_AptosCoin` for `0x1::coin::CoinStore<0x1::aptos_coin::AptosCoin>`.
+   */
   ofAll(names) {
-    const others = names.filter((name) => !PLAIN.test(name));
-    return new Map([...names.filter((name) => PLAIN.test(name)), ...others].map((name) => [name, this.of(name)]));
+    const found = new Map(names.filter((name) => PLAIN.test(name)).map((name) => [name, this.of(name)]));
+    const others = names.filter((name) => !PLAIN.test(name)).map((name) => ({ name, short: cleaned(name.replace(MODULE, '')) }));
+    const counts = new Map();
+    for (const { short } of others) counts.set(short, (counts.get(short) ?? 0) + 1);
+    const isFree = ({ short }) => counts.get(short) === 1 && !this.#taken.has(short);
+    // (the short ones come first, so that no other name takes one)
+    const shortened = new Set(others.filter(isFree));
+    for (const { name, short } of shortened) found.set(name, this.of(short));
+    for (const other of others) if (!shortened.has(other)) found.set(other.name, this.of(other.name));
+    return found;
   }
 
   /** One like this text, with a number behind it where others have it. */

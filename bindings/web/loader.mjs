@@ -4,6 +4,7 @@ import { BcsError } from './errors.mjs';
 import { Holder } from './holder.mjs';
 import { interruptible } from './interruptions.mjs';
 import { isUnsigned, MOST_DEPTH } from './limits.mjs';
+import { linesOfTypes, madeRegistryOf } from './modules.mjs';
 import { MoveTypes } from './move_types.mjs';
 import { reported } from './refusals.mjs';
 import { Registry } from './registry.mjs';
@@ -74,6 +75,16 @@ class Bcs {
     return stringOfUtf8(output).split('\n').slice(0, -1);
   }
 
+  /**
+   * The registry for types of a Move chain, from the JSON of modules as a node returns them: its JSON, and notes for people. Each of
+   * the types is a type, or a function, whose arguments have containers of their own.
+   */
+  registryOfModules(modules, types) {
+    const [text, lines] = [bytesOf(modules), linesOfTypes(types)];
+    const refused = (calls) => reported(calls.modulesPlace(text, lines));
+    return madeRegistryOf(this.answerOf((calls) => calls.registryOfModules(text, lines), refused).output);
+  }
+
   /** The name of a fault of bcs.h, or `undefined` where no fault has the number. */
   faultName(fault) {
     if (!isUnsigned(fault)) return undefined;
@@ -105,6 +116,8 @@ class Bcs {
 
 function kindOfFault(fault) {
   if (fault < 300) return 'growth';
+  if (fault >= 800) return 'modules';
   if (fault >= 700) return 'example';
+  if (fault >= 600) return 'path';
   return fault < 400 ? 'text' : 'bytes';
 }

@@ -2,8 +2,8 @@
 "use strict";
 /**
  * A refusal. `kind` is what is refused, `reason` the fault's name, `place` the byte offset where bytes stop being a value, `at` a
- * JSON Pointer or field path, which is empty for a whole document, and `detail` what is wrong there. `message` is the line that
- * joins them.
+ * JSON Pointer, a field path or a Move type, which is empty for a whole document, and `detail` what is wrong there. `message` is
+ * the line that joins them.
  */
 class BcsError extends Error {
   constructor(kind, { reason, place, at, detail, cause } = {}) {
@@ -486,7 +486,7 @@ class JsonOutput {
 // Values in JavaScript's own types, as JSON. This is a convenience and not proved: the bytes come from the proved call over the
 // JSON, which rejects a document that is not a value's.
 
-// The limits of docs/FORMAT.md: arrays and objects in one another, and open containers.
+// The limits of docs/ENCODING.md: arrays and objects in one another, and open containers.
 const MOST_NESTED = 100;
 const MOST_OPEN = 500;
 // An array may have a length of billions and take no memory, and a value may hold another one many times.
@@ -633,7 +633,10 @@ class Writer {
 
   #list(shape, value) {
     const integers = shape.item.kind === 'INTEGER' ? this.#copied(copyOfIntegers, shape, value) : undefined;
-    if (integers !== undefined) return this.#out.put(`[${integers.join()}]`);
+    if (integers !== undefined) {
+      this.#count(integers.length);
+      return this.#out.put(`[${integers.join()}]`);
+    }
     return this.#array(shape, value, (item) => this.#value(shape.item, item));
   }
 
@@ -694,8 +697,9 @@ class Writer {
   }
 
   /** Values that hold others many times end here: they take little memory, and their JSON much. */
-  #count() {
-    if (this.#nodes-- === 0) throw this.#error('TooManyNodes', 'the value has more nodes than the limits allow');
+  #count(nodes = 1) {
+    this.#nodes -= nodes;
+    if (this.#nodes < 0) throw this.#error('TooManyNodes', 'the value has more nodes than the limits allow');
     if (this.#out.length > MOST_JSON) throw this.#error('TooLong', 'the JSON of the value is above 512 MiB');
   }
 
@@ -728,7 +732,9 @@ class Writer {
 
   /** Bytes, or a list of integers from 0 to 255. A string is neither, so that bytes never depend on what it looks like. */
   #bytes(shape, value) {
-    this.#out.putHex(this.#copied(copyOfBytes, shape, value) ?? this.#octets(shape, value));
+    const bytes = this.#copied(copyOfBytes, shape, value) ?? this.#octets(shape, value);
+    if (shape.name !== 'BYTES') this.#count(bytes.length);
+    this.#out.putHex(bytes);
   }
 
   #octets(shape, value) {
@@ -968,8 +974,7 @@ function isEndOfStack(error) {
 
 const STATUSES = ['done', 'short', 'registry', 'format', 'limits', 'refused', 'memory', 'no', 'path', 'newer', 'closed'];
 const FORMS = ['ways', 'paths', 'tree', 'json'];
-// (their numbers begin with 1)
-const NOTATIONS = [undefined, 'name', 'pointer'];
+const NOTATIONS = ['steps', 'name', 'pointer'];
 const ANSWER_SIZE = 24;
 const SLICE_SIZE = 16;
 const LIMITS_SIZE = 8;
@@ -1199,8 +1204,14 @@ class Calls {
     return this.#onHandle('part_named', ask.registry, [asked(ask), NOTATIONS.indexOf(notation), name, bytes]);
   }
 
-  explain(ask, form, bytes) {
-    return this.#on('explain', ask, [FORMS.indexOf(form), bytes], Math.min(64 * bytes.length + 256, FIRST_PIECES));
+  /** The content of a byte string. `notation` is `steps`, `name` or `pointer`. */
+  content(ask, notation, name, bytes) {
+    return this.#on('content', ask, [NOTATIONS.indexOf(notation), name, bytes]);
+  }
+
+  /** `views` has a line for each view. */
+  explain(ask, form, views, bytes) {
+    return this.#on('explain_with', ask, [FORMS.indexOf(form), views, bytes], Math.min(64 * bytes.length + 256, FIRST_PIECES));
   }
 
   /** Where a text is refused, and what was expected there, with a NUL between them. */
@@ -1242,6 +1253,15 @@ class Calls {
 
   growthList(older, newer) {
     return this.#run((room) => wholeCall(room, 'bcs_c_growth_list', [older, newer], FIRST_DOCUMENT));
+  }
+
+  registryOfModules(modules, types) {
+    return this.#run((room) => wholeCall(room, 'bcs_c_registry_of_modules', [modules, types], FIRST_DOCUMENT));
+  }
+
+  /** The same of modules, or of a type that is requested of them. */
+  modulesPlace(modules, types) {
+    return this.#run((room) => wholeCall(room, 'bcs_c_modules_place', [modules, types], FIRST_PLACE));
   }
 
   /** The same of the text of a registry. */
@@ -1446,8 +1466,99 @@ function reported({ status, output }) {
   return { at, detail };
 }
 
+// What `explain` shows besides the pieces of a value: those inside byte strings, and Move's own types.
+
+const EXPECTED_NAME = 'expected a name such as .payload.args[1]';
+const NO_CONTAINER = 'the registry has no newtype of 32 bytes with this name';
+const MISSING = {
+  inside: 'the registry has no such format',
+  calls: 'the registry has no arguments of this function',
+  addresses: NO_CONTAINER,
+  u256s: NO_CONTAINER,
+  i256s: NO_CONTAINER,
+};
+// The words of the module, by the members that callers pass.
+const VIEW_WORDS = { inside: 'inside', calls: 'call', addresses: 'address', u256s: 'u256', i256s: 'i256' };
+
+/**
+ * The views that a caller asks for: the member that has each, its name, and its line for the module. `formatOf` finds the format
+ * that the caller names.
+ */
+function viewsOf(given, formatOf) {
+  if (typeof given !== 'object' || given === null) throw new TypeError('views are an object with inside, calls, addresses, u256s or i256s');
+  const unknown = Object.keys(given).find((member) => !Object.hasOwn(VIEW_WORDS, member));
+  if (unknown !== undefined) throw new TypeError(`no view is called ${unknown}`);
+  return Object.keys(VIEW_WORDS).flatMap((member) => viewsIn(member, given[member], formatOf));
+}
+
+function viewsIn(member, given, formatOf) {
+  if (given === undefined) return [];
+  if (member === 'inside') return namedIn(member, given, (format) => formatOf(format));
+  if (member === 'calls') return namedIn(member, given, functionOf);
+  const isList = typeof given === 'object' && typeof given?.[Symbol.iterator] === 'function';
+  if (!isList) throw new TypeError(`${member} are an array of names`);
+  return Array.from(given, (name) => viewOf(member, stringOfName(member, name), ''));
+}
+
+function functionOf(name) {
+  if (typeof name !== 'string') throw new TypeError('calls: a function is a string');
+  return { text: name };
+}
+
+function namedIn(member, given, found) {
+  const isObject = Object.prototype.toString.call(given) === '[object Object]';
+  if (!isObject) throw new TypeError(`${member} is an object by the names of byte strings`);
+  return Object.entries(given).map(([name, named]) => {
+    const format = found(named);
+    if (!endsOutsideQuotes(name)) throw badName(name, EXPECTED_NAME);
+    return { ...viewOf(member, name, `=${format.text}`), format: member === 'inside' ? format : undefined };
+  });
+}
+
+function stringOfName(member, name) {
+  if (typeof name === 'string') return name;
+  throw new TypeError(`${member}: a name is a string`);
+}
+
+function viewOf(member, name, rest) {
+  if (`${name}${rest}`.includes('\n')) throw badName(name, `${member}: a line feed, which no view may have`);
+  return { member, name, line: bytesOf(`${VIEW_WORDS[member]} ${name}${rest}`) };
+}
+
+function badName(at, detail) {
+  return new BcsError('path', { reason: 'BadPath', at, detail });
+}
+
+/** Whether a `=` behind the name ends it, since it has none outside quotes. */
+function endsOutsideQuotes(name) {
+  const outside = name.replace(/"(?:[^"\\]|\\.)*"/gs, '');
+  return name !== '' && !/[="]/.test(outside);
+}
+
+/** The lines for the module. */
+function linesOfViews(views) {
+  const length = views.reduce((sum, { line }) => sum + line.length + 1, 0);
+  const lines = new Uint8Array(length);
+  let at = 0;
+  for (const { line } of views) {
+    lines.set(line, at);
+    lines[at + line.length] = 10;
+    at += line.length + 1;
+  }
+  return lines;
+}
+
+/** The refusal of a view: of its name with the status `path`, and else of its format, function or container. */
+function refusedView({ member, name }, status, told = {}) {
+  if (status === 'path') return { at: name, detail: `${member}: ${EXPECTED_NAME}` };
+  return { at: told.at ?? '', detail: `${member} ${name}: ${told.detail ?? MISSING[member]}` };
+}
+
 // The calls on one format of an open registry.
 
+// The fault of a part without a content.
+const NO_CONTENT = 602;
+const WITH_CONTENT = 'only a BYTES, a STR, and a list or an array of U8 have a content';
 // What a name of a part looks like, by its notation.
 const EXAMPLES = { name: 'a name such as .payload.args[1]', pointer: 'a JSON Pointer such as /payload/args/1' };
 
@@ -1512,8 +1623,24 @@ class FormatCalls {
     return this.#ofBytes(bytes, (calls, ask) => calls.scan(ask, bytes)).length;
   }
 
-  explained(bytes, form) {
-    return stringOfUtf8(this.#ofBytes(bytes, (calls, ask) => calls.explain(ask, form, bytes)).output);
+  explained(bytes, form, views) {
+    const lines = linesOfViews(views);
+    const placing = (calls, ask, { status }) => this.#refusedOf(calls, ask, views, status);
+    return stringOfUtf8(this.#answer(this.#nodesFor(bytes), (calls, ask) => calls.explain(ask, form, lines, bytes), placing).output);
+  }
+
+  /** Which of the views is refused, each asked by itself. */
+  #refusedOf(calls, ask, views, status) {
+    const found = views.find((view) => calls.explain(ask, FORMS[0], linesOfViews([view]), new Uint8Array()).status === status);
+    if (found === undefined) return {};
+    const told = found.format && reported(calls.formatPlace({ ...ask, format: found.format.bytes }));
+    return refusedView(found, status, told);
+  }
+
+  /** The content of a part, a byte string. `notation` is `steps`, `name` or `pointer`. */
+  content(bytes, notation, name) {
+    const placing = notation === 'steps' ? (calls) => reported(calls.pathPlace(name)) : () => ({ detail: `expected ${EXAMPLES[notation]}` });
+    return this.#partBy(bytes, (calls, ask) => calls.content(ask, notation, name, bytes), placing);
   }
 
   /** The part to which a path leads. */
@@ -1528,7 +1655,10 @@ class FormatCalls {
   }
 
   #partBy(bytes, call, placing) {
-    const placed = (calls, ask, { status }) => (status === 'path' ? placing(calls) : reported(calls.stopRefusal(ask, bytes)));
+    const placed = (calls, ask, { status, fault }) => {
+      if (status === 'path') return placing(calls);
+      return fault === NO_CONTENT ? { detail: WITH_CONTENT } : reported(calls.stopRefusal(ask, bytes));
+    };
     const { status, place, length } = this.#answer(this.#nodesFor(bytes), call, placed);
     return status === 'no' ? undefined : { place, bytes: bytes.slice(place, place + length) };
   }
@@ -1557,8 +1687,8 @@ class FormatCalls {
     const limits = { depth: this.#limits.depth, nodes: this.#limits.nodes ?? nodes };
     const ask = { registry: this.#holder.opened, format: this.#format.bytes, ...limits };
     const placed = (calls, answer) => {
-      if (answer.status === 'format') return reported(calls.formatPlace(ask));
-      return placing?.(calls, ask, answer);
+      const told = answer.status === 'format' ? reported(calls.formatPlace(ask)) : {};
+      return told.detail === undefined ? placing?.(calls, ask, answer) : told;
     };
     return this.#bcs.answerOf((calls) => call(calls, ask), placed);
   }
@@ -1706,16 +1836,35 @@ class Registry {
     return this.#on(format, (calls) => calls.partNamed(bytesOfAny(bytes), 'pointer', bytesOf(pointer)));
   }
 
-  /** The pieces of the input, and behind them `{ end }`, or `{ refused, place, .. }` where they stop being a value. */
-  explain(format, bytes) {
-    const lines = this.explainText(format, bytes, 'json').split('\n');
+  /** The content of the part to which a path leads, a byte string: its bytes without the length, and their place. */
+  content(format, bytes, path) {
+    return this.#on(format, (calls) => calls.content(bytesOfAny(bytes), 'steps', bytesOf(path)));
+  }
+
+  /** The same by the part's name. */
+  contentByName(format, bytes, name) {
+    return this.#on(format, (calls) => calls.content(bytesOfAny(bytes), 'name', bytesOf(name)));
+  }
+
+  /** The same by a JSON Pointer into the value's JSON. */
+  contentByPointer(format, bytes, pointer) {
+    return this.#on(format, (calls) => calls.content(bytesOfAny(bytes), 'pointer', bytesOf(pointer)));
+  }
+
+  /**
+   * The pieces of the input, and behind them `{ end }`, or `{ refused, place, .. }` where they stop being a value. The views say
+   * which byte strings are explained, too, and which containers are values of Move.
+   */
+  explain(format, bytes, views) {
+    const lines = this.explainText(format, bytes, 'json', views).split('\n');
     return lines.slice(0, -1).map((line) => JSON.parse(line));
   }
 
   /** The input piece by piece, as `bcs explain` prints it. */
-  explainText(format, bytes, form = 'ways') {
+  explainText(format, bytes, form = 'ways', views = {}) {
     if (!FORMS.includes(form)) throw new TypeError(`no form is called ${form}`);
-    return this.#on(format, (calls) => calls.explained(bytesOfAny(bytes), form));
+    const asked = viewsOf(views, (given) => this.#holder.format(given));
+    return this.#on(format, (calls) => calls.explained(bytesOfAny(bytes), form, asked));
   }
 
   /** Makes calls on the format that the caller names. */
@@ -1745,6 +1894,34 @@ const SMALLEST = {
 function isSupported(bits = 32) {
   const smallest = Uint8Array.of(0, 0x61, 0x73, 0x6d, 1, 0, 0, 0, ...SMALLEST[bits]);
   return typeof WebAssembly === 'object' && WebAssembly.validate(smallest);
+}
+
+// Registries that are made from the modules of a Move chain.
+
+/** What callers pass as types: one on each line, as the module reads them. It would skip an empty one. */
+function linesOfTypes(types) {
+  const isList = typeof types === 'object' && typeof types?.[Symbol.iterator] === 'function';
+  if (!isList) throw new TypeError('types are an array of strings');
+  const lines = Array.from(types, lineOfType);
+  return bytesOf(lines.join(''));
+}
+
+function lineOfType(type) {
+  if (typeof type !== 'string') throw new TypeError(`a type is a string, not ${type === null ? 'null' : typeof type}`);
+  if (type === '') throw badType(type, '"" isn\'t a type');
+  if (type.includes('\n')) throw badType(type, 'a type has no line feed');
+  return `${type}\n`;
+}
+
+function badType(at, detail) {
+  return new BcsError('modules', { reason: 'BadType', at, detail });
+}
+
+/** The registry's JSON, which has no line feed, and the notes behind it. */
+function madeRegistryOf(output) {
+  const text = stringOfUtf8(output);
+  const end = text.indexOf('\n');
+  return end < 0 ? { json: text, notes: '' } : { json: text.slice(0, end), notes: text.slice(end + 1) };
 }
 
 // Makes the calls from the module: registries, growth, and the names of faults.
@@ -1813,6 +1990,16 @@ class Bcs {
     return stringOfUtf8(output).split('\n').slice(0, -1);
   }
 
+  /**
+   * The registry for types of a Move chain, from the JSON of modules as a node returns them: its JSON, and notes for people. Each of
+   * the types is a type, or a function, whose arguments have containers of their own.
+   */
+  registryOfModules(modules, types) {
+    const [text, lines] = [bytesOf(modules), linesOfTypes(types)];
+    const refused = (calls) => reported(calls.modulesPlace(text, lines));
+    return madeRegistryOf(this.answerOf((calls) => calls.registryOfModules(text, lines), refused).output);
+  }
+
   /** The name of a fault of bcs.h, or `undefined` where no fault has the number. */
   faultName(fault) {
     if (!isUnsigned(fault)) return undefined;
@@ -1844,7 +2031,9 @@ class Bcs {
 
 function kindOfFault(fault) {
   if (fault < 300) return 'growth';
+  if (fault >= 800) return 'modules';
   if (fault >= 700) return 'example';
+  if (fault >= 600) return 'path';
   return fault < 400 ? 'text' : 'bytes';
 }
 

@@ -125,6 +125,8 @@ export type Kind =
   | 'growth'
   /** The format has no such example. */
   | 'example'
+  /** The modules of a Move chain, or a type that is requested of them. */
+  | 'modules'
   /** Too little memory, or too little stack is left for the value's depth. */
   | 'memory' | 'stack';
 
@@ -140,7 +142,8 @@ export class BcsError extends Error {
   /**
    * Where the fault is: in a value or JSON a JSON Pointer, such as `/payload/args/1`; in bytes the field path to where they stop,
    * such as `.payload.args[1]`; in a format a JSON Pointer; in a registry or growth a definition, such as `Shape, field side`; in a
-   * path a step, such as `step 2 x`. Names are as they are, never escaped or cut. It is empty for a whole document.
+   * path a step, such as `step 2 x`; in modules a JSON Pointer, or the type that was requested. Names are as they are, never escaped
+   * or cut. It is empty for a whole document.
    */
   readonly at?: string;
   /** What is wrong there, or what was expected, in words for people, which may change: `U64 takes an integer, not Uint8Array`. */
@@ -153,7 +156,9 @@ export interface Piece {
   place: number;
   /** All its bytes, as hexadecimal digits. */
   bytes: string;
-  kind: 'truth' | 'unsigned' | 'signed' | 'length' | 'text' | 'bytes' | 'octets' | 'option' | 'variant';
+  kind:
+    | 'truth' | 'unsigned' | 'signed' | 'length' | 'text' | 'bytes' | 'octets' | 'option' | 'variant'
+    | 'address' | 'u256' | 'i256';
   /** The format, for a length that of what it counts; `U8` for a list of it; the names of an enum and its variant. */
   what: string;
   /** A number's decimal digits are a text; lengths and numbers of variants are numbers. */
@@ -248,10 +253,34 @@ export interface Registry<T extends Types = AnyTypes> {
   partByName(format: Format<T>, bytes: Bytes, name: Text): { place: number; bytes: Uint8Array } | undefined;
   /** The same by a JSON Pointer into the value's JSON, such as `/payload/EntryFunction/args/0`. */
   partByPointer(format: Format<T>, bytes: Bytes, pointer: Text): { place: number; bytes: Uint8Array } | undefined;
+  /**
+   * The content of the part to which a path leads, and its place: the bytes of a `BYTES`, a `STR`, or a list or an array of `U8`
+   * without the length before them. For any other part it throws a `BcsError` with the reason `NoContent`.
+   */
+  content(format: Format<T>, bytes: Bytes, path: Text): { place: number; bytes: Uint8Array } | undefined;
+  /** The same by the part's name, as `explain` has it: `.payload::EntryFunction.args[0]`. */
+  contentByName(format: Format<T>, bytes: Bytes, name: Text): { place: number; bytes: Uint8Array } | undefined;
+  /** The same by a JSON Pointer into the value's JSON, such as `/payload/EntryFunction/args/0`. */
+  contentByPointer(format: Format<T>, bytes: Bytes, pointer: Text): { place: number; bytes: Uint8Array } | undefined;
   /** The pieces of the input, and behind them their end, or where they stop being a value. */
-  explain(format: Format<T>, bytes: Bytes): (Piece | End | Stop)[];
+  explain(format: Format<T>, bytes: Bytes, views?: Views<T>): (Piece | End | Stop)[];
   /** The same as lines, as the program `bcs explain` prints them. */
-  explainText(format: Format<T>, bytes: Bytes, form?: 'ways' | 'paths' | 'tree' | 'json'): string;
+  explainText(format: Format<T>, bytes: Bytes, form?: 'ways' | 'paths' | 'tree' | 'json', views?: Views<T>): string;
+}
+
+/** What `explain` shows besides the pieces of a value. In names, which are those that it prints, `[*]` is any index. */
+export interface Views<T extends Types = AnyTypes> {
+  /** By the name of a byte string the format of the value in it, whose pieces are shown: `{ '.args[*]': 'Payment' }`. */
+  inside?: { readonly [name: string]: Format<T> };
+  /**
+   * By the name of a list of byte strings the function of Move whose arguments they are. Those are the containers
+   * `0x1::coin::transfer<..>::arg0` and so on that `registryOfModules` makes.
+   */
+  calls?: { readonly [name: string]: string };
+  /** Containers whose values are shown as Move's. Those called `address`, `u256` and `i256` are so without it. */
+  addresses?: Iterable<string>;
+  u256s?: Iterable<string>;
+  i256s?: Iterable<string>;
 }
 
 export interface ExampleOptions {
@@ -271,6 +300,14 @@ export interface Names {
   i256?: readonly string[];
 }
 
+/** A registry that was made from modules of a Move chain. */
+export interface MadeRegistry {
+  /** The registry's JSON, which `registry` reads. */
+  json: string;
+  /** What a reader of the registry has to know, for people: for instance that a type has another name there. Mostly empty. */
+  notes: string;
+}
+
 export interface Bcs {
   /** A registry, from its JSON text; `registry<Types>(text)` with the types that `bcs-types` wrote of it. */
   registry<T extends Types = AnyTypes>(text: Text, options?: { names?: Names }): Registry<T>;
@@ -278,6 +315,12 @@ export interface Bcs {
   grows(older: Text, newer: Text): void;
   /** All differences from an older registry to a newer one, a line for each. */
   differences(older: Text, newer: Text): string[];
+  /**
+   * The registry for types of a Move chain, as the program `bcs from-move` prints it. The modules are the JSON that a node of Aptos
+   * or Sui returns for a module, or an array of such answers. Each of the types is a type, or a function, whose arguments have
+   * containers of their own: `0x1::coin::transfer<..>::arg0` and so on. A refusal is a `BcsError` of the kind `modules`.
+   */
+  registryOfModules(modules: Text, types: Iterable<string>): MadeRegistry;
   /** The name of a fault of `bcs.h`, or `undefined` where no fault has the number. */
   faultName(fault: number): string | undefined;
 }

@@ -5,6 +5,7 @@ import { FormatCalls } from './format_calls.mjs';
 import { limitOf, MOST_DEPTH } from './limits.mjs';
 import { bytesOfAny } from './octets.mjs';
 import { bytesForCall, bytesOf, stringOfUtf8 } from './texts.mjs';
+import { viewsOf } from './views.mjs';
 
 /**
  * A registry that is read and open. A format is a container's name, an object, or a JSON text: `"U8"`, `{"SEQ":"U8"}`.
@@ -146,16 +147,35 @@ export class Registry {
     return this.#on(format, (calls) => calls.partNamed(bytesOfAny(bytes), 'pointer', bytesOf(pointer)));
   }
 
-  /** The pieces of the input, and behind them `{ end }`, or `{ refused, place, .. }` where they stop being a value. */
-  explain(format, bytes) {
-    const lines = this.explainText(format, bytes, 'json').split('\n');
+  /** The content of the part to which a path leads, a byte string: its bytes without the length, and their place. */
+  content(format, bytes, path) {
+    return this.#on(format, (calls) => calls.content(bytesOfAny(bytes), 'steps', bytesOf(path)));
+  }
+
+  /** The same by the part's name. */
+  contentByName(format, bytes, name) {
+    return this.#on(format, (calls) => calls.content(bytesOfAny(bytes), 'name', bytesOf(name)));
+  }
+
+  /** The same by a JSON Pointer into the value's JSON. */
+  contentByPointer(format, bytes, pointer) {
+    return this.#on(format, (calls) => calls.content(bytesOfAny(bytes), 'pointer', bytesOf(pointer)));
+  }
+
+  /**
+   * The pieces of the input, and behind them `{ end }`, or `{ refused, place, .. }` where they stop being a value. The views say
+   * which byte strings are explained, too, and which containers are values of Move.
+   */
+  explain(format, bytes, views) {
+    const lines = this.explainText(format, bytes, 'json', views).split('\n');
     return lines.slice(0, -1).map((line) => JSON.parse(line));
   }
 
   /** The input piece by piece, as `bcs explain` prints it. */
-  explainText(format, bytes, form = 'ways') {
+  explainText(format, bytes, form = 'ways', views = {}) {
     if (!FORMS.includes(form)) throw new TypeError(`no form is called ${form}`);
-    return this.#on(format, (calls) => calls.explained(bytesOfAny(bytes), form));
+    const asked = viewsOf(views, (given) => this.#holder.format(given));
+    return this.#on(format, (calls) => calls.explained(bytesOfAny(bytes), form, asked));
   }
 
   /** Makes calls on the format that the caller names. */

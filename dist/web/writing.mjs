@@ -6,7 +6,7 @@ import { bytesOfWide, digitsOfAddress } from './move_types.mjs';
 import { copyOfBytes, copyOfIntegers, isMap } from './octets.mjs';
 import { isWellFormed } from './texts.mjs';
 
-// The limits of docs/FORMAT.md: arrays and objects in one another, and open containers.
+// The limits of docs/ENCODING.md: arrays and objects in one another, and open containers.
 const MOST_NESTED = 100;
 const MOST_OPEN = 500;
 // An array may have a length of billions and take no memory, and a value may hold another one many times.
@@ -153,7 +153,10 @@ class Writer {
 
   #list(shape, value) {
     const integers = shape.item.kind === 'INTEGER' ? this.#copied(copyOfIntegers, shape, value) : undefined;
-    if (integers !== undefined) return this.#out.put(`[${integers.join()}]`);
+    if (integers !== undefined) {
+      this.#count(integers.length);
+      return this.#out.put(`[${integers.join()}]`);
+    }
     return this.#array(shape, value, (item) => this.#value(shape.item, item));
   }
 
@@ -214,8 +217,9 @@ class Writer {
   }
 
   /** Values that hold others many times end here: they take little memory, and their JSON much. */
-  #count() {
-    if (this.#nodes-- === 0) throw this.#error('TooManyNodes', 'the value has more nodes than the limits allow');
+  #count(nodes = 1) {
+    this.#nodes -= nodes;
+    if (this.#nodes < 0) throw this.#error('TooManyNodes', 'the value has more nodes than the limits allow');
     if (this.#out.length > MOST_JSON) throw this.#error('TooLong', 'the JSON of the value is above 512 MiB');
   }
 
@@ -248,7 +252,9 @@ class Writer {
 
   /** Bytes, or a list of integers from 0 to 255. A string is neither, so that bytes never depend on what it looks like. */
   #bytes(shape, value) {
-    this.#out.putHex(this.#copied(copyOfBytes, shape, value) ?? this.#octets(shape, value));
+    const bytes = this.#copied(copyOfBytes, shape, value) ?? this.#octets(shape, value);
+    if (shape.name !== 'BYTES') this.#count(bytes.length);
+    this.#out.putHex(bytes);
   }
 
   #octets(shape, value) {

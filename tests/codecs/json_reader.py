@@ -1,4 +1,4 @@
-"""Reads the JSON of values strictly, as docs/FORMAT.md describes it. tests/vectors.py plants bugs in
+"""Reads the JSON of values strictly, as docs/JSON.md describes it. tests/vectors.py plants bugs in
 it, which are listed in json.bugs."""
 
 from __future__ import annotations

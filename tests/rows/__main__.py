@@ -1,8 +1,8 @@
-"""Asks a driver the rows of crates/test_calls, tests/rows/bcs.rows and tests/rows/explain.rows, and checks its answers.
+"""Asks a driver the rows of crates/test_calls and of the tables and modules in this folder, and checks its answers.
 
     python3 tests/rows [--without KIND]... NAME DRIVER [WORD]...
 
-A driver is a program that makes the calls of one language. README.md in bindings/ says which lines it reads and writes.
+A driver is a program that makes the calls of one language. driver.py says which lines it reads and writes.
 NAME is its name in the table `floors`, which has the number of rows that it must answer. crates/test_calls/README.md
 and the comments at the top of tests/rows/bcs.rows say what a row means. Rows that no call can express are counted by
 kind.
@@ -13,16 +13,19 @@ import sys
 from collections import Counter
 from functools import partial
 
+from contents import rows_of_contents
 from driver import Driver
-from explain_rows import rows_of_examples, rows_of_table
+from explain_rows import rows_of_examples, rows_of_table, rows_of_views
 from hostile import hostile_rows
 from jobs import job_row
 from kinds import KINDS
+from modules import rows_of_modules
 from named_parts import names_of_pieces, run_row
 from pieces import pieces_of
 from places import has_place, place_told_row
 from tests import ROOT, Tally, rows_of_tests
 from values import encode_row
+from views import views_row
 
 FLOORS = pathlib.Path(__file__).resolve().parent / "floors"
 
@@ -70,6 +73,21 @@ def ask_hostile_names(driver: Driver, tally: Tally) -> None:
         tally.judge("hostile names", name, asked, "")
 
 
+def ask_views(driver: Driver, tally: Tally) -> None:
+    for row in rows_of_views(ROOT):
+        tally.judge("views", row.name, partial(views_row, driver, row), row.wanted)
+
+
+def ask_contents(driver: Driver, tally: Tally) -> None:
+    for name, asked in rows_of_contents(driver):
+        tally.judge("contents", name, asked, "")
+
+
+def ask_modules(driver: Driver, tally: Tally) -> None:
+    for kind, name, asked in rows_of_modules(driver):
+        tally.judge(kind, name, asked, "")
+
+
 def told_by_kind(counts: Counter[str]) -> str:
     return ", ".join(f"{count} {kind}" for kind, count in sorted(counts.items()))
 
@@ -99,6 +117,9 @@ def main(words: list[str]) -> int:
     ask_places(driver, tally, without)
     ask_pieces(driver, tally)
     ask_hostile_names(driver, tally)
+    ask_views(driver, tally)
+    ask_contents(driver, tally)
+    ask_modules(driver, tally)
     driver.end()
     print(f"rows: asked: {told_by_kind(tally.covered)}")
     print(f"rows: not asked: {told_by_kind(tally.unsayable + tally.skipped)}")

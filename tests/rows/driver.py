@@ -1,4 +1,39 @@
-"""A driver that runs, and what is asked of it."""
+"""A driver that runs, and what it receives and answers.
+
+A driver answers each line of standard input with one line, before it reads the next, and ends with status 0 at the end
+of the input. Fields are separated by one tab. Strings and bytes are lower-case hexadecimal; DEPTH, NODES and NUMBER are
+decimal. A line may have several megabytes. QUESTION stands for `REGISTRY FORMAT DEPTH NODES`. Each line requests the
+call `bcs_..` of the same name:
+
+    check       QUESTION
+    to_bcs      QUESTION TEXT              normalise   QUESTION TEXT
+    from_bcs    QUESTION BYTES             scan        QUESTION BYTES
+    compare     QUESTION FIRST SECOND      part        QUESTION BYTES PATH
+    part_named  QUESTION BYTES NAME NOTATION  (NOTATION: name, pointer)
+    content     QUESTION BYTES NAME NOTATION  (NOTATION: steps, name, pointer)
+    explain     QUESTION BYTES FORM        (FORM: ways, paths, tree, json)
+    explain_with  QUESTION BYTES FORM VIEWS   (VIEWS: lines as of bcs_handle_explain_with)
+    text_place  QUESTION TEXT WHAT         stop_place  QUESTION BYTES WHAT    (WHAT: where, wanted)
+    grows       OLDER NEWER                registry_place  REGISTRY WHAT
+    registry_of_modules  MODULES TYPES     modules_place   MODULES TYPES WHAT    (TYPES: one on each line)
+    fault_name  NUMBER
+
+The answer has the fields STATUS (`done`, `registry`, `format`, `limits`, `refused`, `memory`, `no`, `path`, `newer` or
+`stack`, as in `bcs.h`), FAULT (a name such as `BadBool`, or `-`), PLACE and LENGTH (decimal, or 0), and OUTPUT
+(hexadecimal).
+
+- If the output is too short, the driver repeats the call with more room.
+- If the language can't make the call, or can't pass a string that isn't Unicode, it answers `unsayable`.
+- If the language returns a named part without its offset, OUTPUT is the part and PLACE is 0.
+- `explain` of invalid bytes is `done`; FAULT and PLACE show where they stop.
+- A call for a place is `done`, or `no` if nothing is refused. If errors include their place, the driver checks that all
+  calls that refuse the input agree.
+
+Rows `bcs --where` also have the program's line on standard error. The calls for places must return its location and
+message, without limits (`; --depth allows 1`). Names in a JSON Pointer and in a registry's location are unescaped
+UTF-8, and the location is empty where the line has `the whole text`. If the input isn't JSON, the location is empty,
+too, and the message begins with the line and the column: `line 1, column 3: ..`
+"""
 
 import subprocess
 from typing import NamedTuple

@@ -1,4 +1,4 @@
-"""The rows of tests/rows/explain.rows, and the examples whose pieces are written in a file beside them."""
+"""The rows of tests/rows/explain.rows and explain_views.rows, and the examples whose pieces are stored beside them."""
 
 import pathlib
 import re
@@ -36,6 +36,16 @@ def rows_of_table(root: pathlib.Path) -> Iterator[ExplainRow]:
             digits, wanted = rest.split("|", 1)
             format = OPTIONS.sub("", words)
             options = words.removesuffix(format).split()
+            yield ExplainRow(row, registry, options, format, digits, wanted.strip(" "))
+
+
+def rows_of_views(root: pathlib.Path) -> Iterator[ExplainRow]:
+    """Rows with options that contain blanks, so the options have a column of their own."""
+    registry = (root / "tests/rows/explain_views.json").read_bytes()
+    for row in (root / "tests/rows/explain_views.rows").read_text(encoding="utf-8").split("\n"):
+        if row and not row.startswith("#"):
+            words, format, digits, wanted = f" {row}".split(" | ", 3)
+            options = [word for option in words.strip().split("  ") if option for word in option.split(" ", 1)]
             yield ExplainRow(row, registry, options, format, digits, wanted.strip(" "))
 
 

@@ -1,7 +1,7 @@
 """Hostile names: where values with the names of hostile_names.json are refused, and their parts by name and by pointer.
 
 Each name is a field of one struct and a variant of one enum, so that an ambiguous place or name leads to another. What
-is expected follows from docs/FORMAT.md alone.
+is expected follows from docs/ENCODING.md alone.
 """
 
 import json

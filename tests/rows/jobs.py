@@ -55,6 +55,8 @@ def job(driver: Driver, name: str, words: list[str]) -> Printed:
     if name == "check":
         Question(driver, bytes_of(words[0]), b'"UNIT"', []).ask("check")
         return Printed(0, b"")
+    if name == "from-move":
+        return modules_job(driver, words)
     options = [word for word in words if word in OPTIONS]
     if BEYOND_CALLS & set(options):
         raise Unsayable
@@ -62,6 +64,21 @@ def job(driver: Driver, name: str, words: list[str]) -> Printed:
         answer = driver.ask("grows", bytes_of(words[0]), bytes_of(words[1]))
         return Printed(0, b"grows\n") if answer.status == "done" else refusal(answer.fault)
     return value_job(driver, name, options, words[len(options) :])
+
+
+def modules_job(driver: Driver, words: list[str]) -> Printed:
+    """The call has notes behind the registry, which the program prints on standard error."""
+    answer = driver.ask("registry_of_modules", *modules_of(words))
+    if answer.status == "done":
+        return Printed(0, answer.output.partition(b"\n")[0] + b"\n")
+    expect(answer.status == "refused", answer.status)
+    return refusal(answer.fault)
+
+
+def modules_of(words: list[str]) -> tuple[bytes, bytes]:
+    """The modules, and a type on each line."""
+    modules, *types = words
+    return bytes_of(modules), "\n".join(types).encode()
 
 
 def value_job(driver: Driver, name: str, options: list[str], words: list[str]) -> Printed:
@@ -151,6 +168,10 @@ def explain_job(question: Question, data: bytes, form: str) -> Printed:
     """Behind lines with damage the program prints its refusal, too, and behind objects nothing."""
     answer = question.ask("explain", data, form)
     expect(answer.status == "done", answer.status)
+    return explained(answer, form)
+
+
+def explained(answer: Answer, form: str) -> Printed:
     if answer.fault == "-":
         return Printed(0, answer.output)
     return Printed(2, answer.output + (b"" if form == "json" else refusal(stop_of(answer)).output))

@@ -11,7 +11,7 @@ import re
 from typing import NamedTuple
 
 from driver import STANDARD_LIMITS, Driver, expect
-from jobs import BEYOND_CALLS, OPTIONS
+from jobs import BEYOND_CALLS, OPTIONS, modules_of
 from words import Unsayable, bytes_of, bytes_of_digits, format_of
 
 LINE = re.compile(
@@ -48,6 +48,11 @@ def place_of_job(driver: Driver, name: str, words: list[str], wanted: str) -> tu
     line = LINE.fullmatch(wanted)
     if line is None or UNTOLD.match(line["place"]) or (line["of"] is None and line["fault"] in GROWTH_FAULTS):
         raise Unsayable
+    if name == "from-move":
+        told = as_told(line)
+        return told._replace(where=told.where.removeprefix("TYPE, ")), place_told(
+            driver, "modules_place", *modules_of(words)
+        )
     options = [word for word in words if word in OPTIONS]
     if BEYOND_CALLS & set(options):
         raise Unsayable

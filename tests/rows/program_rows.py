@@ -134,7 +134,7 @@ class Job:
     def named_of(self, command: str, rest: list[str]) -> list[str]:
         """The arguments after the registry, which are taken away from the words."""
         match command:
-            case "check" | "show":
+            case "check" | "show" | "from-move":
                 named = rest.copy()
                 rest.clear()
                 return named

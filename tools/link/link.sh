@@ -53,16 +53,15 @@ make_program() {
         "$room/start.o" "$room/processor.o" "$room/program_heap.o" "$room/statx.o" "$file" "$kit/c/libos_c.a" "$kit/c/liblibc_c.a"
 }
 
-# make_libraries: makes the three libraries. Each static one except libbcs_c.a is one object, so that it exports only the
-# calls of the header. The dynamic one uses these functions under the version that they have in every glibc.
+# make_libraries: makes both libraries. The heap is an object of its own in the static one, so whoever defines its functions
+# replaces it. The dynamic one uses these functions under the version that they have in every glibc.
 make_libraries() {
     local name
     compile tools/link/level.c bindings/c/library.c bindings/c/heap.c bindings/c/static.c
-    cp "$file" "$folder/libbcs_c.a"
-    "$tools/llvm-ar" rcs "$folder/libbcs_c.a" "$room/library.o"
-    "$tools/ld.lld" -r --whole-archive "$folder/libbcs_c.a" --no-whole-archive "$room/heap.o" "$room/static.o" -o "$room/libbcs.o"
-    "$tools/llvm-objcopy" --wildcard --keep-global-symbol='bcs_*' --localize-symbol='bcs_c_*' --strip-unneeded "$room/libbcs.o"
-    "$tools/llvm-ar" rcs "$folder/libbcs.a" "$room/libbcs.o"
+    mkdir "$room/static"
+    "$tools/ld.lld" -r "$room/heap.o" "$room/static.o" -o "$room/static/heap.o"
+    cp "$file" "$folder/libbcs.a"
+    "$tools/llvm-ar" rcs "$folder/libbcs.a" "$room/library.o" "$room/static/heap.o"
     set --
     for name in pthread_getattr_np pthread_attr_getstack pthread_attr_getguardsize; do
         set -- "$@" --redefine-sym "$name=$name@GLIBC_2.2.5"

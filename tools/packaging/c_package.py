@@ -50,7 +50,7 @@ def contents(bill: archives.File) -> archives.Files:
     for name in ["Makefile", "CMakeLists.txt", "Package.swift"]:
         files[name] = archives.taken(FOLDER / name)
     files["bcs-registry"] = archives.taken(facts.REGISTRY_COMMAND)
-    files["README.md"] = archives.text(facts.readme("bindings/portable"))
+    files["README.md"] = archives.text(facts.section("docs/PLATFORMS.md", "C for other systems"))
     files[f"{facts.NAME}.spdx.json"] = bill
     for name in facts.licence_files().values():
         files[name] = archives.taken(facts.ROOT / name)

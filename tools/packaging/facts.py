@@ -60,7 +60,7 @@ def version() -> str:
     source = (ROOT / "crates/bcs_tool_command_line/src/version.rt").read_text(encoding="utf-8")
     found = re.search(r'VERSION[^"]*"([0-9.]+)', source)
     if not found:
-        sys.exit("packages: crates/bcs_tool_command_line/src/version.rt tells no version")
+        sys.exit("packages: crates/bcs_tool_command_line/src/version.rt has no version")
     return found[1]
 
 
@@ -105,7 +105,23 @@ def require_dist() -> None:
 
 
 def readme(folder: str) -> str:
-    """A README for a package. What its links into the repository lead to isn't there, so their words stay alone."""
+    """A README for a package: that of a folder, and the calls and refusals of all languages, which it only links to."""
     page = (ROOT / folder / "README.md").read_text(encoding="utf-8")
+    shared = [section("docs/EMBEDDING.md", title) for title in ("The calls", "What a refusal reports")]
+    return without_links("\n".join([page, *(f"#{text}" for text in shared)]))
+
+
+def section(page: str, title: str) -> str:
+    """A section of a page, as a page of its own for a package."""
+    found = re.search(
+        rf"^## ({re.escape(title)}\n.*?)(?=^## |\Z)", (ROOT / page).read_text(encoding="utf-8"), re.M | re.S
+    )
+    if not found:
+        sys.exit(f"packages: {page} has no section {title}")
+    return without_links(f"# {found[1].rstrip()}\n")
+
+
+def without_links(page: str) -> str:
+    """What the links of a page into the repository lead to isn't in a package, so their words stay alone."""
     page = re.sub(r"!\[[^]]*\]\((?!https?:)[^)]*\)\n*", "", page)
     return re.sub(r"\[([^]]+)\]\((?!https?:|#)[^)]*\)", r"\1", page)

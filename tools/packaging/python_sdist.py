@@ -13,7 +13,7 @@ requires = ["setuptools"]
 build-backend = "setuptools.build_meta"
 """
 
-# What the sources are for is said in PKG-INFO, and here again, since pip takes it from here.
+# PKG-INFO describes the sources, and this again, since pip reads it here.
 SETUP = '''\
 """Compiles the library beside the module. It needs a compiler of C on a system with POSIX, and no network."""
 

@@ -11,7 +11,7 @@ FOLDER = facts.ROOT / "bindings/rust"
 
 
 def contents(bill: archives.File) -> archives.Files:
-    """What stands in the crate. Its examples and its tests read files of the repository, so they stay there."""
+    """The files of the crate. Its examples and its tests read files of the repository, so they stay there."""
     files = archives.tree(FOLDER / "src", "src/")
     for name in ["Cargo.toml", "build.rs"]:
         files[name] = archives.taken(FOLDER / name)

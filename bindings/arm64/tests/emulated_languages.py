@@ -8,7 +8,7 @@ from emulator import C, COMPILER, EMULATOR, ROOT, Bench, fail, passed, rows, run
 
 
 def test_python(bench: Bench) -> None:
-    """The module of Python over libbcs.so, and the extension of SQLite over libbcs_c.a."""
+    """The module of Python over libbcs.so, and the extension of SQLite over libbcs.a."""
     unpack_debian(bench.room / "python", "python3")
     python = words("qemu-aarch64-static", "-L", bench.room / "python", bench.room / "python/usr/bin/python3")
     library = f"BCS_LIBRARY={bench.built}/libbcs.so"

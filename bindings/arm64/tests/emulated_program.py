@@ -14,7 +14,10 @@ from emulator import EMULATOR, ROOT, Argument, Bench, fail, passed, run, words
 ENCODE = ["encode", "{}", '"I16"']
 WRITE_FAULT = "fault: write\nin the standard output\n"
 READ_FAULT = "fault: read\nin the standard input\n"
-NO_FILE = "No such file or directory" "; a value itself goes to standard input, and a registry itself starts with {"
+NO_FILE = (
+    "No such file or directory"
+    "; a value itself goes to standard input, and a registry or a module itself starts with {"
+)
 
 
 class Answer(NamedTuple):

@@ -95,11 +95,27 @@ enum bcs_fault {
     BCS_SHOWN_TOO_NESTED = 501,
     /* of a path */
     BCS_PATH_BAD_PATH = 601,
+    BCS_PATH_NO_CONTENT = 602, /* it leads to a part that has no content */
     /* why a format has no example */
     BCS_EXAMPLE_UNKNOWN_VARIANT = 701,
     BCS_EXAMPLE_NO_VALUE = 702,
     BCS_EXAMPLE_TOO_MANY_NODES = 703,
-    BCS_EXAMPLE_TOO_NESTED = 704
+    BCS_EXAMPLE_TOO_NESTED = 704,
+    /* of modules of a Move chain, or of a type that is requested of them */
+    BCS_MOVE_NOT_JSON = 801,
+    BCS_MOVE_REPEATED_MEMBER = 802,
+    BCS_MOVE_NOT_MODULES = 803,
+    BCS_MOVE_CHAIN_ERROR = 804,
+    BCS_MOVE_MIXED_CHAINS = 805,
+    BCS_MOVE_REPEATED_NAME = 806,
+    BCS_MOVE_BAD_TYPE = 807,
+    BCS_MOVE_MISSING_MODULE = 808,
+    BCS_MOVE_UNKNOWN_NAME = 809,
+    BCS_MOVE_WRONG_COUNT = 810,
+    BCS_MOVE_NO_BYTES = 811,
+    BCS_MOVE_UNKNOWN_VARIANTS = 812,
+    BCS_MOVE_NOT_STANDARD = 813,
+    BCS_MOVE_TOO_LARGE = 814
 };
 
 /* How bcs_explain prints. */
@@ -116,8 +132,9 @@ enum bcs_what {
     BCS_WANTED = 1 /* what was expected there, or what is wrong with it; this text is for people and may change */
 };
 
-/* How bcs_handle_part_named takes the name of a part. */
+/* How bcs_handle_part_named and bcs_handle_content take the name of a part. */
 enum bcs_notation {
+    BCS_STEPS = 0,  /* as a path of bcs_part: inner/2/inner; only for bcs_handle_content */
     BCS_NAME = 1,   /* as bcs_explain prints it: .payload::EntryFunction.args[1] */
     BCS_POINTER = 2 /* as a JSON Pointer (RFC 6901) into the value's JSON document: /payload/EntryFunction/args/1 */
 };
@@ -131,7 +148,7 @@ enum bcs_example {
 typedef struct bcs_answer {
     uint32_t status; /* enum bcs_status */
     uint32_t fault;  /* enum bcs_fault; 0 if nothing is refused */
-    uint64_t place;  /* the offset where bytes stop being a value, or where a part begins; otherwise 0 */
+    uint64_t place;  /* the offset where bytes stop being a value, or where a part or its content begins; otherwise 0 */
     size_t length;   /* with BCS_DONE and BCS_SHORT, the number of bytes; otherwise 0 */
 } bcs_answer;
 
@@ -252,6 +269,13 @@ bcs_answer bcs_handle_part_named(bcs_handle *handle, const uint8_t *format, size
                                  uint32_t nodes, uint32_t notation, const uint8_t *name, size_t name_length,
                                  const uint8_t *bytes, size_t bytes_length);
 
+/* Where the content of the part is: `place`, and `length` bytes. The content is what a BYTES, a STR, or a list or an array of U8
+   has, without its length. BCS_REFUSED with BCS_PATH_NO_CONTENT: the part is none of these. Otherwise it answers what
+   bcs_handle_part_named answers, and with BCS_STEPS what bcs_handle_part answers. */
+bcs_answer bcs_handle_content(bcs_handle *handle, const uint8_t *format, size_t format_length, uint32_t depth,
+                              uint32_t nodes, uint32_t notation, const uint8_t *name, size_t name_length,
+                              const uint8_t *bytes, size_t bytes_length);
+
 /* ---- For people: documents, and refusals with all that is known of them. The words of these texts may change. */
 
 /* A whole refusal in one call: BCS_DONE, or BCS_NO if the input isn't refused. `fault` says why it is refused, and `place` where
@@ -264,6 +288,20 @@ bcs_answer bcs_handle_text_refusal(bcs_handle *handle, const uint8_t *format, si
 bcs_answer bcs_handle_stop_refusal(bcs_handle *handle, const uint8_t *format, size_t format_length, uint32_t depth,
                                    uint32_t nodes, const uint8_t *bytes, size_t bytes_length, uint8_t *out,
                                    size_t out_length);
+
+/* What bcs_handle_explain answers, with views, each on a line of its own:
+
+       inside NAME=FORMAT     the byte string (BYTES, STR, or list or array of U8) at NAME is explained piece by piece, as FORMAT
+       call NAME=FUNCTION     each byte string of the list at NAME is an argument of this function of a Move module
+       address NAME, u256 NAME, i256 NAME     values of the container NAME, which has 32 U8, are written as Move does
+
+   They mean what the options of `bcs explain` mean. FORMAT is the name of a container or the JSON of a format. Empty lines are
+   skipped, and a NAME that matches nothing changes nothing. BCS_PATH: a line isn't one of these. BCS_FORMAT: FORMAT is refused, or
+   the registry doesn't have FUNCTION, or no container NAME of 32 U8. If a byte string isn't a value of its format, `fault` and
+   `place` report that stop. */
+bcs_answer bcs_handle_explain_with(bcs_handle *handle, const uint8_t *format, size_t format_length, uint32_t depth,
+                                   uint32_t nodes, uint32_t form, const uint8_t *views, size_t views_length,
+                                   const uint8_t *bytes, size_t bytes_length, uint8_t *out, size_t out_length);
 
 /* A JSON Schema of the JSON documents of the format's values, as `bcs schema` prints it without the last line end. The limits
    are checked, and don't change the schema. */
@@ -307,6 +345,18 @@ bcs_answer bcs_growth_list(const uint8_t *older, size_t older_length, const uint
 bcs_answer bcs_growth_place(const uint8_t *older, size_t older_length, const uint8_t *newer, size_t newer_length,
                             uint8_t *out, size_t out_length);
 
+/* The registry for types of a Move chain, as `bcs from-move` prints it without the last line end. `modules` is the JSON of modules,
+   as a node of Aptos or Sui returns them, or an array of such answers. `types` has a type on each line, or a function, whose
+   arguments have containers of their own. If there is more to know about the registry, a line feed and notes for people
+   follow its JSON, which has no line feeds. BCS_REFUSED with a BCS_MOVE_.. fault: there is no such registry. */
+bcs_answer bcs_registry_of_modules(const uint8_t *modules, size_t modules_length, const uint8_t *types, size_t types_length,
+                                   uint8_t *out, size_t out_length);
+
+/* Where bcs_registry_of_modules refuses modules, or a type: BCS_DONE, or BCS_NO if it doesn't. The place is a JSON Pointer into the
+   modules, which is empty for all of them, or the type: /0/abi/structs/3/fields/0/type, a NUL, a reference has no bytes. */
+bcs_answer bcs_modules_place(const uint8_t *modules, size_t modules_length, const uint8_t *types, size_t types_length,
+                             uint8_t *out, size_t out_length);
+
 /* ---- Names, versions and conversions. */
 
 /* The name of a fault, as the program `bcs` prints it: "BadBool". BCS_NO: no fault has the number. */
@@ -319,7 +369,8 @@ const char *bcs_version(void);
 static inline const char *bcs_fault_text(uint32_t fault) {
     switch (fault) {
     case BCS_REGISTRY_NOT_JSON:
-    case BCS_TEXT_NOT_JSON: return "NotJson";
+    case BCS_TEXT_NOT_JSON:
+    case BCS_MOVE_NOT_JSON: return "NotJson";
     case BCS_REGISTRY_BAD_SHAPE:
     case BCS_TEXT_BAD_SHAPE: return "BadShape";
     case BCS_REGISTRY_BAD_NUMBER:
@@ -328,8 +379,10 @@ static inline const char *bcs_fault_text(uint32_t fault) {
     case BCS_TEXT_TOO_NESTED:
     case BCS_SHOWN_TOO_NESTED:
     case BCS_EXAMPLE_TOO_NESTED: return "TooNested";
-    case BCS_REGISTRY_REPEATED_NAME: return "RepeatedName";
-    case BCS_REGISTRY_UNKNOWN_NAME: return "UnknownName";
+    case BCS_REGISTRY_REPEATED_NAME:
+    case BCS_MOVE_REPEATED_NAME: return "RepeatedName";
+    case BCS_REGISTRY_UNKNOWN_NAME:
+    case BCS_MOVE_UNKNOWN_NAME: return "UnknownName";
     case BCS_GROWTH_MISSING: return "Missing";
     case BCS_GROWTH_CHANGED: return "Changed";
     case BCS_GROWTH_VARIANT_MISSING: return "VariantMissing";
@@ -360,7 +413,19 @@ static inline const char *bcs_fault_text(uint32_t fault) {
     case BCS_STOP_KEY_REPEATED: return "KeyRepeated";
     case BCS_STOP_TRAILING_BYTES: return "TrailingBytes";
     case BCS_PATH_BAD_PATH: return "BadPath";
+    case BCS_PATH_NO_CONTENT: return "NoContent";
     case BCS_EXAMPLE_NO_VALUE: return "NoValue";
+    case BCS_MOVE_REPEATED_MEMBER: return "RepeatedMember";
+    case BCS_MOVE_NOT_MODULES: return "NotModules";
+    case BCS_MOVE_CHAIN_ERROR: return "ChainError";
+    case BCS_MOVE_MIXED_CHAINS: return "MixedChains";
+    case BCS_MOVE_BAD_TYPE: return "BadType";
+    case BCS_MOVE_MISSING_MODULE: return "MissingModule";
+    case BCS_MOVE_WRONG_COUNT: return "WrongCount";
+    case BCS_MOVE_NO_BYTES: return "NoBytes";
+    case BCS_MOVE_UNKNOWN_VARIANTS: return "UnknownVariants";
+    case BCS_MOVE_NOT_STANDARD: return "NotStandard";
+    case BCS_MOVE_TOO_LARGE: return "TooLarge";
     default: return 0;
     }
 }

@@ -80,7 +80,7 @@ static void null_is_no_bytes(void) {
         {TO_BCS, BCS_REFUSED, BCS_TEXT_NOT_JSON, 0},   {FROM_BCS, BCS_SHORT, 0, 4},
         {NORMALISE, BCS_REFUSED, BCS_TEXT_NOT_JSON, 0}, {COMPARE, BCS_REFUSED, BCS_TEXT_NOT_JSON, 0},
         {SCAN, BCS_DONE, 0, 0},                        {PART, BCS_PATH, BCS_PATH_BAD_PATH, 0},
-        {PART_NAMED, BCS_PATH, BCS_PATH_BAD_PATH, 0},
+        {PART_NAMED, BCS_PATH, BCS_PATH_BAD_PATH, 0},  {CONTENT, BCS_PATH, BCS_PATH_BAD_PATH, 0},
         {EXPLAIN, BCS_DONE, 0, 0},                     {TEXT_PLACE, BCS_DONE, 0, 0},
         {STOP_PLACE, BCS_NO, 0, 0},
     };

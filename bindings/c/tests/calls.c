@@ -1,5 +1,5 @@
-/* What each call answers where nothing is refused. The answers are from docs/FORMAT.md. All that is handed over stands at
-   the end of a page. */
+/* What each call returns if nothing is refused. The answers are from docs/ENCODING.md and docs/JSON.md. All arguments
+   are at the end of a page. */
 #include "jobs.h"
 
 #define REGISTRY "{\"Payment\":{\"STRUCT\":[{\"to\":\"STR\"},{\"amount\":\"U64\"}]},\"Nothing\":\"UNITSTRUCT\"}"
@@ -46,6 +46,21 @@ static const struct done outputs[] = {
      OF("     0  01                                                                SEQ, 1 element                  .\n"
         "     1  0500                                                              U16 5                           [0]\n")},
     {{ON_VALUE(EXPLAIN, "\"UNIT\"", ""), .number = BCS_WAYS}, OF("")},
+    {{ON_VALUE(EXPLAIN_WITH, "{\"SEQ\":\"U16\"}", "\x01\x05\x00"), .number = BCS_JSON},
+     OF("{\"bytes\":\"01\",\"kind\":\"length\",\"name\":\".\",\"path\":\".\",\"place\":0,\"value\":1,\"what\":\"SEQ\"}\n"
+        "{\"bytes\":\"0500\",\"kind\":\"unsigned\",\"name\":\"[0]\",\"path\":\"0\",\"place\":1,\"value\":\"5\",\"what\":\"U16\"}\n"
+        "{\"end\":3}\n")},
+    {{ON_VALUE(EXPLAIN_WITH, "\"BYTES\"", "\x02\x01\x02"), .number = BCS_WAYS, .second = OF("inside .=\"U16\"")},
+     OF("     0  02                                                                BYTES, 2 bytes                  .\n"
+        "     1  0102                                                              U16 513                         [bcs]\n")},
+    {{ON_VALUE(EXPLAIN_WITH, "{\"SEQ\":\"BYTES\"}", "\x02\x01\x05\x01\x01"), .number = BCS_JSON,
+      .second = OF("\ninside [*]=\"U8\"\n\ninside .nowhere=\"U8\"\n")},
+     OF("{\"bytes\":\"02\",\"kind\":\"length\",\"name\":\".\",\"path\":\".\",\"place\":0,\"value\":2,\"what\":\"SEQ\"}\n"
+        "{\"bytes\":\"01\",\"kind\":\"length\",\"name\":\"[0]\",\"path\":\"0\",\"place\":1,\"value\":1,\"what\":\"BYTES\"}\n"
+        "{\"bytes\":\"05\",\"kind\":\"unsigned\",\"name\":\"[0][bcs]\",\"path\":null,\"place\":2,\"value\":\"5\",\"what\":\"U8\"}\n"
+        "{\"bytes\":\"01\",\"kind\":\"length\",\"name\":\"[1]\",\"path\":\"1\",\"place\":3,\"value\":1,\"what\":\"BYTES\"}\n"
+        "{\"bytes\":\"01\",\"kind\":\"unsigned\",\"name\":\"[1][bcs]\",\"path\":null,\"place\":4,\"value\":\"1\",\"what\":\"U8\"}\n"
+        "{\"end\":5}\n")},
     {{.call = FAULT_NAME, .number = BCS_STOP_BAD_BOOL}, OF("BadBool")},
 };
 
@@ -59,7 +74,7 @@ static void is_done(const struct done *row, size_t room) {
     unguard(out, room);
 }
 
-/* With less it is told how much is needed, and nothing is written. */
+/* With less room, the call reports how much is needed and writes nothing. */
 static void is_short(const struct done *row, size_t room) {
     uint8_t *out = guarded(room);
     const bcs_answer answer = make_guarded(row->job, out, room);
@@ -152,7 +167,25 @@ static void parts_by_names(void) {
     is_answer(NAMED_PART("{\"OPTION\":\"U8\"}", "\x01\x07", BCS_POINTER, "/some"), BCS_DONE, 1, 1);
 }
 
-/* The names of docs/FORMAT.md, by number. */
+#define CONTENT_OF(its_format, its_input, its_notation, its_name) \
+    (struct job){ON_VALUE(CONTENT, its_format, its_input), .number = its_notation, .second = OF(its_name)}
+
+/* What comes after the length, if the part has one. */
+static void contents(void) {
+    is_answer(CONTENT_OF(PAYMENT, PAID, BCS_STEPS, "inner/0"), BCS_DONE, 1, 3);
+    is_answer(CONTENT_OF(PAYMENT, PAID, BCS_NAME, ".to"), BCS_DONE, 1, 3);
+    is_answer(CONTENT_OF(PAYMENT, PAID, BCS_POINTER, "/to"), BCS_DONE, 1, 3);
+    is_answer(CONTENT_OF("\"BYTES\"", "\x02\xc0\xde", BCS_STEPS, "."), BCS_DONE, 1, 2);
+    is_answer(CONTENT_OF("\"BYTES\"", "\0", BCS_STEPS, "."), BCS_DONE, 1, 0);
+    is_answer(CONTENT_OF("\"STR\"", "\0!", BCS_POINTER, ""), BCS_DONE, 1, 0);
+    is_answer(CONTENT_OF("{\"SEQ\":\"U8\"}", "\x03" "abc", BCS_NAME, "."), BCS_DONE, 1, 3);
+    is_answer(CONTENT_OF("{\"TUPLE\":[\"U8\",{\"TUPLEARRAY\":{\"CONTENT\":\"U8\",\"SIZE\":3}}]}", "\x07" "abc", BCS_NAME, "[1]"), BCS_DONE, 1, 3);
+    is_answer(CONTENT_OF("{\"TUPLEARRAY\":{\"CONTENT\":\"U8\",\"SIZE\":0}}", "", BCS_NAME, "."), BCS_DONE, 0, 0);
+    is_answer(CONTENT_OF(PAYMENT, PAID, BCS_STEPS, "inner/2"), BCS_NO, 0, 0);
+    is_answer(CONTENT_OF(PAYMENT, PAID, BCS_NAME, ".amoun"), BCS_NO, 0, 0);
+}
+
+/* The names of docs/ENCODING.md and docs/JSON.md, by number. */
 static const struct {
     uint32_t fault;
     const char *name;
@@ -165,8 +198,12 @@ static const struct {
     {401, "EndOfInput"}, {402, "BadBool"}, {403, "BadOption"}, {404, "LongForm"}, {405, "NumberTooLarge"},
     {406, "LengthTooLarge"}, {407, "UnknownVariant"}, {408, "BadUtf8"}, {409, "KeyOrder"}, {410, "KeyRepeated"},
     {411, "TooDeep"}, {412, "TrailingBytes"}, {413, "TooManyNodes"}, {414, "Unsupported"},
-    {501, "TooNested"}, {601, "BadPath"},
+    {501, "TooNested"}, {601, "BadPath"}, {602, "NoContent"},
     {701, "UnknownVariant"}, {702, "NoValue"}, {703, "TooManyNodes"}, {704, "TooNested"},
+    {801, "NotJson"}, {802, "RepeatedMember"}, {803, "NotModules"}, {804, "ChainError"},
+    {805, "MixedChains"}, {806, "RepeatedName"}, {807, "BadType"}, {808, "MissingModule"},
+    {809, "UnknownName"}, {810, "WrongCount"}, {811, "NoBytes"}, {812, "UnknownVariants"},
+    {813, "NotStandard"}, {814, "TooLarge"},
 };
 
 /* Each of the first thousand numbers is a fault with its name, or none. */
@@ -227,6 +264,7 @@ int main(void) {
     comparisons();
     scans_and_parts();
     parts_by_names();
+    contents();
     names_of_faults();
     large_values();
     return 0;

@@ -1,5 +1,5 @@
 /* Schemas, examples, registries in readable form, their differences, and where a format or a path is refused. The expected texts
-   are those of tests/rows/bcs.rows, which come from docs/FORMAT.md. */
+   are those of tests/rows/bcs.rows, which come from docs/PROGRAM.md. */
 #include "jobs.h"
 
 #define ABC \
@@ -44,7 +44,7 @@ static const struct row rows[] = {
      BCS_REFUSED, BCS_EXAMPLE_TOO_MANY_NODES, TEXT("")},
 
     {{.call = SHOW, .registry = OF(ABC), .input = OF("C")},
-     DONE("A: NEWTYPESTRUCT, 8 bytes\n  U64\nC: ENUM, 1 to 9 bytes, used by no other\n  0 X\n  1 Y: A\n")},
+     DONE("C: ENUM, 1 to 9 bytes, used by no other\n  0 X\n  1 Y: A\nA: NEWTYPESTRUCT, 8 bytes\n  U64\n")},
     {{.call = SHOW, .registry = OF(ABC), .input = OF("A")}, DONE("A: NEWTYPESTRUCT, 8 bytes\n  U64\n")},
     {{.call = SHOW, .registry = OF("{}")}, DONE("")},
     {{.call = SHOW, .registry = OF("{\"B\":\"UNITSTRUCT\", \"A\":{\"NEWTYPESTRUCT\":\"U8\"}}"), .number = BCS_JSON},
@@ -75,6 +75,14 @@ static const struct row rows[] = {
     {{.call = GROWTH_PLACE, .input = OF("{\"S\":\"UNITSTRUCT\"}"), .second = OF("{}")}, BCS_DONE, BCS_GROWTH_MISSING,
      PARTS("S", "the newer registry has no container of that name")},
     {{.call = GROWTH_PLACE, .input = OF("{}"), .second = OF("{\"S\":\"UNITSTRUCT\"}")}, BCS_NO, BCS_FAULT_NONE, TEXT("")},
+    {{.call = REGISTRY_OF_MODULES, .input = OF("[]"), .second = OF("0x1::option::Option<u8>\nvector<u8>")},
+     DONE("{\"0x1::option::Option<u8>\":{\"NEWTYPESTRUCT\":{\"OPTION\":\"U8\"}},\"vector<u8>\":{\"NEWTYPESTRUCT\":\"BYTES\"}}")},
+    {{.call = REGISTRY_OF_MODULES, .input = OF("[]"), .second = OF("0x01::string::String\n")},
+     DONE("{\"0x1::string::String\":{\"NEWTYPESTRUCT\":\"STR\"}}\n\"0x01::string::String\": the container is called 0x1::string::String")},
+    {{.call = REGISTRY_OF_MODULES, .input = OF("[]"), .second = OF("0x1::m::S")}, BCS_REFUSED, BCS_MOVE_MISSING_MODULE, TEXT("")},
+    {{.call = REGISTRY_OF_MODULES, .input = OF("[]"), .second = OF("\xff")}, BCS_REFUSED, BCS_MOVE_BAD_TYPE, TEXT("")},
+    {{.call = REGISTRY_OF_MODULES, .input = OF("\xff"), .second = OF("u8")}, BCS_REFUSED, BCS_MOVE_NOT_JSON, TEXT("")},
+    {{.call = MODULES_PLACE, .input = OF("[]"), .second = OF("u8")}, BCS_NO, BCS_FAULT_NONE, TEXT("")},
 };
 
 #define ROOM 1000

@@ -1,4 +1,4 @@
-/* The driver of C: reads lines of calls and answers them, as bindings/README.md says. With the word `handle` it makes the
+/* The driver of C: reads lines of calls and answers them, as tests/rows/driver.py says. With the word `handle` it makes the
    calls on a handle, in which it keeps the registry of the line before open as long as the next line has the same. */
 #include "jobs.h"
 #include <errno.h>
@@ -8,12 +8,14 @@
 /* The words of calls, in the order of enum call. */
 static const char *const call_words[] = {"check",      "grows",      "to_bcs",        "from_bcs", "normalise",
                                          "compare",    "scan",       "part",          "explain",  "fault_name",
-                                         "text_place", "stop_place", "registry_place", "part_named"};
+                                         "text_place", "stop_place", "registry_place", "part_named",
+                                         "registry_of_modules", "modules_place",
+                                         [CONTENT] = "content", [EXPLAIN_WITH] = "explain_with"};
 static const char *const status_words[] = {"done",    "short",  "registry", "format", "limits",
                                            "refused", "memory", "no",       "path",   "newer",  "closed"};
 static const char *const form_words[] = {"ways", "paths", "tree", "json"};
 static const char *const what_words[] = {"where", "wanted"};
-static const char *const notation_words[] = {"", "name", "pointer"};
+static const char *const notation_words[] = {"steps", "name", "pointer"};
 #define COUNT(words) (sizeof(words) / sizeof *(words))
 
 static void fail(const char *what, const char *word) {
@@ -23,7 +25,7 @@ static void fail(const char *what, const char *word) {
 
 static size_t number_of(const char *word, const char *const *words, size_t count) {
     for (size_t number = 0; number < count; number++) {
-        if (strcmp(word, words[number]) == 0) {
+        if (words[number] != NULL && strcmp(word, words[number]) == 0) {
             return number;
         }
     }
@@ -74,7 +76,7 @@ static size_t split(char *line, char *words[WORDS]) {
 
 static struct job job_of(char *words[WORDS], size_t count) {
     struct job job = {.call = (enum call)number_of(words[0], call_words, COUNT(call_words))};
-    const size_t counts[] = {5, 3, 6, 6, 6, 7, 6, 7, 7, 2, 7, 7, 3, 8};
+    const size_t counts[] = {5, 3, 6, 6, 6, 7, 6, 7, 7, 2, 7, 7, 3, 8, 3, 4, [CONTENT] = 8, [EXPLAIN_WITH] = 8};
     if (count != counts[job.call]) {
         fail("not the number of words", words[0]);
     }
@@ -84,9 +86,10 @@ static struct job job_of(char *words[WORDS], size_t count) {
         job.call = REGISTRY_REFUSAL;
         job.input = bytes_of(words[1]);
         job.number = (uint32_t)number_of(words[2], what_words, COUNT(what_words));
-    } else if (job.call == GROWS) {
+    } else if (job.call == GROWS || job.call == REGISTRY_OF_MODULES || job.call == MODULES_PLACE) {
         job.input = bytes_of(words[1]);
         job.second = bytes_of(words[2]);
+        job.number = count > 3 ? (uint32_t)number_of(words[3], what_words, COUNT(what_words)) : 0;
     } else {
         job.registry = bytes_of(words[1]);
         job.format = bytes_of(words[2]);
@@ -97,7 +100,10 @@ static struct job job_of(char *words[WORDS], size_t count) {
             job.number = (uint32_t)number_of(words[6], form_words, COUNT(form_words));
         } else if (job.call == TEXT_PLACE || job.call == STOP_PLACE) {
             job.number = (uint32_t)number_of(words[6], what_words, COUNT(what_words));
-        } else if (job.call == PART_NAMED) {
+        } else if (job.call == EXPLAIN_WITH) {
+            job.number = (uint32_t)number_of(words[6], form_words, COUNT(form_words));
+            job.second = bytes_of(words[7]);
+        } else if (job.call == PART_NAMED || job.call == CONTENT) {
             job.second = bytes_of(words[6]);
             job.number = (uint32_t)number_of(words[7], notation_words, COUNT(notation_words));
         } else {
@@ -153,7 +159,7 @@ static bcs_answer make_whole(enum way way, const struct job *job, uint8_t **out,
     return answer;
 }
 
-/* Half of a refusal of a registry: the place, or the message behind the last NUL. */
+/* Half of a whole refusal: the place, or the message behind the last NUL. */
 static bcs_answer half_of(bcs_answer whole, uint32_t what, uint8_t *out) {
     if (whole.status != BCS_DONE || whole.length == 0) {
         return whole;
@@ -205,7 +211,8 @@ int main(int count, char **arguments) {
         char *words[WORDS];
         const struct job job = job_of(words, split(line, words));
         const bcs_answer answer = make_whole(way, &job, &out, &room);
-        tell(&job, job.call == REGISTRY_REFUSAL ? half_of(answer, job.number, out) : answer, out);
+        const bool is_whole = job.call == REGISTRY_REFUSAL || job.call == MODULES_PLACE;
+        tell(&job, is_whole ? half_of(answer, job.number, out) : answer, out);
     }
     bcs_close(handle);
     free((void *)open_text.at);

@@ -31,11 +31,13 @@ FRONTS = {
     "GrowthFault": "BCS_GROWTH_",
     "JsonFault": "BCS_TEXT_",
     "Reason": "BCS_STOP_",
+    "MoveRefusalName": "BCS_MOVE_",
 }
 # Faults that aren't of one of these enums.
 OTHER_FAULTS = {
     "ShownTooNested": "BCS_SHOWN_TOO_NESTED",
     "BadPath": "BCS_PATH_BAD_PATH",
+    "NoContent": "BCS_PATH_NO_CONTENT",
     "ExampleUnknownVariant": "BCS_EXAMPLE_UNKNOWN_VARIANT",
     "ExampleNoValue": "BCS_EXAMPLE_NO_VALUE",
     "ExampleTooManyNodes": "BCS_EXAMPLE_TOO_MANY_NODES",
@@ -45,6 +47,8 @@ FORMS = {"Form": "BCS_"}
 NOTATION = re.compile(
     r"\b(\d+) (?:if \w+\(text\) )?=> (?:match \w+\(alloc, text\) \{\s*Ok\(_\) => )?Ok\(Some\(PartName::(\w+)"
 )
+# The notation of paths, which isn't one of `PartName`.
+STEPS = re.compile(r"\bconst (STEPS): u32 = (\d+);")
 
 
 class Interface(NamedTuple):
@@ -135,7 +139,8 @@ def of_crate(folder: pathlib.Path) -> Interface:
         statuses=numbers(code, {"Status": FRONTS["Status"]}),
         faults=numbers(code, {enum: front for enum, front in FRONTS.items() if enum != "Status"}) | others,
         forms=forms_of(code),
-        notations={"BCS_" + in_capitals(name): int(number) for number, name in NOTATION.findall(code)},
+        notations={"BCS_" + in_capitals(name): int(number) for number, name in NOTATION.findall(code)}
+        | {"BCS_" + name: int(number) for name, number in STEPS.findall(code)},
     )
 
 

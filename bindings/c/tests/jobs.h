@@ -6,12 +6,12 @@
 
 enum call {
     CHECKS, GROWS, TO_BCS, FROM_BCS, NORMALISE, COMPARE, SCAN, PART, EXPLAIN, FAULT_NAME, TEXT_PLACE, STOP_PLACE, REGISTRY_PLACE,
-    PART_NAMED, REGISTRY_REFUSAL, PATH_PLACE, GROWTH_LIST, GROWTH_PLACE,
+    PART_NAMED, REGISTRY_OF_MODULES, MODULES_PLACE, REGISTRY_REFUSAL, PATH_PLACE, GROWTH_LIST, GROWTH_PLACE,
     /* PART_NAMED, and these and those behind them, are there on a handle only */
-    TEXT_REFUSAL, STOP_REFUSAL, SCHEMA, EXAMPLE, SHOW, FORMAT_PLACE
+    CONTENT, EXPLAIN_WITH, TEXT_REFUSAL, STOP_REFUSAL, SCHEMA, EXAMPLE, SHOW, FORMAT_PLACE
 };
 
-/* What a call is handed. `second` is a second text, a path, the name of a part, or the newer registry, and `number` a form, a
+/* What a call is handed. `second` is a second text, a path, the name of a part, views, or the newer registry, and `number` a form, a
    notation, a fault, or which part of a place is wanted. */
 struct job {
     enum call call;
@@ -22,7 +22,7 @@ struct job {
 /* Whether the call has an output. */
 static inline bool has_output(const struct job *job) {
     return job->call == TO_BCS || job->call == FROM_BCS || job->call == NORMALISE || job->call == EXPLAIN ||
-           job->call == FAULT_NAME || (job->call >= TEXT_PLACE && job->call != PART_NAMED);
+           job->call == FAULT_NAME || (job->call >= TEXT_PLACE && job->call != PART_NAMED && job->call != CONTENT);
 }
 
 /* How a call has its registry. */
@@ -80,7 +80,13 @@ static inline bcs_answer make(const struct job *job, uint8_t *out, size_t room) 
         return bcs_growth_list(input.at, input.length, second.at, second.length, out, room);
     case GROWTH_PLACE:
         return bcs_growth_place(input.at, input.length, second.at, second.length, out, room);
+    case REGISTRY_OF_MODULES:
+        return bcs_registry_of_modules(input.at, input.length, second.at, second.length, out, room);
+    case MODULES_PLACE:
+        return bcs_modules_place(input.at, input.length, second.at, second.length, out, room);
     case PART_NAMED:
+    case CONTENT:
+    case EXPLAIN_WITH:
     case TEXT_REFUSAL:
     case STOP_REFUSAL:
     case SCHEMA:
@@ -95,7 +101,7 @@ static inline bcs_answer make(const struct job *job, uint8_t *out, size_t room) 
 /* Whether the call is one of those that there are on a handle too. */
 static inline bool is_on_registry(const struct job *job) {
     return job->call != GROWS && job->call != FAULT_NAME &&
-           (job->call < REGISTRY_PLACE || job->call == PART_NAMED || job->call >= TEXT_REFUSAL);
+           (job->call < REGISTRY_PLACE || job->call == PART_NAMED || job->call >= CONTENT);
 }
 
 /* The same on the registry that is open. */
@@ -118,8 +124,13 @@ static inline bcs_answer make_on(bcs_handle *handle, const struct job *job, uint
         return bcs_handle_part(WITH_HANDLE(handle, job), input.at, input.length, second.at, second.length);
     case PART_NAMED:
         return bcs_handle_part_named(WITH_HANDLE(handle, job), job->number, second.at, second.length, input.at, input.length);
+    case CONTENT:
+        return bcs_handle_content(WITH_HANDLE(handle, job), job->number, second.at, second.length, input.at, input.length);
     case EXPLAIN:
         return bcs_handle_explain(WITH_HANDLE(handle, job), job->number, input.at, input.length, out, room);
+    case EXPLAIN_WITH:
+        return bcs_handle_explain_with(WITH_HANDLE(handle, job), job->number, second.at, second.length, input.at, input.length, out,
+                                       room);
     case TEXT_PLACE:
         return bcs_handle_text_place(WITH_HANDLE(handle, job), job->number, input.at, input.length, out, room);
     case STOP_PLACE:
@@ -143,6 +154,8 @@ static inline bcs_answer make_on(bcs_handle *handle, const struct job *job, uint
     case PATH_PLACE:
     case GROWTH_LIST:
     case GROWTH_PLACE:
+    case REGISTRY_OF_MODULES:
+    case MODULES_PLACE:
         break;
     }
     abort();
@@ -171,7 +184,7 @@ static inline bool are_same(bcs_answer one, bcs_answer other) {
     return one.status == other.status && one.fault == other.fault && one.place == other.place && one.length == other.length;
 }
 
-/* Makes it with all that is handed over at the ends of pages, and an output that holds what it held before; and on a
+/* Makes it with all arguments at the ends of pages, and an output that holds what it held before; and on a
    handle too, which has to give the same. */
 static inline bcs_answer make_guarded(struct job job, uint8_t *out, size_t room) {
     job.registry = slice_of((const char *)job.registry.at, job.registry.length);

@@ -1,6 +1,6 @@
 /* Want of memory. Each request for memory of each job is refused in turn, alone and with all that come after it. The answer
    is BCS_MEMORY with the output untouched, or the one that there is with memory; and every block comes back. It has a heap of
-   its own, so it is linked with libbcs_c.a. */
+   its own, which replaces that of libbcs.a. */
 #include "jobs.h"
 
 #define REGISTRY \
@@ -99,6 +99,9 @@ static const struct {
     {"part by name, nowhere", {ON_VALUE(PART_NAMED, DATA_OF_IT), .number = BCS_NAME, .second = OF("[key:0162]::M.z")}, BCS_NO, 0},
     {"part by pointer", {ON_VALUE(PART_NAMED, DATA_OF_IT), .number = BCS_POINTER, .second = OF("/1/1/M/y/0")}, BCS_DONE, 0},
     {"part by pointer, nowhere", {ON_VALUE(PART_NAMED, DATA_OF_IT), .number = BCS_POINTER, .second = OF("/1/0")}, BCS_NO, 0},
+    {"content", {ON_VALUE(CONTENT, DATA_OF_IT), .number = BCS_STEPS, .second = OF("key:0162/inner/inner/inner/1/0")}, BCS_DONE, 0},
+    {"content by name", {ON_VALUE(CONTENT, DATA_OF_IT), .number = BCS_NAME, .second = OF("[key:0162]::M.y[0]")}, BCS_DONE, 0},
+    {"content of none", {ON_VALUE(CONTENT, DATA_OF_IT), .number = BCS_STEPS, .second = OF("key:0162/inner/inner/inner/1")}, BCS_REFUSED, 0},
     {"part by name, refused", {ON_VALUE(PART_NAMED, DAMAGED), .number = BCS_NAME, .second = OF("[key:0161]")}, BCS_REFUSED, 0},
     {"explain, ways", {ON_VALUE(EXPLAIN, DATA_OF_IT), .number = BCS_WAYS}, BCS_DONE, ROOM},
     {"explain, paths", {ON_VALUE(EXPLAIN, DATA_OF_IT), .number = BCS_PATHS}, BCS_DONE, ROOM},
@@ -107,6 +110,8 @@ static const struct {
     {"explain, short", {ON_VALUE(EXPLAIN, DATA_OF_IT), .number = BCS_JSON}, BCS_SHORT, 5},
     {"explain, damaged", {ON_VALUE(EXPLAIN, DAMAGED), .number = BCS_WAYS}, BCS_DONE, ROOM},
     {"explain, damaged, JSON", {ON_VALUE(EXPLAIN, DAMAGED), .number = BCS_JSON}, BCS_DONE, ROOM},
+    {"explain with views", {ON_VALUE(EXPLAIN_WITH, DATA_OF_IT), .number = BCS_WAYS, .second = OF("inside [key:0162]::M.y[0]={\"TUPLE\":[\"U8\",\"U16\"]}\ninside .x=B")}, BCS_DONE, ROOM},
+    {"explain with views, refused", {ON_VALUE(EXPLAIN_WITH, DATA_OF_IT), .number = BCS_WAYS, .second = OF("inside .x=C")}, BCS_FORMAT, ROOM},
     {"no such registry", {.call = CHECKS, .registry = OF("{\"A\":{\"STRUCT\":[{\"x\":\"U8\"},{\"x\":\"U8\"}]}}"),
                           .format = OF("\"U8\""), STANDARD}, BCS_REGISTRY, 0},
     {"no such format", {.call = CHECKS, .registry = OF(REGISTRY), .format = OF("{\"SEQ\":{\"TYPENAME\":\"C\"}}"), STANDARD},
@@ -137,6 +142,8 @@ static const struct {
     {"path_place", {.call = PATH_PLACE, .input = OF("inner/07/x")}, BCS_DONE, ROOM},
     {"growth_list", {.call = GROWTH_LIST, .input = OF(REGISTRY), .second = OF("{\"A\":\"UNITSTRUCT\"}")}, BCS_DONE, ROOM},
     {"growth_place", {.call = GROWTH_PLACE, .input = OF(REGISTRY), .second = OF("{\"A\":\"UNITSTRUCT\"}")}, BCS_DONE, ROOM},
+    {"registry_of_modules", {.call = REGISTRY_OF_MODULES, .input = OF("[]"), .second = OF("vector<address>")}, BCS_DONE, ROOM},
+    {"modules_place", {.call = MODULES_PLACE, .input = OF("[7]"), .second = OF("u8")}, BCS_DONE, ROOM},
     {"fault_name", {.call = FAULT_NAME, .number = BCS_STOP_KEY_ORDER}, BCS_DONE, ROOM},
 };
 

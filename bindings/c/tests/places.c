@@ -8,7 +8,7 @@
 #define POINT "{\"TYPENAME\":\"Point\"}"
 #define SHAPE "{\"TYPENAME\":\"Shape\"}"
 
-/* What is refused, with its format, and what is told of it. */
+/* What is refused, with its format, and what is reported about it. */
 struct refused {
     struct slice format, input;
     const char *where, *expected;
@@ -24,7 +24,7 @@ static const struct refused texts[] = {
     ROW(SHAPE, "{\"Circle\":true}", "/Circle", "found true, expected an integer from 0 to 18446744073709551615 (U64)"),
     ROW(SHAPE, "\"Disc\"", "", "no variant is called Disc; variants: Dot, Circle"),
     ROW(SHAPE, "\"Cirlce\"", "", "no variant is called Cirlce; did you mean Circle?"),
-    ROW("\"F64\"", "1.5", "", "no value of F64 is supported; BCS has none"),
+    ROW("\"F64\"", "1.5", "", "BCS has no F64; this format can't have a value"),
     ROW("{\"SEQ\":\"BOOL\"}", "[true,true,true,true,true,true,true,true,true,true,1]", "/10", "expected BOOL, true or false"),
     ROW("{\"MAP\":{\"KEY\":\"U8\",\"VALUE\":\"U8\"}}", "[[1,2],[1,3]]", "", "two keys of a map are equal"),
     ROW("\"U8\"", "x", "", "line 1, column 1: text belongs in double quotes"),
@@ -37,7 +37,7 @@ static const struct refused stops[] = {
     ROW(POINT, "\x07\x01\x02\x05", ".~/[0]", "expected 2 bytes of BYTES, found the end of the input"),
     ROW("{\"SEQ\":\"BOOL\"}", "\x02\x01\x02", "[1]", "expected BOOL, 00 or 01, found 02"),
     ROW("\"U8\"", "\x07\x08", ".", "expected the end, found 1 byte more"),
-    ROW(SHAPE, "\x01", ".", "expected number of a variant; found 1; variants: 0 Dot, 2 Circle"),
+    ROW(SHAPE, "\x01", ".", "expected the number of a variant; found 1; variants: 0 Dot, 2 Circle"),
 };
 
 static const struct refused registries[] = {
@@ -72,6 +72,9 @@ static const struct whole wholes[] = {
     {ON(GROWTH_PLACE, .input = OF("{\"" NAME "\":{\"ENUM\":{\"7\":{\"" NAME "\":\"UNIT\"}}}}"),
         .second = OF("{\"" NAME "\":{\"ENUM\":{\"7\":{\"z: VariantChanged: q\":\"UNIT\"}}}}")),
      BCS_GROWTH_VARIANT_CHANGED, NAME ", variant 7 " NAME, "the newer enum has z: VariantChanged: q there"},
+    {ON(MODULES_PLACE, .input = OF("[7]"), .second = OF("u8")), BCS_MOVE_NOT_MODULES, "/0",
+     "this isn't the JSON of a module of Aptos or Sui, which has the member structs"},
+    {ON(MODULES_PLACE, .input = OF("[]"), .second = OF("signer")), BCS_MOVE_NO_BYTES, "signer", "a signer has no bytes"},
 };
 
 #define COUNT(table) (sizeof(table) / sizeof(table)[0])
@@ -157,7 +160,7 @@ static void told_of_registry(const struct refused *row, uint32_t what, const cha
     unguard(out, ROOM);
 }
 
-/* What isn't refused is told so, and what is asked for is refused as by any call. */
+/* If nothing is refused, the answer says so; invalid arguments are refused as by any call. */
 static void others(void) {
     uint8_t out[ROOM];
     memset(out, UNTOUCHED, ROOM);

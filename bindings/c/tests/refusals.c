@@ -79,12 +79,13 @@ static const struct refused_value stops[] = {
     {BCS_STOP_UNSUPPORTED, OF("{\"TUPLE\":[\"U8\",\"F64\"]}"), OF("\x01\x01"), 1, BCS_DEPTH, BCS_NODES},
 };
 
-static const enum call calls_that_ask[] = {CHECKS, TO_BCS, FROM_BCS, NORMALISE, COMPARE, SCAN, PART, PART_NAMED, EXPLAIN};
+static const enum call calls_that_ask[] = {CHECKS, TO_BCS, FROM_BCS, NORMALISE, COMPARE, SCAN, PART, PART_NAMED, CONTENT, EXPLAIN,
+                                           EXPLAIN_WITH};
 static const enum call calls_on_texts[] = {TO_BCS, NORMALISE, COMPARE};
-static const enum call calls_on_bytes[] = {FROM_BCS, SCAN, PART, PART_NAMED};
+static const enum call calls_on_bytes[] = {FROM_BCS, SCAN, PART, PART_NAMED, CONTENT};
 #define COUNT(table) (sizeof(table) / sizeof(table)[0])
 
-/* The job has this status, fault and place, tells no length, and leaves its output as it was. */
+/* The job has this status, fault and place, and no length, and leaves its output unchanged. */
 static void is_refused(struct job job, enum bcs_status status, uint32_t fault, uint64_t place) {
     const size_t room = 200;
     uint8_t *out = guarded(room);
@@ -101,8 +102,8 @@ static void is_refused(struct job job, enum bcs_status status, uint32_t fault, u
 
 static struct job job_of(enum call call, struct slice registry, struct slice format, struct slice input) {
     struct job job = {.call = call, .registry = registry, .format = format, .input = input, STANDARD};
-    job.second = call == PART || call == PART_NAMED ? whole : input;
-    job.number = call == PART_NAMED ? BCS_NAME : 0;
+    job.second = call == PART || call == PART_NAMED || call == CONTENT ? whole : call == EXPLAIN_WITH ? no_bytes : input;
+    job.number = call == PART_NAMED ? BCS_NAME : call == CONTENT ? BCS_STEPS : 0;
     return job;
 }
 
@@ -134,7 +135,7 @@ static void refused_texts(void) {
             is_refused(job, BCS_REFUSED, value->fault, 0);
         }
     }
-    /* Of two texts the first that is refused is told. */
+    /* Of two documents, the first that is refused is reported. */
     struct job two = job_of(COMPARE, good_registry, number, (struct slice)OF("7"));
     two.second = (struct slice)OF("x");
     is_refused(two, BCS_REFUSED, BCS_TEXT_NOT_JSON, 0);
@@ -161,7 +162,7 @@ static void refused_bytes(void) {
                BCS_SHOWN_TOO_NESTED, 0);
 }
 
-/* Explaining damage is done, and tells the fault and the place beside the text, also where there is no room for it. */
+/* Explaining invalid bytes is done, and reports the fault and the place beside the text, even if there is no room for it. */
 static void explained_damage(void) {
     for (size_t row = 0; row < COUNT(stops); row++) {
         const struct refused_value *value = &stops[row];
@@ -191,10 +192,14 @@ static void refused_paths(void) {
         struct job job = job_of(PART, good_registry, number, (struct slice)OF("\x07"));
         job.second = bad_paths[row];
         is_refused(job, BCS_PATH, BCS_PATH_BAD_PATH, 0);
+        job.call = CONTENT;
+        is_refused(job, BCS_PATH, BCS_PATH_BAD_PATH, 0);
     }
     for (size_t row = 0; row < COUNT(paths_to_nowhere); row++) {
         struct job job = job_of(PART, good_registry, number, (struct slice)OF("\x07"));
         job.second = paths_to_nowhere[row];
+        is_refused(job, BCS_NO, BCS_FAULT_NONE, 0);
+        job.call = CONTENT;
         is_refused(job, BCS_NO, BCS_FAULT_NONE, 0);
     }
 }
@@ -216,6 +221,70 @@ static void refused_names(void) {
         is_refused(job, BCS_PATH, BCS_PATH_BAD_PATH, 0);
         job.input = no_bytes; /* which are no value */
         is_refused(job, BCS_PATH, BCS_PATH_BAD_PATH, 0);
+        if (job.number != BCS_STEPS) {
+            job.call = CONTENT;
+            is_refused(job, BCS_PATH, BCS_PATH_BAD_PATH, 0);
+        }
+    }
+}
+
+/* Lines that request no view, and what the registry refuses of them. */
+static void refused_views(void) {
+    static const struct {
+        enum bcs_status status;
+        uint32_t fault;
+        struct slice lines;
+    } rows[] = {
+        {BCS_PATH, BCS_PATH_BAD_PATH, OF("outside .=\"U8\"")},
+        {BCS_PATH, BCS_PATH_BAD_PATH, OF("inside")},
+        {BCS_PATH, BCS_PATH_BAD_PATH, OF(" ")},
+        {BCS_PATH, BCS_PATH_BAD_PATH, OF("inside .")},
+        {BCS_PATH, BCS_PATH_BAD_PATH, OF("call =f")},
+        {BCS_PATH, BCS_PATH_BAD_PATH, OF("inside .=\"U8\"\n\xff")},
+        {BCS_FORMAT, BCS_REGISTRY_UNKNOWN_NAME, OF("inside .=Unknown")},
+        {BCS_FORMAT, BCS_REGISTRY_NOT_JSON, OF("inside .={")},
+        {BCS_FORMAT, BCS_REGISTRY_BAD_SHAPE, OF("inside .=\"U7\"")},
+        {BCS_FORMAT, BCS_REGISTRY_UNKNOWN_NAME, OF("call .=0x1::m::none")},
+        {BCS_FORMAT, BCS_REGISTRY_UNKNOWN_NAME, OF("address Unknown")},
+        {BCS_FORMAT, BCS_REGISTRY_UNKNOWN_NAME, OF("u256 E")},
+        {BCS_FORMAT, BCS_REGISTRY_UNKNOWN_NAME, OF("i256 E")},
+    };
+    for (size_t row = 0; row < COUNT(rows); row++) {
+        struct job job = job_of(EXPLAIN_WITH, good_registry, number, (struct slice)OF("\x07"));
+        job.second = rows[row].lines;
+        is_refused(job, rows[row].status, rows[row].fault, 0);
+    }
+}
+
+/* A stop inside a byte string has its place in the whole input. */
+static void stops_inside(void) {
+    struct job job = job_of(EXPLAIN_WITH, good_registry, (struct slice)OF("{\"SEQ\":\"BYTES\"}"), (struct slice)OF("\x02\x01\x05\x01\x06"));
+    job.second = (struct slice)OF("inside [0]=\"BOOL\"");
+    const bcs_answer answer = make(&job, NULL, 0);
+    CHECK(answer.status == BCS_SHORT && answer.fault == BCS_STOP_BAD_BOOL && answer.place == 2);
+}
+
+/* Parts of formats that have no content. */
+static void refused_contents(void) {
+    static const struct {
+        struct slice format, input, path;
+    } none[] = {
+        {OF("\"U8\""), OF("\x07"), OF(".")},
+        {OF("\"UNIT\""), OF(""), OF(".")},
+        {OF("{\"SEQ\":\"U16\"}"), OF("\0"), OF(".")},
+        {OF("{\"SEQ\":\"I8\"}"), OF("\x01\x07"), OF(".")},
+        {OF("{\"SEQ\":\"U8\"}"), OF("\x01\x07"), OF("0")},
+        {OF("{\"OPTION\":\"BYTES\"}"), OF("\x01\0"), OF(".")},
+        {OF("{\"TUPLE\":[\"U8\",\"U8\"]}"), OF("\x07\x07"), OF(".")},
+        {OF("{\"TUPLEARRAY\":{\"CONTENT\":\"BOOL\",\"SIZE\":1}}"), OF("\x01"), OF(".")},
+        {OF("{\"MAP\":{\"KEY\":\"U8\",\"VALUE\":\"U8\"}}"), OF("\0"), OF(".")},
+        {OF("{\"TYPENAME\":\"E\"}"), OF("\0"), OF(".")},
+        {OF("{\"TYPENAME\":\"E\"}"), OF("\0"), OF("inner")},
+    };
+    for (size_t row = 0; row < COUNT(none); row++) {
+        struct job job = job_of(CONTENT, good_registry, none[row].format, none[row].input);
+        job.second = none[row].path;
+        is_refused(job, BCS_REFUSED, BCS_PATH_NO_CONTENT, 0);
     }
 }
 
@@ -272,6 +341,9 @@ int main(void) {
     explained_damage();
     refused_paths();
     refused_names();
+    refused_contents();
+    refused_views();
+    stops_inside();
     refused_growth();
     refused_in_order();
     return 0;

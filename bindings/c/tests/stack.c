@@ -363,6 +363,144 @@ static void nested(struct trial trials[COUNT(sizes)]) {
     }
 }
 
+/* ---- Calls that need more than others: on modules of Move chains, and on byte strings in a value. */
+
+#define SUI_BEFORE "{\"address\":\"0x1\",\"name\":\"m\",\"friends\":[],\"exposedFunctions\":{},\"structs\":{\"S\":" \
+    "{\"abilities\":{\"abilities\":[]},\"typeParameters\":[],\"fields\":[{\"name\":\"a\",\"type\":"
+#define SUI_BEHIND "}]}}}"
+#define APTOS_BEFORE "{\"abi\":{\"address\":\"0x1\",\"name\":\"m\",\"friends\":[],\"exposed_functions\":[],\"structs\":[" \
+    "{\"name\":\"S\",\"is_native\":false,\"abilities\":[],\"generic_type_params\":[{\"constraints\":[]}]," \
+    "\"fields\":[{\"name\":\"a\",\"type\":\""
+#define APTOS_BEHIND "\"}]}]}}"
+#define OPTION_OF_SUI "{\"Struct\":{\"address\":\"0x1\",\"module\":\"option\",\"name\":\"Option\",\"typeArguments\":["
+
+/* Modules with something that nests, and types that nest; and what is answered if there is enough stack. */
+static const struct {
+    const char *before, *open, *inner, *close, *behind;
+    size_t nesting;
+    const char *type_open, *type_inner, *type_close;
+    size_t type_nesting;
+    enum call call;
+    uint32_t status, fault;
+} deep_modules[] = {
+    {"[", "", "", "", "]", 0, "vector<", "u8", ">", 32, REGISTRY_OF_MODULES, BCS_DONE, BCS_FAULT_NONE},
+    {"[", "", "", "", "]", 0, "vector<", "u8", ">", 33, REGISTRY_OF_MODULES, BCS_REFUSED, BCS_MOVE_TOO_LARGE},
+    {"[", "", "", "", "]", 0, "0x1::option::Option<", "u7", ">", 32, MODULES_PLACE, BCS_DONE, BCS_MOVE_BAD_TYPE},
+    {"", "[", "7", "]", "", 127, "", "u8", "", 0, REGISTRY_OF_MODULES, BCS_REFUSED, BCS_MOVE_NOT_MODULES},
+    {"", "[", "7", "]", "", 128, "", "u8", "", 0, MODULES_PLACE, BCS_DONE, BCS_MOVE_NOT_JSON},
+    {"", "{\"a\":", "{\"b\":1,\"b\":2}", "}", "", 126, "", "u8", "", 0, MODULES_PLACE, BCS_DONE, BCS_MOVE_REPEATED_MEMBER},
+    {APTOS_BEFORE, "vector<", "T0", ">", APTOS_BEHIND, 32, "0x1::m::S<", "u8", ">", 1, REGISTRY_OF_MODULES, BCS_DONE,
+     BCS_FAULT_NONE},
+    {APTOS_BEFORE, "vector<", "T0", ">", APTOS_BEHIND, 1, "0x1::m::S<", "u8", ">", 32, REGISTRY_OF_MODULES, BCS_DONE,
+     BCS_FAULT_NONE},
+    {SUI_BEFORE, OPTION_OF_SUI, "\"U8\"", "]}}", SUI_BEHIND, 32, "", "0x1::m::S", "", 0, REGISTRY_OF_MODULES, BCS_DONE,
+     BCS_FAULT_NONE},
+    {SUI_BEFORE, OPTION_OF_SUI, "{\"TypeParameter\":\"x\"}", "]}}", SUI_BEHIND, 32, "", "0x1::m::S", "", 0, REGISTRY_OF_MODULES,
+     BCS_REFUSED, BCS_MOVE_BAD_TYPE},
+    {SUI_BEFORE, OPTION_OF_SUI, "{\"TypeParameter\":\"x\"}", "]}}", SUI_BEHIND, 32, "", "0x1::m::S", "", 0, MODULES_PLACE, BCS_DONE,
+     BCS_MOVE_BAD_TYPE},
+    {SUI_BEFORE, OPTION_OF_SUI, "[]", "]}}", SUI_BEHIND, 33, "", "0x1::m::S", "", 0, MODULES_PLACE, BCS_DONE, BCS_MOVE_TOO_LARGE},
+};
+
+static struct text nested_text(const char *open, const char *inner, const char *close, size_t nesting) {
+    struct text text = {NULL, 0, 0};
+    add_often(&text, open, nesting);
+    add_words(&text, inner);
+    add_often(&text, close, nesting);
+    return text;
+}
+
+static struct slice slice_of_text(struct text text) {
+    return (struct slice){(const uint8_t *)text.at, text.length};
+}
+
+/* Byte strings in one another: views for each, the last one with a format of 32 levels, and the bytes. */
+#define OPTIONS 31
+static struct text views_of(size_t count) {
+    struct text views = {NULL, 0, 0};
+    struct text format = nested_text("{\"OPTION\":", "\"U8\"", "}", OPTIONS);
+    for (size_t number = 0; number < count; number++) {
+        add_words(&views, number == 0 ? "inside ." : "inside ");
+        add_often(&views, "[bcs]", number);
+        add_words(&views, "=");
+        if (number + 1 < count) {
+            add_words(&views, "\"BYTES\"\n");
+        } else {
+            add(&views, format.at, format.length);
+        }
+    }
+    free(format.at);
+    return views;
+}
+
+static struct text bytes_of(size_t count) {
+    struct text bytes = {NULL, 0, 0};
+    for (size_t number = count; number > 0; number--) {
+        const char length = (char)(OPTIONS + number);
+        add(&bytes, &length, 1);
+    }
+    add_often(&bytes, "\1", OPTIONS + 1);
+    return bytes;
+}
+
+static const struct job *of_need;
+
+static void *make_of_need(void *data) {
+    struct trial *trial = data;
+    trial->answers[0][0][0] = make(of_need, output, ROOM);
+    CHECK(are_untouched(trial->stack, RESERVE));
+    return NULL;
+}
+
+/* The smallest stack on which the call is as with 8 MiB. On each smaller one it answers BCS_STACK. */
+static size_t need_of(const struct job *job, uint8_t *stack, uint32_t status, uint32_t fault) {
+    struct trial wanted = {.stack = stack, .size = ENOUGH};
+    of_need = job;
+    on_thread(&wanted, make_of_need);
+    const bcs_answer answer = wanted.answers[0][0][0];
+    CHECK(answer.status == status && answer.fault == fault);
+    for (size_t size = sizes[0]; size < ENOUGH; size += 4 * KIB) {
+        struct trial trial = {.stack = stack, .size = size};
+        on_thread(&trial, make_of_need);
+        if (are_same(trial.answers[0][0][0], answer)) {
+            return size;
+        }
+        CHECK(are_same(trial.answers[0][0][0], (bcs_answer){.status = BCS_STACK}));
+    }
+    abort();
+}
+
+static size_t need_of_modules(uint8_t *stack) {
+    size_t most = 0;
+    for (size_t row = 0; row < COUNT(deep_modules); row++) {
+        struct text nested = nested_text(deep_modules[row].open, deep_modules[row].inner, deep_modules[row].close,
+                                         deep_modules[row].nesting);
+        struct text modules = {NULL, 0, 0};
+        add_words(&modules, deep_modules[row].before);
+        add(&modules, nested.at, nested.length);
+        add_words(&modules, deep_modules[row].behind);
+        struct text types = nested_text(deep_modules[row].type_open, deep_modules[row].type_inner, deep_modules[row].type_close,
+                                        deep_modules[row].type_nesting);
+        const struct job job = {.call = deep_modules[row].call, .input = slice_of_text(modules), .second = slice_of_text(types)};
+        const size_t need = need_of(&job, stack, deep_modules[row].status, deep_modules[row].fault);
+        most = need > most ? need : most;
+        free(nested.at);
+        free(modules.at);
+        free(types.at);
+    }
+    return most;
+}
+
+static size_t need_of_views(uint8_t *stack, size_t count) {
+    struct text views = views_of(count), bytes = bytes_of(count);
+    const struct job job = {EXPLAIN_WITH,         OF("{}"), OF("\"BYTES\""), slice_of_text(bytes),
+                            slice_of_text(views), STANDARD, BCS_JSON};
+    const size_t need = need_of(&job, stack, BCS_DONE, BCS_FAULT_NONE);
+    free(views.at);
+    free(bytes.at);
+    return need;
+}
+
 /* ---- An ordinary value. */
 
 static const char *examples;
@@ -421,6 +559,10 @@ static void on_threads(void) {
         printf("stack: %zu KiB: %lu calls as with 8 MiB, %lu BCS_STACK\n", sizes[number] / KIB, trials[number].as_wanted,
                trials[number].memory);
     }
+    uint8_t *const stack = trials[COUNT(sizes) - 1].stack;
+    printf("stack: %zu KiB: all modules\n", need_of_modules(stack) / KIB);
+    printf("stack: %zu KiB: a byte string in a value\n", need_of_views(stack, 1) / KIB);
+    printf("stack: %zu KiB: 15 byte strings in each other\n", need_of_views(stack, 15) / KIB);
 }
 
 static void try_main(struct trial *trials, struct chain chain) {

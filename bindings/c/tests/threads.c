@@ -29,11 +29,17 @@ static const struct {
     {{ON_VALUE(SCAN, BYTES_OF_IT "!")}, BCS_DONE},
     {{ON_VALUE(PART, BYTES_OF_IT), .second = OF("inner/2/key:0162")}, BCS_DONE},
     {{ON_VALUE(PART_NAMED, BYTES_OF_IT), .number = BCS_POINTER, .second = OF("/to")}, BCS_DONE},
+    {{ON_VALUE(CONTENT, BYTES_OF_IT), .number = BCS_STEPS, .second = OF("inner/2/key:0162")}, BCS_DONE},
+    {{ON_VALUE(CONTENT, BYTES_OF_IT), .number = BCS_NAME, .second = OF(".amount")}, BCS_REFUSED},
     {{ON_VALUE(EXPLAIN, BYTES_OF_IT), .number = BCS_JSON}, BCS_DONE},
     {{ON_VALUE(EXPLAIN, BYTES_OF_IT), .number = BCS_TREE}, BCS_DONE},
+    {{ON_VALUE(EXPLAIN_WITH, BYTES_OF_IT), .number = BCS_WAYS, .second = OF("inside .notes[key:0162]=\"U8\"")}, BCS_DONE},
     {{ON_VALUE(TEXT_PLACE, "{\"to\":1}"), .number = BCS_WHERE}, BCS_DONE},
     {{ON_VALUE(STOP_PLACE, BYTES_OF_IT "!"), .number = BCS_WANTED}, BCS_DONE},
     {{.call = REGISTRY_PLACE, .input = OF("{"), .number = BCS_WANTED}, BCS_DONE},
+    {{.call = REGISTRY_OF_MODULES, .input = OF("[]"), .second = OF("vector<0x1::option::Option<u256>>")}, BCS_DONE},
+    {{.call = REGISTRY_OF_MODULES, .input = OF("[]"), .second = OF("0x1::m::S")}, BCS_REFUSED},
+    {{.call = MODULES_PLACE, .input = OF("[]"), .second = OF("0x1::m::S")}, BCS_DONE},
     {{.call = FAULT_NAME, .number = BCS_STOP_BAD_UTF8}, BCS_DONE},
 };
 #define JOBS (sizeof jobs / sizeof *jobs)

@@ -1,4 +1,4 @@
-// The driver of Go: reads lines of calls and answers them, as bindings/README.md says.
+// The driver of Go: reads lines of calls and answers them, as tests/rows/driver.py says.
 package main
 
 import (
@@ -46,7 +46,7 @@ const no = "no\t-\t0\t0\t"
 
 var statuses = map[bcs.Kind]string{bcs.KindRegistry: "registry", bcs.KindNewer: "newer", bcs.KindFormat: "format",
 	bcs.KindLimits: "limits", bcs.KindPath: "path", bcs.KindText: "refused", bcs.KindBytes: "refused",
-	bcs.KindGrowth: "refused", bcs.KindStack: "stack"}
+	bcs.KindGrowth: "refused", bcs.KindModules: "refused", bcs.KindStack: "stack"}
 
 // failed answers an error; the answer of a call without one is `otherwise`.
 func failed(err error, otherwise string) string {
@@ -78,7 +78,9 @@ func told(err error, what string) string {
 	if !errors.As(err, &refused) {
 		return failed(err, no)
 	}
-	if refused.Kind != bcs.KindText && refused.Kind != bcs.KindBytes && refused.Kind != bcs.KindRegistry {
+	switch refused.Kind {
+	case bcs.KindText, bcs.KindBytes, bcs.KindRegistry, bcs.KindModules:
+	default:
 		return failed(err, no)
 	}
 	if refused.Message == "" {
@@ -131,8 +133,53 @@ func part(found *bcs.Part, err error) string {
 
 var forms = map[string]bcs.Form{"ways": bcs.FormWays, "paths": bcs.FormPaths, "tree": bcs.FormTree, "json": bcs.FormJSON}
 
+// content answers the content of a part. A part without one is refused, and isn't an invalid path.
+func content(found *bcs.Part, err error) string {
+	var refused *bcs.Error
+	if errors.As(err, &refused) && refused.Reason == "NoContent" {
+		return line("refused", refused.Reason, 0, 0, nil)
+	}
+	return part(found, err)
+}
+
+// viewsOf returns the views of lines such as inside NAME=FORMAT, and whether Go can express them: each has a format or a function.
+func viewsOf(lines string) (views bcs.Views, areSayable bool) {
+	for _, text := range strings.Split(lines, "\n") {
+		word, rest, _ := strings.Cut(text, " ")
+		end := endOfName(rest)
+		switch {
+		case text == "":
+		case word == "address":
+			views.Addresses = append(views.Addresses, rest)
+		case word == "u256":
+			views.U256s = append(views.U256s, rest)
+		case word == "i256":
+			views.I256s = append(views.I256s, rest)
+		case end < 0:
+			return views, false
+		case word == "inside":
+			views.Inside = append(views.Inside, bcs.Inside{Name: rest[:end], Format: rest[end+1:]})
+		default:
+			views.Calls = append(views.Calls, bcs.Call{Name: rest[:end], Function: rest[end+1:]})
+		}
+	}
+	return views, true
+}
+
+// endOfName returns where the first = outside quotes is, or -1.
+func endOfName(view string) int {
+	isQuoted := false
+	return strings.IndexFunc(view, func(sign rune) bool {
+		isQuoted = isQuoted != (sign == '"')
+		return sign == '=' && !isQuoted
+	})
+}
+
 func explain(r *bcs.Registry, format string, data []byte, form string) string {
-	explained, err := r.Explain(format, data, forms[form])
+	return explained(r.Explain(format, data, forms[form]))
+}
+
+func explained(explained *bcs.Explanation, err error) string {
 	if err != nil {
 		return failed(err, "")
 	}
@@ -189,6 +236,16 @@ func answerOn(r *bcs.Registry, format string, words []string) string {
 	case "part_named":
 		find := map[string]func(string, []byte, string) (*bcs.Part, error){"name": r.PartByName, "pointer": r.PartByPointer}
 		return part(find[words[7]](format, first, string(unhex(words[6]))))
+	case "content":
+		find := map[string]func(string, []byte, string) (*bcs.Part, error){"steps": r.Content, "name": r.ContentByName,
+			"pointer": r.ContentByPointer}
+		return content(find[words[7]](format, first, string(unhex(words[6]))))
+	case "explain_with":
+		views, areSayable := viewsOf(string(unhex(words[7])))
+		if !areSayable {
+			return "unsayable"
+		}
+		return explained(r.ExplainWith(format, first, forms[words[6]], views))
 	case "explain":
 		return explain(r, format, first, words[6])
 	case "text_place":
@@ -200,6 +257,27 @@ func answerOn(r *bcs.Registry, format string, words []string) string {
 	return ""
 }
 
+// made makes the registry for types, which the line has one below the other.
+func made(words []string) (*bcs.MadeRegistry, error) {
+	lines := strings.TrimSuffix(string(unhex(words[2])), "\n")
+	var types []string
+	if lines != "" {
+		types = strings.Split(lines, "\n")
+	}
+	return bcs.RegistryOfModules(unhex(words[1]), types)
+}
+
+func answerMade(made *bcs.MadeRegistry, err error) string {
+	if err != nil {
+		return failed(err, "")
+	}
+	text := string(made.JSON)
+	if made.Notes != "" {
+		text += "\n" + made.Notes
+	}
+	return output([]byte(text), nil)
+}
+
 func answer(words []string) string {
 	switch words[0] {
 	case "fault_name":
@@ -209,6 +287,11 @@ func answer(words []string) string {
 	case "registry_place":
 		_, err := bcs.Open(unhex(words[1]))
 		return told(err, words[2])
+	case "registry_of_modules":
+		return answerMade(made(words))
+	case "modules_place":
+		_, err := made(words)
+		return told(err, words[3])
 	}
 	format := string(unhex(words[2]))
 	if !strings.HasPrefix(format, "{") && !strings.HasPrefix(format, `"`) {

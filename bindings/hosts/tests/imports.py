@@ -44,11 +44,11 @@ def printed(*command: str | pathlib.Path) -> str:
 
 
 def listed(heading: str) -> list[str]:
-    """The functions in the first column of the table below a heading of README.md."""
-    readme = (HERE / "README.md").read_text(encoding="utf-8")
-    section = re.search(rf"^## {heading}$(.*?)(?=^## |\Z)", readme, re.MULTILINE | re.DOTALL)
+    """The functions in the first column of the table below a heading of docs/PLATFORMS.md."""
+    page = (HERE.parents[1] / "docs/PLATFORMS.md").read_text(encoding="utf-8")
+    section = re.search(rf"^### {heading}$(.*?)(?=^##|\Z)", page, re.MULTILINE | re.DOTALL)
     if not section:
-        fail(f"README.md has no heading {heading}")
+        fail(f"docs/PLATFORMS.md has no heading {heading}")
     cells = re.findall(r"^(\| `[^|]*\|)", section[1], re.MULTILINE)
     return sorted(name for cell in cells for name in re.findall(r"`([a-z_]*)\(", cell))
 
@@ -82,7 +82,11 @@ def same(name: str, expected: Iterable[str], found: Iterable[str]) -> None:
 
 
 def check_modules(web: pathlib.Path, program: list[str]) -> None:
-    same("README.md and the file functions", (HERE / "functions").read_text(encoding="utf-8").splitlines(), program)
+    same(
+        "docs/PLATFORMS.md and the file functions",
+        (HERE / "functions").read_text(encoding="utf-8").splitlines(),
+        program,
+    )
     same("bcs_program.wasm", program, of_module(web / "bcs_program.wasm"))
     for name in "bcs", "bcs64", "bcs_scalar":
         if found := of_module(web / f"{name}.wasm"):
@@ -93,11 +97,13 @@ def check_library(folder: pathlib.Path, room: pathlib.Path) -> None:
     """The proved part of the C library needs the heap, and the C around it what finds the thread's stack."""
     for member in "bcs_c.o", "library.o":
         with open(room / member, "wb") as file:
-            subprocess.run(["ar", "p", folder / "libbcs_c.a", member], stdout=file, check=True)
+            subprocess.run(["ar", "p", folder / "libbcs.a", member], stdout=file, check=True)
     same(f"the library's proved part in {folder.name}", listed("The heap"), of_elf(room / "bcs_c.o"))
     own = ("bcs_c_", "rattle_")
     # On arm64 the linker needs no function for what each thread keeps.
-    stack = [name for name in listed("The stack") if folder.name == "x86_64-linux" or name != "__tls_get_addr"]
+    stack = [
+        name for name in listed("The library's stack") if folder.name == "x86_64-linux" or name != "__tls_get_addr"
+    ]
     around = [name for name in of_elf(room / "library.o") if not name.startswith(own)]
     same(f"the C around the library's proved part in {folder.name}", stack, around)
 

@@ -16,7 +16,9 @@ enum call {
     SCAN,
     PART,
     PART_NAMED,
+    CONTENT,
     EXPLAIN,
+    EXPLAIN_WITH,
     TEXT_REFUSAL,
     STOP_REFUSAL,
     SCHEMA,
@@ -28,6 +30,8 @@ enum call {
     GROWTH_PLACE,
     GROWS,
     REGISTRY_REFUSAL,
+    REGISTRY_OF_MODULES,
+    MODULES_PLACE,
     FAULT_NAME
 };
 
@@ -79,7 +83,9 @@ static bcs_answer make(enum call call, const struct job *job, uint8_t *out, size
     case SCAN: return bcs_handle_scan(ASK, PIECE(first));
     case PART: return bcs_handle_part(ASK, PIECE(first), PIECE(second));
     case PART_NAMED: return bcs_handle_part_named(ASK, job->number, PIECE(second), PIECE(first));
+    case CONTENT: return bcs_handle_content(ASK, job->number, PIECE(second), PIECE(first));
     case EXPLAIN: return bcs_handle_explain(ASK, job->number, PIECE(first), out, room);
+    case EXPLAIN_WITH: return bcs_handle_explain_with(ASK, job->number, PIECE(second), PIECE(first), out, room);
     case TEXT_REFUSAL: return bcs_handle_text_refusal(ASK, PIECE(first), out, room);
     case STOP_REFUSAL: return bcs_handle_stop_refusal(ASK, PIECE(first), out, room);
     case SCHEMA: return bcs_handle_schema(ASK, out, room);
@@ -91,6 +97,8 @@ static bcs_answer make(enum call call, const struct job *job, uint8_t *out, size
     case GROWTH_PLACE: return bcs_growth_place(PIECE(first), PIECE(second), out, room);
     case GROWS: return bcs_grows(PIECE(first), PIECE(second));
     case REGISTRY_REFUSAL: return bcs_registry_refusal(PIECE(first), out, room);
+    case REGISTRY_OF_MODULES: return bcs_registry_of_modules(PIECE(first), PIECE(second), out, room);
+    case MODULES_PLACE: return bcs_modules_place(PIECE(first), PIECE(second), out, room);
     case FAULT_NAME: return bcs_fault_name(job->number, out, room);
     }
     return plain(BCS_CLOSED);

@@ -1,10 +1,11 @@
 import bcsproved.BcsException;
-import bcsproved.BcsException.Kind;
 import bcsproved.Explanation;
 import bcsproved.Form;
 import bcsproved.Limits;
+import bcsproved.MadeRegistry;
 import bcsproved.Part;
 import bcsproved.Registry;
+import bcsproved.Views;
 import java.io.BufferedReader;
 import java.io.IOException;
 import java.io.InputStreamReader;
@@ -12,11 +13,12 @@ import java.nio.ByteBuffer;
 import java.nio.charset.CharacterCodingException;
 import java.nio.charset.StandardCharsets;
 import java.util.HexFormat;
+import java.util.List;
 import java.util.Locale;
 import java.util.Objects;
 import java.util.Optional;
 
-/** The driver of Java: reads lines of calls and answers them, as bindings/README.md says. */
+/** The driver of Java: reads lines of calls and answers them, as tests/rows/driver.py says. */
 public final class Driver {
     private static final String NO = "no\t-\t0\t0\t", DONE = line("done", "-", 0, 0, new byte[0]);
 
@@ -55,7 +57,7 @@ public final class Driver {
 
     private static String refused(BcsException e) {
         String status = switch (e.kind()) {
-            case TEXT, BYTES, GROWTH -> "refused";
+            case TEXT, BYTES, GROWTH, MODULES -> "refused";
             default -> e.kind().name().toLowerCase(Locale.ROOT);
         };
         return line(status, e.reason() == null ? "-" : e.reason(), Math.max(e.place(), 0), 0, new byte[0]);
@@ -67,10 +69,10 @@ public final class Driver {
             call.call();
             return null;
         } catch (BcsException e) {
-            if (e.kind() != Kind.TEXT && e.kind() != Kind.BYTES && e.kind() != Kind.REGISTRY) {
-                throw e;
-            }
-            return e;
+            return switch (e.kind()) {
+                case TEXT, BYTES, REGISTRY, MODULES -> e;
+                default -> throw e;
+            };
         }
     }
 
@@ -107,8 +109,54 @@ public final class Driver {
         return place(decoded, what);
     }
 
-    private static String explain(Registry registry, String format, byte[] data, String form) throws BcsException {
-        Explanation explanation = registry.explain(format, data, Form.valueOf(form.toUpperCase(Locale.ROOT)));
+    private static Form form(String word) {
+        return Form.valueOf(word.toUpperCase(Locale.ROOT));
+    }
+
+    /** The views of lines such as {@code inside NAME=FORMAT}. One without a format or a function can't be made. */
+    private static Views views(String lines) throws Unsayable {
+        Views views = Views.NONE;
+        for (String line : lines.isEmpty() ? new String[0] : lines.split("\n")) {
+            String word = line.substring(0, line.indexOf(' ')), rest = line.substring(word.length() + 1);
+            views = switch (word) {
+                case "inside" -> views.withInside(rest.substring(0, endOfName(rest)), rest.substring(endOfName(rest) + 1));
+                case "call" -> views.withCall(rest.substring(0, endOfName(rest)), rest.substring(endOfName(rest) + 1));
+                case "address" -> views.withAddress(rest);
+                case "u256" -> views.withU256(rest);
+                default -> views.withI256(rest);
+            };
+        }
+        return views;
+    }
+
+    /** Where the first = outside quotes is. */
+    private static int endOfName(String view) throws Unsayable {
+        boolean isQuoted = false;
+        for (int i = 0; i < view.length(); i++) {
+            isQuoted ^= view.charAt(i) == '"';
+            if (view.charAt(i) == '=' && !isQuoted) {
+                return i;
+            }
+        }
+        throw new Unsayable();
+    }
+
+    private static String content(Registry registry, String format, byte[] data, String name, String notation) throws BcsException {
+        try {
+            return part(switch (notation) {
+                case "steps" -> registry.content(format, data, name);
+                case "name" -> registry.contentByName(format, data, name);
+                default -> registry.contentByPointer(format, data, name);
+            });
+        } catch (BcsException e) { // a part without content isn't an invalid path
+            if ("NoContent".equals(e.reason())) {
+                return line("refused", e.reason(), 0, 0, new byte[0]);
+            }
+            throw e;
+        }
+    }
+
+    private static String explained(Explanation explanation) {
         byte[] text = explanation.text().getBytes(StandardCharsets.UTF_8);
         BcsException damage = explanation.damage();
         return damage == null ? output(text) : line("done", damage.reason(), damage.place(), text.length, text);
@@ -154,8 +202,12 @@ public final class Driver {
             case "part_named":
                 return part(words[7].equals("name") ? registry.partByName(format, first, unicode(words[6]))
                         : registry.partByPointer(format, first, unicode(words[6])));
+            case "content":
+                return content(registry, format, first, unicode(words[6]), words[7]);
+            case "explain_with":
+                return explained(registry.explain(format, first, form(words[6]), views(unicode(words[7]))));
             case "explain":
-                return explain(registry, format, first, words[6]);
+                return explained(registry.explain(format, first, form(words[6])));
             case "text_place":
                 return textPlace(registry, format, first, words[6]);
             case "stop_place":
@@ -163,6 +215,11 @@ public final class Driver {
             default:
                 throw new AssertionError("no such call: " + words[0]);
         }
+    }
+
+    /** The types, which the line has one below the other. */
+    private static List<String> lines(String digits) throws Unsayable {
+        return digits.isEmpty() ? List.of() : List.of(unicode(digits).split("\n"));
     }
 
     private static String answer(String[] words) throws BcsException, Unsayable {
@@ -174,6 +231,12 @@ public final class Driver {
                 return DONE;
             case "registry_place":
                 return place(refusal(() -> Registry.open(unhex(words[1]))), words[2]);
+            case "registry_of_modules":
+                MadeRegistry made = Registry.registryOfModules(unhex(words[1]), lines(words[2]));
+                return output(made.notes().isEmpty() ? made.json() : made.json() + "\n" + made.notes());
+            case "modules_place":
+                List<String> types = lines(words[2]);
+                return place(refusal(() -> Registry.registryOfModules(unhex(words[1]), types)), words[3]);
         }
         String format = unicode(words[2]);
         if (!format.startsWith("{") && !format.startsWith("\"")) {

@@ -5,9 +5,11 @@ import bcsproved.BcsException.Kind;
 import bcsproved.Explanation;
 import bcsproved.Form;
 import bcsproved.Limits;
+import bcsproved.MadeRegistry;
 import bcsproved.Part;
 import bcsproved.Prefix;
 import bcsproved.Registry;
+import bcsproved.Views;
 import java.nio.charset.StandardCharsets;
 import java.nio.file.Files;
 import java.nio.file.Path;
@@ -92,7 +94,7 @@ public final class Tests extends Check {
         refused(Kind.TEXT, "MissingField", -1, "", "no member is called ~/", () -> registry.encodeJson("Point", "{\"x\":1}"));
         refused(Kind.BYTES, "EndOfInput", 4, ".~/[0]", "expected 2 bytes of BYTES, found the end of the input", () -> registry.decodeJson("Point", unhex("07010205")));
         refused(Kind.BYTES, "EndOfInput", 0, ".", "expected BOOL, found the end of the input", () -> registry.decodeJson("\"BOOL\"", NOTHING));
-        refused(Kind.BYTES, "UnknownVariant", 0, ".", "expected number of a variant; found 1; variants: 0 Dot, 2 Circle",
+        refused(Kind.BYTES, "UnknownVariant", 0, ".", "expected the number of a variant; found 1; variants: 0 Dot, 2 Circle",
                 () -> registry.scan("Shape", new byte[] {1}));
         refused(Kind.BYTES, "BadBool", 1, "[0]", "expected BOOL, 00 or 01, found 02", () -> registry.part("{\"SEQ\":\"BOOL\"}", new byte[] {1, 2}, "."));
         refused(Kind.PATH, "BadPath", -1, "step 2", "an empty step", () -> registry.part("Point", unhex("0700"), "1/"));
@@ -126,6 +128,98 @@ public final class Tests extends Check {
                 "refused: EndOfInput at byte 4, .~/[0]: expected 2 bytes of BYTES, found the end of the input");
     }
 
+    /** More of them are rows of tests/rows/modules.py. */
+    private static void modules() throws BcsException {
+        String strings = "{\"0x1::string::String\":{\"NEWTYPESTRUCT\":\"STR\"},\"u8\":{\"NEWTYPESTRUCT\":\"U8\"}}";
+        String module = """
+                {"address":"0x1","name":"m","structs":[{"name":"S","is_native":false,"generic_type_params":[{}],
+                 "fields":[{"name":"a","type":"vector<T0>"},{"name":"b","type":"&u8"}]}]}""";
+        equal(Registry.registryOfModules("[]", List.of("0x1::string::String", "u8")), new MadeRegistry(strings, ""));
+        equal(Registry.registryOfModules("[]".getBytes(StandardCharsets.UTF_8), List.of("0x01::string::String", "u8")),
+                new MadeRegistry(strings, "\"0x01::string::String\": the container is called 0x1::string::String"));
+        equal(Registry.registryOfModules("[]", List.of()), new MadeRegistry("{}", ""));
+        Registry.open(strings).check("0x1::string::String");
+        ofModules("NotModules", "/0", "this isn't the JSON of a module of Aptos or Sui, which has the member structs", "[7]", "u8");
+        ofModules("NoBytes", "/structs/0/fields/1/type", "a reference has no bytes", module, "0x1::m::S<u8>");
+        ofModules("NoBytes", "signer", "a signer has no bytes", "[]", "signer");
+        ofModules("BadType", "", "\"\" isn't a type", "[]", "");
+        ofModules("BadType", "u8\nu16", "a type has no line feed", "[]", "u8\nu16");
+        ofModules("BadType", "u8\n", "a type has no line feed", "[]", "u8\n");
+        String odd = "{\"é\\u0000\":[{\"b\":1,\"b\":2}]}";
+        equal(thrown(BcsException.class, () -> Registry.registryOfModules(odd, List.of("u8"))).at(), "/é\0/0/b");
+        equal(thrown(BcsException.class, () -> Registry.registryOfModules("[]", List.of("u8\r"))).at(), "u8\r");
+        equal(thrown(BcsException.class, () -> Registry.registryOfModules(NOTHING, List.of("u8"))).reason(), "NotJson");
+        equal(thrown(BcsException.class, () -> Registry.registryOfModules("[]", List.of("signer"))).getMessage(),
+                "refused: NoBytes at signer: a signer has no bytes");
+    }
+
+    /** One of two types is refused. */
+    private static void ofModules(String reason, String at, String message, String modules, String type) throws BcsException {
+        refused(Kind.MODULES, reason, -1, at, message, () -> Registry.registryOfModules(modules, List.of("u8", type)));
+    }
+
+    private static final String NOTED = """
+            {"Note":{"STRUCT":[{"memo":"BYTES"},{"args":{"SEQ":"BYTES"}}]},
+             "f":{"STRUCT":[{"arg0":"U16"}]},"f::arg0":{"NEWTYPESTRUCT":"U16"},
+             "Account":{"NEWTYPESTRUCT":{"TUPLEARRAY":{"CONTENT":"U8","SIZE":32}}}}""";
+
+    /** The lines of an explanation, with one blank for many. */
+    private static String lines(Explanation explanation) {
+        return explanation.text().strip().lines().map(line -> line.strip().replaceAll(" +", " ")).collect(joining(" / "));
+    }
+
+    /** The rows of tests/rows/explain_views.rows and contents.py have more. */
+    private static void views() throws BcsException {
+        Registry registry = Registry.open(NOTED);
+        byte[] data = unhex("010701020102");
+        Views both = Views.NONE.withInside(".memo", "\"U8\"").withCall(".args", "f");
+        equal(lines(registry.explain("Note", data, Form.WAYS, both)), "0 01 BYTES, 1 byte .memo / 1 07 U8 7 .memo[bcs] / "
+                + "2 01 SEQ, 1 element .args / 3 02 BYTES, 2 bytes .args[0] / 4 0102 U16 513 .args[0][bcs]");
+        equal(registry.explain("Note", data, Form.PATHS, Views.NONE), registry.explain("Note", data, Form.PATHS));
+        byte[] account = unhex("ff".repeat(32));
+        equal(lines(registry.explain("Account", account, Form.WAYS, Views.NONE.withI256("Account"))), "0 " + "ff".repeat(32) + " -1 .");
+        equal(lines(registry.explain("Account", account, Form.WAYS, Views.NONE.withAddress("Account"))).endsWith(" 0x" + "f".repeat(64) + " ."), true);
+        equal(lines(registry.explain("Account", new byte[32], Form.WAYS, Views.NONE.withU256("Account"))), "0 " + "00".repeat(32) + " 0 .");
+        // The value is damaged behind the byte string, too.
+        Views bool = Views.NONE.withInside(".args[0]", "\"BOOL\"");
+        BcsException damage = registry.explain("Note", unhex("000201070102"), Form.WAYS, bool).damage();
+        equal(damage.reason() + " " + damage.place() + " " + damage.at(), "BadBool 3 null");
+        damage = registry.explain("Note", unhex("00"), Form.WAYS, bool).damage();
+        equal(damage.reason() + " " + damage.place() + " " + damage.at(), "EndOfInput 1 .args");
+        badViews(registry, Kind.PATH, "BadPath", null, "expected views with names such as .payload.args[1]", Views.NONE.withInside("", "f"));
+        badViews(registry, Kind.PATH, "BadPath", ".a=b", "expected a name such as .payload.args[1]", Views.NONE.withInside(".a=b", "f"));
+        badViews(registry, Kind.PATH, "BadPath", ".\"a", "expected a name such as .payload.args[1]", Views.NONE.withCall(".\"a", "f"));
+        badViews(registry, Kind.PATH, "BadPath", "A\n", "a line feed, which no view may have", Views.NONE.withU256("A\n"));
+        badViews(registry, Kind.FORMAT, "UnknownName", "", "no container is called Qqqqq", Views.NONE.withInside(".memo", "Qqqqq"));
+        badViews(registry, Kind.FORMAT, "UnknownName", null, null, Views.NONE.withCall(".args", "g"));
+        badViews(registry, Kind.FORMAT, "UnknownName", null, null, Views.NONE.withAddress("f"));
+        thrown(NullPointerException.class, () -> registry.explain("Note", data, Form.WAYS, null));
+        thrown(NullPointerException.class, () -> Views.NONE.withInside(null, "f"));
+        thrown(NullPointerException.class, () -> Views.NONE.withCall(".args", null));
+    }
+
+    private static void badViews(Registry registry, Kind kind, String reason, String at, String message, Views views) throws BcsException {
+        refused(kind, reason, -1, at, message, () -> registry.explain("Note", new byte[2], Form.JSON, views));
+    }
+
+    private static void contents() throws BcsException {
+        Registry registry = Registry.open(NOTED);
+        byte[] data = unhex("01070009");
+        for (Part part : List.of(registry.content("Note", data, "inner/0").get(), registry.contentByName("Note", data, ".memo").get(),
+                registry.contentByPointer("Note", data, "/memo").get())) {
+            equal(part.place() + " " + HexFormat.of().formatHex(part.data()), "1 07");
+        }
+        equal(registry.content("Note", data, "inner/0/1"), Optional.empty());
+        refused(Kind.PATH, "NoContent", -1, null, "expected a part that is BYTES, STR, or a list or an array of U8",
+                () -> registry.content("Note", data, "inner/1"));
+        refused(Kind.PATH, "BadPath", -1, "step 2 x", "expected a number, inner, or key: and hexadecimal digits",
+                () -> registry.content("Note", data, "inner/x"));
+        refused(Kind.PATH, "BadPath", -1, null, "expected a name such as .payload.args[1]", () -> registry.contentByName("Note", data, "x"));
+        thrown(NullPointerException.class, () -> registry.content("Note", null, "."));
+        registry.close();
+        thrown(IllegalStateException.class, () -> registry.content("Note", data, "."));
+    }
+
     /** What Java finds wrong before a call is made. */
     private static void arguments() throws BcsException {
         Registry registry = Registry.open(SHAPES);
@@ -136,11 +230,14 @@ public final class Tests extends Check {
                 () -> registry.equalJson("Point", (byte[]) null, NOTHING), () -> registry.part("Point", NOTHING, null),
                 () -> registry.partByName("Point", NOTHING, null), () -> registry.partByPointer("Point", null, ""),
                 () -> registry.explain("Point", NOTHING, null), () -> registry.explain("Point", null, Form.JSON),
-                () -> registry.withLimits(null), () -> Registry.grows(null, NOTHING), () -> Registry.grows(NOTHING, null))) {
+                () -> registry.withLimits(null), () -> Registry.grows(null, NOTHING), () -> Registry.grows(NOTHING, null),
+                () -> Registry.registryOfModules((byte[]) null, List.of()), () -> Registry.registryOfModules((String) null, List.of()),
+                () -> Registry.registryOfModules("[]", null), () -> Registry.registryOfModules("[]", Arrays.asList("u8", null)))) {
             thrown(NullPointerException.class, test);
         }
         for (Test test : List.<Test>of(() -> registry.encodeJson("\"STR\"", "\"" + half + "\""), () -> registry.check(half),
-                () -> registry.part("Point", NOTHING, half), () -> Registry.open(half), () -> new Limits(-1, 0),
+                () -> registry.part("Point", NOTHING, half), () -> Registry.open(half), () -> Registry.registryOfModules(half, List.of()),
+                () -> Registry.registryOfModules("[]", List.of(half)), () -> new Limits(-1, 0),
                 () -> new Limits(0, 1L << 32))) {
             thrown(IllegalArgumentException.class, test);
         }
@@ -184,7 +281,7 @@ public final class Tests extends Check {
         equal(registry.withLimits(Limits.STANDARD).scan(format, units), 5);
         String fields = IntStream.range(0, 20).mapToObj(i -> "{\"" + "n".repeat(500) + i + "\":\"UNIT\"}").collect(joining(","));
         Registry longNames = Registry.open("{\"S\":{\"STRUCT\":[" + fields + "]}}");
-        // 16 * 3 + 65,536 nodes, times 64 / 502 bytes of the longest name; a list of structs with 22 nodes each (docs/FORMAT.md)
+        // 16 * 3 + 65,536 nodes, times 64 / 502 bytes of the longest name; a list of structs with 22 nodes each (docs/ENCODING.md)
         refused(Kind.BYTES, "TooManyNodes", 3, "[380]", "expected room for S",
                 () -> longNames.decodeJson("{\"SEQ\":{\"TYPENAME\":\"S\"}}", unhex("c0b802")));
         equal(Limits.STANDARD, new Limits(500, 4294967295L));
@@ -341,7 +438,7 @@ public final class Tests extends Check {
     public static void main(String[] words) throws Exception {
         examples = Path.of(words[0]);
         List<Test> tests = words.length > 1 ? List.of(Tests::memory)
-                : List.of(Tests::values, Tests::documents, Tests::refusals, Tests::arguments, Tests::explanations, Tests::limits,
+                : List.of(Tests::values, Tests::documents, Tests::refusals, Tests::modules, Tests::views, Tests::contents, Tests::arguments, Tests::explanations, Tests::limits,
                         Tests::sharing, Tests::closing, Tests::collecting, Tests::stacks);
         for (Test test : tests) {
             test.run();

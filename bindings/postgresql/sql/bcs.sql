@@ -40,6 +40,14 @@ SELECT bcs_part_by_name(payments(), 'Payment', '\x03626f620700000000000000', '.a
 SELECT bcs_part_by_name(payments(), 'Payment', '\x03626f620700000000000000', '.from') IS NULL,
     bcs_part_by_pointer(payments(), 'Payment', '\x03626f620700000000000000', '/from') IS NULL;
 SELECT bcs_explain(payments(), 'Payment', '\x03626f620700000000000000', 'paths');
+SELECT bcs_content(payments(), 'Payment', '\x03626f620700000000000000', 'inner/0') AS path,
+    bcs_content_by_name(payments(), 'Payment', '\x03626f620700000000000000', '.to') AS name,
+    bcs_content_by_pointer(payments(), 'Payment', '\x03626f620700000000000000', '/to') AS pointer;
+SELECT bcs_content(payments(), 'Payment', '\x03626f620700000000000000', 'inner/2') IS NULL AS missing,
+    told($$bcs_content_by_name(payments(), 'Payment', '\x03626f620700000000000000', '.amount')$$);
+SELECT bcs_explain_with(payments(), 'Payment', '\x0261620700000000000000', 'ways', 'inside .to="U16"');
+SELECT told($$bcs_explain_with('{}', '"BYTES"', '\x0107', 'ways', 'inside .')$$);
+SELECT told($$bcs_explain_with('{}', '"BYTES"', '\x0107', 'ways', 'inside .=Nope')$$);
 -- Null in, null out.
 SELECT bcs_decode(NULL, 'Payment', '\x00') IS NULL, bcs_is(payments(), NULL, '\x00') IS NULL,
     bcs_fault(payments(), 'Payment', NULL) IS NULL;

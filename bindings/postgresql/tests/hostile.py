@@ -20,7 +20,7 @@ BAD_BOOL = "expected BOOL, 00 or 01, found 02"
 
 
 def length(number: int) -> bytes:
-    """ULEB128, as docs/FORMAT.md has it."""
+    """ULEB128, as docs/ENCODING.md has it."""
     data = bytearray()
     while number > 127:
         data.append(number & 127 | 128)
@@ -175,7 +175,7 @@ class Costs(Measured):
 
 
 class Faults(Measured):
-    """The last byte of a list is bad. bcs_fault finds that like bcs_is, and then walks twice more.
+    """The last byte of a list is bad. bcs_fault finds that like bcs_is, and then walks once more.
 
     That is for the place and for what was expected. Under a long key the path to the place is long, too.
     """
@@ -200,7 +200,7 @@ class Faults(Measured):
                     )
                     self.assertTrue(fault["at"].endswith(end))
                     judged = self.cost("select bcs_is(%s, %s, %s, 1000000)", *question)[0]
-                    most = 6 * judged + len(data) / 10_000
+                    most = 4 * judged + len(data) / 10_000
                     cost = self.cost("select bcs_fault(%s, %s, %s, 1000000)", *question, most=most)[0]
                     self.assertLess(cost, most)
                     print(f"hostile: bcs_fault of {len(data)} bytes took {cost:.1f} ms, and bcs_is {judged:.1f}")

@@ -137,6 +137,10 @@ class Types(Database):
             ("length(bcs_part_by_name('{}', '\"U8\"', ?, '.'))", 1),
             ("length(bcs_part_by_pointer('{}', '\"U8\"', ?, ''))", 1),
             ("bcs_explain('{}', '\"BYTES\"', ?) ~ 'BYTES'", True),
+            ("bcs_explain_with('{}', '\"BYTES\"', ?, 'ways', '') ~ 'BYTES'", True),
+            ('length(bcs_content(\'{}\', \'{"TUPLEARRAY":{"CONTENT":"U8","SIZE":1}}\', ?, \'.\'))', 1),
+            ('length(bcs_content_by_name(\'{}\', \'{"TUPLEARRAY":{"CONTENT":"U8","SIZE":1}}\', ?, \'.\'))', 1),
+            ('length(bcs_content_by_pointer(\'{}\', \'{"TUPLEARRAY":{"CONTENT":"U8","SIZE":1}}\', ?, \'\'))', 1),
         ]:
             self.at(call, answer, ["bytea"])
 
@@ -146,6 +150,18 @@ class Types(Database):
         self.at("bcs_is('{}', ?, '\\x07')", "22023", AS_TEXT)
         self.at("bcs_part('{}', '\"U8\"', '\\x07', ?)", None, AS_TEXT)
         self.at("bcs_explain('{}', '\"U8\"', '\\x07', ?)", "22023", AS_TEXT)
+        self.at("bcs_explain_with('{}', '\"U8\"', '\\x07', ?, '')", "22023", AS_TEXT)
+        self.at("bcs_explain_with('{}', '\"U8\"', '\\x07', 'ways', ?)", "22023", AS_TEXT)
+        self.at("bcs_content('{}', '\"BYTES\"', '\\x0107', ?)", None, AS_TEXT)
+
+    def test_types_at_modules(self) -> None:
+        """7 isn't the JSON of modules, and no type, and each is refused as what it is."""
+        for name in "bcs_registry_of_modules", "bcs_notes_of_modules":
+            self.at(f"{name}(?, array['u8'])", "22023", ["json", *AS_TEXT])
+            for expression in TYPED:
+                told = self.told(f"{name}('[]', {expression})")
+                self.assertEqual((expression, told), (expression, "22023" if expression == "array['7']" else "42883"))
+            self.assertIsNone(self.told(f"{name}('[]', null)"))
 
     def test_types_at_limits(self) -> None:
         self.at("bcs_is('{}', '\"U8\"', '\\x07', ?)", True, ["int8", *AS_NUMBER])

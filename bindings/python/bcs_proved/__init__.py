@@ -21,10 +21,11 @@ Any number of threads may use one registry at the same time. Calls release the G
 from __future__ import annotations
 
 from .errors import BcsError, BytesError, ExampleError, FormatError, GrowthError, LimitsError, PathError
-from .errors import RegistryError, StackError, TextError, ValueTypeError
+from .errors import ModulesError, RegistryError, StackError, TextError, ValueTypeError
 from .formats import Data, Format, Name, PlainName, Text
 from .library import Library
 from .limits import Limits
+from .modules import MadeRegistry, registry_of_modules
 from .registry import Form, Names, Part, Registry
 from .values import Hex
 
@@ -43,6 +44,8 @@ __all__ = [
     "Library",
     "Limits",
     "LimitsError",
+    "MadeRegistry",
+    "ModulesError",
     "Name",
     "Names",
     "Part",
@@ -54,4 +57,5 @@ __all__ = [
     "Text",
     "TextError",
     "ValueTypeError",
+    "registry_of_modules",
 ]

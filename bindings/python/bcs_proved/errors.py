@@ -11,6 +11,7 @@ __all__ = [
     "FormatError",
     "GrowthError",
     "LimitsError",
+    "ModulesError",
     "PathError",
     "RegistryError",
     "StackError",
@@ -26,9 +27,10 @@ class BcsError(Exception):
     limits and stacks. `place` is the offset where bytes stop being a value, and None for everything else.
 
     `at` says where the fault is: a JSON Pointer, such as "/payload/args/1", for values, JSON and formats; a field path,
-    such as ".payload.args[1]", for bytes; a definition, such as "Shape, field side", for registries and growth; and a
-    step, such as "step 2 x", for paths. Names are as they are, never escaped or cut. It is empty if the whole is
-    refused. `message` says what is wrong there. It is for people, and may change."""
+    such as ".payload.args[1]", for bytes; a definition, such as "Shape, field side", for registries and growth; a step,
+    such as "step 2 x", for paths; and for modules a JSON Pointer, or the type that was requested. Names are as they
+    are, never escaped or cut. It is empty if the whole is refused. `message` says what is wrong there. It is for
+    people, and may change."""
 
     kind = ""
 
@@ -100,6 +102,12 @@ class ExampleError(BcsError):
     """There is no example of the format: it has no values, no variant of that name, or none within the limits."""
 
     kind = "example"
+
+
+class ModulesError(BcsError):
+    """There is no registry for these types of these modules of a Move chain."""
+
+    kind = "modules"
 
 
 class StackError(BcsError):

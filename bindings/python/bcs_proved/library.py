@@ -8,13 +8,14 @@ import functools
 import mmap
 import os
 import pathlib
+import platform
 import sys
 import weakref
 from typing import Any, Callable, Optional, Union
 
 from .errors import BcsError, FormatError, PathError, RegistryError, StackError
 
-__all__ = ["Answer", "Handle", "Library", "Question", "Status", "standard_library"]
+__all__ = ["Answer", "Handle", "Library", "Question", "Status", "library_of", "standard_library"]
 
 
 class Answer(ctypes.Structure):
@@ -69,7 +70,9 @@ _CALLS: dict[str, list[Any]] = {
     "bcs_handle_scan": _ASK + _IN,
     "bcs_handle_part": _ASK + _IN + _IN,
     "bcs_handle_part_named": _ASK + [ctypes.c_uint32] + _IN + _IN,
+    "bcs_handle_content": _ASK + [ctypes.c_uint32] + _IN + _IN,
     "bcs_handle_explain": _ASK + [ctypes.c_uint32] + _IN + _OUT,
+    "bcs_handle_explain_with": _ASK + [ctypes.c_uint32] + _IN + _IN + _OUT,
     "bcs_handle_text_refusal": _ASK + _IN + _OUT,
     "bcs_handle_stop_refusal": _ASK + _IN + _OUT,
     "bcs_handle_schema": _ASK + _OUT,
@@ -79,6 +82,8 @@ _CALLS: dict[str, list[Any]] = {
     "bcs_path_place": _IN + _OUT,
     "bcs_growth_list": _IN + _IN + _OUT,
     "bcs_growth_place": _IN + _IN + _OUT,
+    "bcs_registry_of_modules": _IN + _IN + _OUT,
+    "bcs_modules_place": _IN + _IN + _OUT,
     "bcs_registry_refusal": _IN + _OUT,
     "bcs_fault_name": [ctypes.c_uint32] + _OUT,
 }
@@ -100,9 +105,19 @@ _PRIVATE: dict[str, int] = {} if _IS_WINDOWS else {"flags": mmap.MAP_PRIVATE | m
 Report = Callable[[], "tuple[Answer, memoryview]"]
 
 
+def _of_clone(module: pathlib.Path) -> Optional[pathlib.Path]:
+    """The library that a clone of the repository has in dist/ for this machine, if the module is in a clone. Only the
+    folder of the module decides, never the working directory."""
+    if module.parts[-3:] != ("bindings", "python", "bcs_proved"):
+        return None
+    machine = {"AMD64": "x86_64", "arm64": "aarch64"}.get(platform.machine(), platform.machine())
+    system = "windows" if _IS_WINDOWS else "linux" if platform.libc_ver()[0] == "glibc" else "other"
+    return module.parents[2] / "dist" / f"{machine}-{system}" / _LIBRARY
+
+
 class Library:
     """The dynamic library: the file `path`; or else the one that the variable BCS_LIBRARY names; or else the one beside
-    this file; or else, on Linux, the one that the system finds."""
+    this file; or else that of the clone that this file is in; or else, on Linux, the one that the system finds."""
 
     def __init__(self, path: Union[str, os.PathLike[str], None] = None) -> None:
         self.path = os.fspath(path) if path is not None else self._found()
@@ -121,8 +136,11 @@ class Library:
         if named:
             return named
         beside = pathlib.Path(__file__).resolve().parent / _LIBRARY
+        for file in (beside, _of_clone(beside.parent)):
+            if file is not None and file.exists():
+                return str(file)
         # (Windows gets a whole path always, so that it doesn't look for the name in other folders)
-        return str(beside) if beside.exists() or _IS_WINDOWS else "libbcs.so.0"
+        return str(beside) if _IS_WINDOWS else "libbcs.so.0"
 
     @staticmethod
     def _call(library: ctypes.CDLL, name: str, parameters: list[Any]) -> Any:
@@ -206,6 +224,13 @@ def _taken_apart(report: str) -> tuple[str, str]:
 @functools.lru_cache(maxsize=None)
 def standard_library() -> Library:
     return Library()
+
+
+def library_of(library: Union[Library, str, os.PathLike[str], None]) -> Library:
+    """The library that a caller names, or the standard one."""
+    if library is None:
+        return standard_library()
+    return library if isinstance(library, Library) else Library(library)
 
 
 class Handle:

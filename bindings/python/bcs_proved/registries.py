@@ -1,18 +1,34 @@
 #!/usr/bin/env python3
 """Converts registries from YAML, as chains publish them, to the JSON that bcs reads, and merges registries.
 
-Usage: bcs-registry [-o FILE] REGISTRY
+Usage: bcs-registry [-o FILE] [REGISTRY]
        bcs-registry merge [-o FILE] REGISTRY REGISTRY...
 
-REGISTRY is a file: JSON if its name ends with .json or its content begins with {, and YAML otherwise. The JSON is
-written to standard output, or to FILE, after bcs has checked it. Standard error reports what was changed. `merge` joins
-registries that agree: a container that several of them have must be the same in each.
+REGISTRY is a file: JSON if its name ends with .json or its content begins with {, and YAML otherwise. If it is - or
+missing, it is standard input. The JSON is written to standard output, or to FILE, after bcs has checked it. Standard
+error reports what was changed. `merge` joins registries that agree: a container that several of them have must be the
+same in each.
 
-The status is 0, 2 if a registry is refused or two of them disagree, 3 for invalid arguments, and 4 if a file or a
-program that is needed can't be used. YAML needs PyYAML (Debian's package python3-yaml, or pip install PyYAML).
+Options:
+  -o, --output FILE  write the JSON to FILE
+  -h, --help         print this text
+  -V, --version      print the version
+
+The status is 0, or
+  2  a registry is refused, or two of them disagree: `refused: ..` on standard output, and why on standard error
+  3  invalid arguments
+  4  a file or a program that is needed can't be used: `fault: ..` on standard error
+
+YAML needs PyYAML (Debian's package python3-yaml, or pip install PyYAML).
 """
 
 from __future__ import annotations
+
+import sys
+
+if __name__ == "__main__" and not __package__ and not getattr(sys.flags, "safe_path", False):
+    # Python looks for modules beside a script first, and would import types.py of this folder in place of its own.
+    del sys.path[0]
 
 import collections
 import importlib
@@ -21,12 +37,15 @@ import pathlib
 import re
 import shutil
 import subprocess
-import sys
 import tempfile
 from collections.abc import Callable, Iterator
-from typing import Any, NamedTuple, Optional
+from typing import Any, BinaryIO, NamedTuple, Optional
 
 __all__ = ["from_yaml", "main", "merged"]
+
+# (this file also runs by itself)
+_VERSION = "0.1.0"
+_STANDARD_INPUT = "-"
 
 # The proved reader rejects a registry that nests deeper.
 _DEPTH = 130
@@ -40,11 +59,26 @@ _TAG = re.compile(r"![A-Z0-9]+")
 
 
 class Refused(Exception):
-    """The registry is refused, or the YAML has something that no registry has."""
+    """A registry is refused, or the YAML has something that no registry has. As a string it is the line of standard
+    error that says where and why."""
+
+    def __init__(self, reason: str, at: str, message: str) -> None:
+        super().__init__(reason, at, message)
+        self.reason = reason
+        self.at = at
+        self.message = message
+
+    def __str__(self) -> str:
+        return f"at {self.at}: {self.reason}: {self.message}"
 
 
 class Fault(Exception):
-    """A file or a program can't be used."""
+    """A file or a program can't be used. `word` says what failed: open, read, write, or missing."""
+
+    def __init__(self, word: str, message: str) -> None:
+        super().__init__(word, message)
+        self.word = word
+        self.message = message
 
 
 class _Level(NamedTuple):
@@ -63,13 +97,13 @@ def from_yaml(text: bytes, name: str = "registry") -> tuple[dict[str, Any], list
         yaml: Any = importlib.import_module("yaml")
     except ImportError as fault:
         hint = "Debian's package python3-yaml, or pip install PyYAML"
-        raise Fault(f"reading YAML needs PyYAML: {hint}") from fault
+        raise Fault("missing", f"reading YAML needs PyYAML: {hint}") from fault
     reader = _Reader(name, yaml.SafeLoader.yaml_implicit_resolvers)
     try:
         for event in yaml.parse(text, Loader=yaml.SafeLoader):
             reader.take(type(event).__name__, event)
     except (yaml.YAMLError, UnicodeDecodeError) as fault:
-        raise Refused(f"{name}: no YAML: {' '.join(str(fault).split())}") from fault
+        raise Refused("NotYaml", name, " ".join(str(fault).split())) from fault
     return reader.registry(), reader.changes()
 
 
@@ -86,7 +120,7 @@ class _Reader:
     def take(self, kind: str, event: Any) -> None:
         line = event.start_mark.line + 1
         if kind == "AliasEvent" or getattr(event, "anchor", None):
-            raise self._refused(line, "anchors and aliases aren't supported")
+            raise self._refused("BadShape", line, "anchors and aliases aren't supported")
         if kind == "ScalarEvent":
             self._scalar(event, line)
         elif kind in ("MappingStartEvent", "SequenceStartEvent"):
@@ -97,7 +131,7 @@ class _Reader:
 
     def registry(self) -> dict[str, Any]:
         if len(self._documents) != 1 or not isinstance(self._documents[0], dict):
-            raise Refused(f"{self._name}: a registry is one document with a mapping")
+            raise Refused("BadShape", self._name, "a registry is one document with a mapping")
         return self._documents[0]
 
     def changes(self) -> list[str]:
@@ -105,24 +139,24 @@ class _Reader:
             f"{self._name}: {what}: {len(lines)}, first in line {lines[0]}" for what, lines in self._changes.items()
         ]
 
-    def _refused(self, line: int, why: str) -> Refused:
-        return Refused(f"{self._name}: line {line}: {why}")
+    def _refused(self, reason: str, line: int, message: str) -> Refused:
+        return Refused(reason, f"{self._name}, line {line}", message)
 
     def _is_key(self) -> bool:
         return bool(self._levels) and isinstance(self._levels[-1].held, dict) and not self._levels[-1].keys
 
     def _open(self, held: Any, tag: Optional[str], line: int) -> None:
         if self._is_key():
-            raise self._refused(line, "a key is a mapping or a sequence")
+            raise self._refused("BadShape", line, "a key is a mapping or a sequence")
         if len(self._levels) >= _DEPTH:
-            raise self._refused(line, f"it nests more than {_DEPTH} deep")
+            raise self._refused("TooNested", line, f"it nests more than {_DEPTH} deep")
         self._levels.append(_Level(held, line, self._member_of(tag, line), []))
 
     def _member_of(self, tag: Optional[str], line: int) -> Optional[str]:
         if tag is None:
             return None
         if not _TAG.fullmatch(tag) or self._is_key():
-            raise self._refused(line, f"the tag {tag} isn't supported")
+            raise self._refused("BadShape", line, f"the tag {tag} isn't supported")
         self._changes["tags, as `!SEQ U8`, that became members, as `SEQ: U8`"].append(line)
         return tag[1:]
 
@@ -135,7 +169,7 @@ class _Reader:
         """A scalar without quotation marks: a number or a text, as serde_yaml reads it."""
         if _NUMBER.fullmatch(text):
             if len(text) > _DIGITS:
-                raise self._refused(line, f"a number has more than {_DIGITS} digits")
+                raise self._refused("BadNumber", line, f"a number has more than {_DIGITS} digits")
             if not self._is_key():
                 return int(text)
             self._changes["numbers of variants that became strings"].append(line)
@@ -145,7 +179,8 @@ class _Reader:
             return text
         kinds = [*self._resolvers.get(text[:1], []), *self._resolvers.get(None, [])]
         if text == "" or any(shape.match(text) for _, shape in kinds):
-            raise self._refused(line, f"`{text}` isn't a name; if it is meant as one, put it in quotation marks")
+            why = f"`{text}` isn't a name; if it is meant as one, put it in quotation marks"
+            raise self._refused("BadShape", line, why)
         return text
 
     def _put(self, value: Any, line: int) -> None:
@@ -155,16 +190,16 @@ class _Reader:
             self._levels[-1].held.append(value)
         elif self._is_key():
             if not isinstance(value, str):
-                raise self._refused(line, "a key is a mapping or a sequence")
+                raise self._refused("BadShape", line, "a key is a mapping or a sequence")
             if value in self._levels[-1].held:
-                raise self._refused(line, f"the name {json.dumps(value)} occurs twice")
+                raise self._refused("RepeatedName", line, f"the name {json.dumps(value)} occurs twice")
             self._levels[-1].keys.append(value)
         else:
             self._levels[-1].held[self._levels[-1].keys.pop()] = value
 
 
-# What says why the JSON of a registry is refused, or None if it isn't.
-Check = Callable[[bytes], Optional[str]]
+# What refuses the JSON of a registry that has this name.
+Check = Callable[[bytes, str], None]
 
 
 def checker() -> Check:
@@ -181,34 +216,40 @@ def checker() -> Check:
     except ImportError:
         found = shutil.which("bcs")
         if found is None:
-            raise Fault("neither the program bcs nor the module bcs_proved is here to check the registry") from None
+            missing = "neither the program bcs nor the module bcs_proved is here to check the registry"
+            raise Fault("missing", missing) from None
         return _by_program(found)
     return _by_module(bcs_proved)
 
 
 def _by_module(bcs_proved: Any) -> Check:
-    def check(text: bytes) -> Optional[str]:
+    def check(text: bytes, name: str) -> None:
         try:
             bcs_proved.Registry(text).close()
         except bcs_proved.RegistryError as fault:
-            return str(fault)
-        return None
+            # (the program has line and column apart)
+            line = re.match(r"(line \d+, column \d+): ", fault.message)
+            place, message = (line[1], fault.message[line.end() :]) if line else (fault.at, fault.message)
+            raise Refused(fault.reason, f"{name}, {place}" if place else name, message) from fault
 
     return check
 
 
 def _by_program(*command: str) -> Check:
-    def check(text: bytes) -> Optional[str]:
+    def check(text: bytes, name: str) -> None:
         with tempfile.NamedTemporaryFile(suffix=".json") as file:
             file.write(text)
             file.flush()
             told = subprocess.run([*command, "check", file.name], capture_output=True, check=False)
         output, errors = (part.decode(errors="replace").strip() for part in (told.stdout, told.stderr))
         if told.returncode == 0 and output.startswith("ok"):
-            return None
+            return
         if told.returncode != 2:
-            raise Fault(f"{' '.join(command)} check: status {told.returncode}: {errors}")
-        return errors or output
+            raise Fault("missing", f"{' '.join(command)} check: status {told.returncode}: {errors}")
+        reason = output.partition("refused: ")[2]
+        at, _, message = errors.partition(f": {reason}: ")
+        place = at[3:] if message and at != "at the whole text" else ""
+        raise Refused(reason, f"{name}, {place}" if place else name, message or errors)
 
     return check
 
@@ -224,18 +265,32 @@ def merged(registries: list[tuple[str, dict[str, Any]]]) -> dict[str, Any]:
                 apart.append(f"{json.dumps(name)} isn't the same in {owners[name]} and {owner}")
             owners.setdefault(name, owner)
     if apart:
-        raise Refused("\n".join(apart))
+        raise Refused("Different", "merge", "; ".join(apart))
     return whole
 
 
+def _shown(name: str) -> str:
+    return "the standard input" if name == _STANDARD_INPUT else name
+
+
 def _content_of(name: str) -> bytes:
+    if name == _STANDARD_INPUT:
+        return _all_of(sys.stdin.buffer, "the standard input")
     try:
-        with open(name, "rb") as file:
-            content = file.read(_LARGEST + 1)
+        file = open(name, "rb")
     except OSError as fault:
-        raise Fault(str(fault)) from fault
+        raise Fault("open", f"in the file {name}: {fault.strerror}") from fault
+    with file:
+        return _all_of(file, f"the file {name}")
+
+
+def _all_of(file: BinaryIO, place: str) -> bytes:
+    try:
+        content = file.read(_LARGEST + 1)
+    except OSError as fault:
+        raise Fault("read", f"in {place}: {fault.strerror}") from fault
     if len(content) > _LARGEST:
-        raise Fault(f"{name}: the file is too large")
+        raise Fault("too large", f"in {place}")
     return content
 
 
@@ -243,11 +298,9 @@ def _read(name: str, check: Check) -> Iterator[Any]:
     """The registry in a file, which the proved check accepts, and then what was changed."""
     content = _content_of(name)
     is_json = name.endswith(".json") or (content.lstrip()[:1] == b"{" and not name.endswith((".yaml", ".yml")))
-    found, changes = (None, []) if is_json else from_yaml(content, name)
+    found, changes = (None, []) if is_json else from_yaml(content, _shown(name))
     text = content if is_json else _text_of(found)
-    refusal = check(text)
-    if refusal is not None:
-        raise Refused(f"{name}: {refusal}")
+    check(text, _shown(name))
     yield found if found is not None else json.loads(text)
     yield changes
 
@@ -260,47 +313,76 @@ def _text_of(registry: Any) -> bytes:
 def _converted(names: list[str]) -> tuple[bytes, list[str]]:
     check = checker()
     read = [tuple(_read(name, check)) for name in names]
-    text = _text_of(merged([(name, registry) for name, (registry, _) in zip(names, read)]))
-    refusal = check(text)
-    if refusal is not None:
-        raise Refused(f"the merged registry: {refusal}")
+    text = _text_of(merged([(_shown(name), registry) for name, (registry, _) in zip(names, read)]))
+    check(text, "the merged registry")
     return text, [change for _, changes in read for change in changes]
+
+
+class _Misuse(Exception):
+    """The arguments are invalid."""
+
+
+def _arguments(words: list[str]) -> tuple[list[str], Optional[str]]:
+    """The registries, and the file for the output."""
+    is_merge = words[:1] == ["merge"]
+    names, output = words[1:] if is_merge else words, None
+    if names[:1] in (["-o"], ["--output"]):
+        if len(names) < 2 or not names[1]:
+            raise _Misuse(f"{names[0]} needs a file")
+        output, names = names[1], names[2:]
+    for name in names:
+        if name.startswith("-") and name != _STANDARD_INPUT or not name:
+            raise _Misuse(f"unexpected argument '{name}' found")
+    if is_merge and len(names) < 2:
+        raise _Misuse("merge needs two registries or more")
+    if not is_merge and len(names) > 1:
+        raise _Misuse(f"unexpected argument '{names[1]}' found; to join registries, use merge")
+    if names.count(_STANDARD_INPUT) > 1:
+        raise _Misuse("only one registry can be the standard input")
+    return names or [_STANDARD_INPUT], output
 
 
 def main(words: Optional[list[str]] = None) -> int:
     """The command. Returns its status."""
     words = sys.argv[1:] if words is None else words
-    if words in (["--help"], ["-h"]):
-        print(__doc__, end="")
-        return 0
-    is_merge = words[:1] == ["merge"]
-    names = words[1:] if is_merge else words
-    output = None
-    if names[:1] in (["-o"], ["--output"]):
-        output, names = names[1] if len(names) > 1 else "", names[2:]
-    if output == "" or any(name.startswith("-") for name in names) or (len(names) < 2 if is_merge else len(names) != 1):
-        print("Usage: bcs-registry [merge] [-o FILE] REGISTRY... (see --help)", file=sys.stderr)
+    try:
+        if words in (["--help"], ["-h"]):
+            return _put((__doc__ or "").encode(), None)
+        if words in (["--version"], ["-V"]):
+            return _put(f"bcs-registry {_VERSION}\n".encode(), None)
+        return _convert(*_arguments(words))
+    except _Misuse as fault:
+        usage = "Usage: bcs-registry [merge] [-o FILE] [REGISTRY]..."
+        print(f"error: {fault}\n\n{usage}\n\nFor more information, try '--help'.", file=sys.stderr)
         return 3
+    except Fault as fault:
+        print(f"fault: {fault.word}\n{fault.message}", file=sys.stderr)
+        return 4
+
+
+def _convert(names: list[str], output: Optional[str]) -> int:
     try:
         text, changes = _converted(names)
-        for change in changes:
-            print(change, file=sys.stderr)
-        _put(text, output)
     except Refused as fault:
+        _put(f"refused: {fault.reason}\n".encode(), None)
         print(fault, file=sys.stderr)
         return 2
-    except (Fault, OSError) as fault:
-        print(f"fault: {fault}", file=sys.stderr)
-        return 4
+    for change in changes:
+        print(change, file=sys.stderr)
+    return _put(text, output)
+
+
+def _put(text: bytes, output: Optional[str]) -> int:
+    place = "the standard output" if output is None else f"the file {output}"
+    try:
+        if output is not None:
+            pathlib.Path(output).write_bytes(text)
+        else:
+            sys.stdout.buffer.write(text)
+            sys.stdout.flush()
+    except OSError as fault:
+        raise Fault("write", f"in {place}: {fault.strerror}") from fault
     return 0
-
-
-def _put(text: bytes, output: Optional[str]) -> None:
-    if output is not None:
-        pathlib.Path(output).write_bytes(text)
-        return
-    sys.stdout.buffer.write(text)
-    sys.stdout.flush()
 
 
 if __name__ == "__main__":

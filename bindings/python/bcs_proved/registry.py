@@ -14,10 +14,11 @@ from . import values
 from .errors import BcsError, BytesError, ExampleError, FormatError, GrowthError, PathError, RegistryError, TextError
 from .errors import ValueTypeError
 from .formats import AnyName, Data, Format, Name, PlainName, Text, bytes_of, bytes_of_text, hint_of, json_of
-from .library import Answer, Handle, Library, Question, Report, Status, standard_library
+from .library import Answer, Handle, Library, Question, Report, Status, library_of, standard_library
 from .limits import MOST_NODES, Limits
 from .names import own_forms
 from .reading import Read, Readers, value_of
+from .views import EXPECTED_NAME, MISSING, View, lines_of, views_of
 
 __all__ = ["Form", "Names", "Part", "Registry"]
 
@@ -27,7 +28,7 @@ Names = Mapping[str, Iterable[str]]
 # How many formats a registry remembers, since they may come from strangers.
 _MOST_FORMATS = 1000
 # enum bcs_notation of bcs.h.
-_NAME, _POINTER = 1, 2
+_STEPS, _NAME, _POINTER = 0, 1, 2
 _NOTATIONS = {_NAME: "a name such as .payload.args[1]", _POINTER: "a JSON Pointer such as /payload/args/1"}
 
 
@@ -71,10 +72,7 @@ class Registry:
             self._text = pathlib.Path(text).read_bytes()
         else:
             self._text = values.json_of_format(text) if isinstance(text, Mapping) else bytes_of_text(text)
-        if library is None:
-            self._library = standard_library()
-        else:
-            self._library = library if isinstance(library, Library) else Library(library)
+        self._library = library_of(library)
         self._handle: Optional[Handle] = self._opened(text)
         self._names: Optional[Names] = None
         if names is not None:
@@ -388,8 +386,7 @@ class Registry:
         data, steps = bytes_of(data), bytes_of_text(path)
         question = self._question(format, limits, data)
         answer = question.ask("bcs_handle_part", data, len(data), steps, len(steps))
-        if answer.status == Status.PATH:
-            self._library.require(answer, BytesError, self._library.report("bcs_path_place", steps, len(steps)))
+        self._require_name(answer, _STEPS, steps)
         return self._part(question, answer, data)
 
     def part_by_name(self, format: Format, data: Data, name: str, limits: Optional[Limits] = None) -> Optional[Part]:
@@ -408,9 +405,41 @@ class Registry:
         data, text = bytes_of(data), bytes_of_text(name)
         question = self._question(format, limits, data)
         answer = question.ask("bcs_handle_part_named", notation, text, len(text), data, len(data))
+        self._require_name(answer, notation, text)
+        return self._part(question, answer, data)
+
+    def content(self, format: Format, data: Data, path: str, limits: Optional[Limits] = None) -> Optional[Part]:
+        """Like `part`, for a BYTES, a STR, or a list or an array of U8: its bytes without the length before them. For
+        any other part it raises PathError with the reason "NoContent"."""
+        return self._content(format, data, _STEPS, path, limits)
+
+    def content_by_name(self, format: Format, data: Data, name: str, limits: Optional[Limits] = None) -> Optional[Part]:
+        """Like `content`, with the field path of the part, as `explain` has it: ".payload::EntryFunction.args[0]"."""
+        return self._content(format, data, _NAME, name, limits)
+
+    def content_by_pointer(
+        self, format: Format, data: Data, pointer: str, limits: Optional[Limits] = None
+    ) -> Optional[Part]:
+        """Like `content`, with a JSON Pointer into the value's JSON, such as "/payload/EntryFunction/args/0"."""
+        return self._content(format, data, _POINTER, pointer, limits)
+
+    def _content(
+        self, format: Format, data: Data, notation: int, name: str, limits: Optional[Limits]
+    ) -> Optional[Part]:
+        data, text = bytes_of(data), bytes_of_text(name)
+        question = self._question(format, limits, data)
+        answer = question.ask("bcs_handle_content", notation, text, len(text), data, len(data))
+        self._require_name(answer, notation, text)
+        if answer.status == Status.REFUSED and self._library.fault_name(answer.fault) == "NoContent":
+            raise PathError("NoContent", None, name, "only a BYTES, a STR, and a list or an array of U8 have a content")
+        return self._part(question, answer, data)
+
+    def _require_name(self, answer: Answer, notation: int, text: bytes) -> None:
+        """Raises PathError if the name of a part is invalid."""
+        if answer.status == Status.PATH and notation == _STEPS:
+            self._library.require(answer, BytesError, self._library.report("bcs_path_place", text, len(text)))
         if answer.status == Status.PATH:
             raise PathError("BadPath", message=f"expected {_NOTATIONS[notation]}")
-        return self._part(question, answer, data)
 
     def _part(self, question: Question, answer: Answer, data: bytes) -> Optional[Part]:
         if answer.status == Status.NO:
@@ -418,20 +447,78 @@ class Registry:
         self._require(question, answer, BytesError, "bcs_handle_stop_refusal", data)
         return Part(answer.place, data[answer.place : answer.place + answer.length])
 
-    def explain(self, format: Format, data: Data, limits: Optional[Limits] = None) -> list[dict[str, Any]]:
+    def explain(
+        self,
+        format: Format,
+        data: Data,
+        limits: Optional[Limits] = None,
+        *,
+        inside: Optional[Mapping[str, Format]] = None,
+        calls: Optional[Mapping[str, str]] = None,
+        addresses: Iterable[str] = (),
+        u256s: Iterable[str] = (),
+        i256s: Iterable[str] = (),
+    ) -> list[dict[str, Any]]:
         """The pieces of bytes, a dict for each with "place", "bytes", "kind", "what", "value", "name" and "path". The
-        last one is {"end": N}, or for invalid bytes a dict with "refused", "place", "want", "name" and "path"."""
-        return [json.loads(line) for line in self.explain_text(format, data, Form.JSON, limits).split("\n")[:-1]]
+        last one is {"end": N}, or for invalid bytes a dict with "refused", "place", "want", "name" and "path".
 
-    def explain_text(self, format: Format, data: Data, form: Form = Form.WAYS, limits: Optional[Limits] = None) -> str:
+        The byte strings in `inside` are explained piece by piece, too: inside={".args[*]": "Payment"} has their
+        formats by their names, in which "[*]" is any index. `calls` has functions of Move by the names of lists of byte
+        strings, which are their arguments: those are the containers "0x1::coin::transfer<..>::arg0" and so on that
+        `registry_of_modules` makes. `addresses`, `u256s` and `i256s` are the containers whose values are described as
+        Move's own; those that are called "address", "u256" and "i256" are so without it.
+
+        Raises PathError for a name that is none, and FormatError for formats, functions and containers that the
+        registry doesn't have."""
+        views = views_of(inside, calls, addresses=addresses, u256s=u256s, i256s=i256s)
+        text = self._explained(format, data, Form.JSON, limits, views)
+        return [json.loads(line) for line in text.split("\n")[:-1]]
+
+    def explain_text(
+        self,
+        format: Format,
+        data: Data,
+        form: Form = Form.WAYS,
+        limits: Optional[Limits] = None,
+        *,
+        inside: Optional[Mapping[str, Format]] = None,
+        calls: Optional[Mapping[str, str]] = None,
+        addresses: Iterable[str] = (),
+        u256s: Iterable[str] = (),
+        i256s: Iterable[str] = (),
+    ) -> str:
         """The pieces of bytes as lines, as `bcs explain` prints them. Invalid bytes are no error here:
-        the last line reports them."""
-        data = bytes_of(data)
+        the last line reports them. The other arguments are those of `explain`."""
+        views = views_of(inside, calls, addresses=addresses, u256s=u256s, i256s=i256s)
+        return self._explained(format, data, form, limits, views)
+
+    def _explained(self, format: Format, data: Data, form: Form, limits: Optional[Limits], views: list[View]) -> str:
+        data, lines = bytes_of(data), lines_of(views)
         question = self._question(format, limits, data)
         room = min(100 * len(data) + 1000, 1000000)
-        answer, text = question.put("bcs_handle_explain", room, int(form), data, len(data))
+        words = (int(form), lines, len(lines), data, len(data))
+        answer, text = question.put("bcs_handle_explain_with", room, *words)
+        if answer.status in (Status.PATH, Status.FORMAT):
+            self._check(question)
+            for view in views:
+                self._require_view(question, view)
         self._require(question, answer, BytesError)
         return str(text, "utf-8")
+
+    def _require_view(self, question: Question, view: View) -> None:
+        """Raises the error for a view that is refused."""
+        answer, _ = question.put("bcs_handle_explain_with", 1000, 0, view.line, len(view.line), b"", 0)
+        if answer.status == Status.PATH:
+            raise PathError("BadPath", None, view.name, f"{view.word}: {EXPECTED_NAME}")
+        if answer.status != Status.FORMAT:
+            return
+        reason, at, message = self._library.fault_name(answer.fault), "", MISSING[view.word]
+        if view.format is not None:
+            try:
+                self._check(Question(question.handle, view.format, 0, 0))
+            except FormatError as fault:
+                at, message = fault.at, fault.message
+        raise FormatError(reason, None, at, f"{view.word} {view.name}: {message}")
 
     def _read(self, question: Question, text: memoryview, plain_options: bool) -> Any:
         """The value of a format that normal JSON represents."""

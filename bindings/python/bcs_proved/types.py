@@ -16,6 +16,7 @@ why.
 from __future__ import annotations
 
 import builtins
+import collections
 import itertools
 import json
 import keyword
@@ -80,6 +81,8 @@ _LEAVES = {
     "F64": "NoReturn",
 }
 _PLAIN = re.compile(r"[A-Za-z][A-Za-z0-9_]*")
+# What comes before the name of a type of Move.
+_MODULE = re.compile(r"0x[0-9a-f]+::[A-Za-z_][A-Za-z0-9_]*::")
 # A field that may stand in the body of a class, where a name that begins with two underscores would become another one.
 _FIELD = re.compile(r"_?[A-Za-z][A-Za-z0-9_]*")
 
@@ -96,6 +99,11 @@ def _only(thing: Mapping[str, Any]) -> tuple[str, Any]:
     return member
 
 
+def _cleaned(text: str) -> str:
+    letters = re.sub(r"[^A-Za-z0-9]+", "_", text).strip("_")
+    return letters if letters[:1].isalpha() else f"T{letters}"
+
+
 class _Identifiers:
     """Hands out identifiers, each once."""
 
@@ -105,15 +113,20 @@ class _Identifiers:
         self._numbers: dict[str, Iterator[int]] = {}
 
     def of_all(self, names: Iterable[str]) -> dict[str, str]:
-        """One for each name, which is the name itself where that is a good one."""
-        return {name: self.of(name) for name in sorted(names, key=lambda name: (not _PLAIN.fullmatch(name), name))}
+        """One for each name, which is the name itself where that is a good one. Those of Move's types leave the modules
+        out, if no other one is like that: CoinStore_AptosCoin for 0x1::coin::CoinStore<0x1::aptos_coin::AptosCoin>."""
+        in_order = sorted(names)
+        found = {name: self.of(name) for name in in_order if _PLAIN.fullmatch(name)}
+        others = {name: _cleaned(_MODULE.sub("", name)) for name in in_order if name not in found}
+        counts = collections.Counter(others.values())
+        # (the short ones come first, so that no other name takes one)
+        short = [name for name, like in others.items() if counts[like] == 1 and like not in self._taken]
+        found |= {name: self.of(others[name]) for name in short}
+        return found | {name: self.of(name) for name in others if name not in found}
 
     def of(self, text: str) -> str:
         """One like this text, with a number behind it where that is taken."""
-        wanted = text
-        if not _PLAIN.fullmatch(text):
-            letters = re.sub(r"[^A-Za-z0-9]+", "_", text).strip("_")
-            wanted = letters if letters[:1].isalpha() else f"T{letters}"
+        wanted = text if _PLAIN.fullmatch(text) else _cleaned(text)
         numbers = self._numbers.setdefault(wanted, itertools.count(2))
         found = wanted
         while found in self._taken:
@@ -123,7 +136,7 @@ class _Identifiers:
 
 
 class _Writer:
-    """Writes the types of containers. In expressions that Python evaluates a type's name stands in quotes, since it may
+    """Writes the types of containers. In expressions that Python evaluates, a type's name is in quotes, since it may
     come later."""
 
     def __init__(self, containers: Mapping[str, Any], plain_options: bool, names: Optional[Names]) -> None:

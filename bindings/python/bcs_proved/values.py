@@ -1,4 +1,4 @@
-"""Converts Python values to the JSON of docs/FORMAT.md. The format decides what each value becomes.
+"""Converts Python values to the JSON of docs/JSON.md. The format decides what each value becomes.
 
 `Formats` reads the formats of a registry, and `json_of` converts a value of one of them. `reading` converts back.
 
@@ -14,7 +14,7 @@ import itertools
 import json
 import json.encoder
 import re
-from collections.abc import Callable, Generator, Mapping
+from collections.abc import Callable, Generator, Iterable, Mapping
 from typing import Any, Optional, Union, final
 
 from .names import BYTES_OF_OWN_FORM
@@ -83,6 +83,10 @@ class _Slow(Exception):
     """`quick` leaves a value to `open`."""
 
 
+class _TooManyNodes(Exception):
+    """`open` gives up a value, wherever it is in it."""
+
+
 def name_of(found: type) -> str:
     return found.__qualname__ if found.__module__ == "builtins" else f"{found.__module__}.{found.__qualname__}"
 
@@ -92,7 +96,7 @@ class Format:
 
     takes = ""
 
-    def open(self, value: Any, out: list[str]) -> Optional[_Writing]:
+    def open(self, value: Any, out: _Pieces) -> Optional[_Writing]:
         """Writes a scalar, or returns what writes an array or object. The value itself is copied first, since
         converting its parts may run the caller's code."""
         raise NotImplementedError
@@ -110,6 +114,21 @@ class Format:
         return Rejected("WrongType", self.takes, type(value))
 
 
+class _Pieces(list[str]):
+    """JSON as it is written piece by piece, for a value of at most so many nodes."""
+
+    def __init__(self, nodes: int) -> None:
+        super().__init__()
+        # (a node has at most five pieces, like bytes that are the key or value in a map)
+        self._most = 5 * nodes + 5
+
+    def expect(self, nodes: int = 0) -> None:
+        """Counts nodes that won't have pieces of their own. Raises _TooManyNodes."""
+        self._most -= 5 * nodes
+        if len(self) > self._most:
+            raise _TooManyNodes
+
+
 def json_of(format: Format, value: Any, nodes: int) -> bytes:
     """The JSON of a value, unless it surely has more nodes than this. Raises Rejected."""
     try:
@@ -123,17 +142,26 @@ def json_of(format: Format, value: Any, nodes: int) -> bytes:
 
 
 def _slow_json_of(format: Format, value: Any, nodes: int) -> bytes:
-    """It doesn't recurse, so deep values need no stack."""
-    out: list[str] = []
-    # (a node has at most five pieces of text, like bytes that are the key or value in a map)
-    most = 5 * nodes + 5
+    out = _Pieces(nodes)
+    try:
+        _write(format, value, out)
+    except _TooManyNodes:
+        raise Rejected("TooManyNodes", f"the value has more nodes than --nodes allows, {nodes}") from None
+    text = "".join(out)
+    # (a large value has little room for its pieces beside its text)
+    out.clear()
+    # (the library rejects lone surrogates, which aren't UTF-8 and so not JSON)
+    return text.encode("utf-8", "surrogatepass")
+
+
+def _write(format: Format, value: Any, out: _Pieces) -> None:
+    """Writes the JSON of any value. It doesn't recurse, so deep values need no stack."""
     inner = format.open(value, out)
     levels = [] if inner is None else [inner]
     while levels:
         if len(levels) > _NESTING:
             raise Rejected("TooNested", f"arrays and objects are nested more than {_NESTING} levels deep")
-        if len(out) > most:
-            raise Rejected("TooManyNodes", f"the value has more nodes than --nodes allows, {nodes}")
+        out.expect()
         try:
             inner = next(levels[-1], None)
         except Rejected as fault:
@@ -142,11 +170,6 @@ def _slow_json_of(format: Format, value: Any, nodes: int) -> bytes:
             levels.pop()
         else:
             levels.append(inner)
-    text = "".join(out)
-    # (a large value has little room for its pieces beside its text)
-    out.clear()
-    # (the library rejects lone surrogates, which aren't UTF-8 and so not JSON)
-    return text.encode("utf-8", "surrogatepass")
 
 
 def _with_steps(levels: list[_Writing], fault: Rejected) -> Rejected:
@@ -205,15 +228,17 @@ def octets_of(value: Any) -> Optional[bytes]:
         return view.tobytes() if _is_octets(view) and not hasattr(value, "mask") else None
 
 
-def _put_octets(value: Any, out: list[str]) -> bool:
+def _put_octets(value: Any, out: _Pieces, are_nodes: bool = False) -> bool:
     """Writes bytes, or Hex. Large ones are hundreds of megabytes, so their digits aren't copied here."""
     octets = value if type(value) is bytes else octets_of(value)
+    if octets is None and type(value) is not Hex:
+        return False
+    if are_nodes:
+        out.expect(len(value.digits) // 2 if octets is None else len(octets))
     if octets is None:
-        if type(value) is not Hex:
-            return False
         out.append(_text_of(value.digits))
-        return True
-    out += ['"', octets.hex(), '"']
+    else:
+        out += ['"', octets.hex(), '"']
     return True
 
 
@@ -239,7 +264,7 @@ def _elements_of(value: Any) -> Optional[list[Any]]:
 class _Unit(Format):
     takes = "UNIT takes None"
 
-    def open(self, value: Any, out: list[str]) -> Optional[_Writing]:
+    def open(self, value: Any, out: _Pieces) -> Optional[_Writing]:
         if value is not None:
             raise self.wrong(value)
         out.append("null")
@@ -254,7 +279,7 @@ class _Unit(Format):
 class _Bool(Format):
     takes = "BOOL takes a bool"
 
-    def open(self, value: Any, out: list[str]) -> Optional[_Writing]:
+    def open(self, value: Any, out: _Pieces) -> Optional[_Writing]:
         if value is not True and value is not False:
             raise self.wrong(value)
         out.append("true" if value else "false")
@@ -269,7 +294,7 @@ class _Bool(Format):
 class _Text(Format):
     takes = "STR takes a str"
 
-    def open(self, value: Any, out: list[str]) -> Optional[_Writing]:
+    def open(self, value: Any, out: _Pieces) -> Optional[_Writing]:
         if not isinstance(value, str):
             raise self.wrong(value)
         out.append(_text_of(value))
@@ -284,7 +309,7 @@ class _Text(Format):
 class _Unsupported(Format):
     """`F32`, `F64`, `CHAR`, and newtypes that hold themselves. The library rejects every value of these."""
 
-    def open(self, value: Any, out: list[str]) -> Optional[_Writing]:
+    def open(self, value: Any, out: _Pieces) -> Optional[_Writing]:
         out.append("null")
         return None
 
@@ -298,7 +323,7 @@ class _Number(Format):
         self.least = -(2 ** (bits - 1)) if is_signed else 0
         self.most = self.least + 2**bits - 1
 
-    def open(self, value: Any, out: list[str]) -> Optional[_Writing]:
+    def open(self, value: Any, out: _Pieces) -> Optional[_Writing]:
         number = self.int_of(value)
         # (the library checks the range)
         if number.bit_length() > _WIDEST:
@@ -346,7 +371,7 @@ class _OwnInteger(_Number):
         super().__init__(word, 8 * BYTES_OF_OWN_FORM, is_signed)
         self._is_signed = is_signed
 
-    def open(self, value: Any, out: list[str]) -> Optional[_Writing]:
+    def open(self, value: Any, out: _Pieces) -> Optional[_Writing]:
         number = self.in_range(value)
         out.append(self._digits_of(number))
         return None
@@ -367,7 +392,7 @@ class _Address(Format):
         self._word = word
         self.takes = f'{word} takes a str "0x.." or {BYTES_OF_OWN_FORM} bytes'
 
-    def open(self, value: Any, out: list[str]) -> Optional[_Writing]:
+    def open(self, value: Any, out: _Pieces) -> Optional[_Writing]:
         if isinstance(value, str):
             out.append(f'"{self._digits_of(str.__str__(value))}"')
         elif not _put_octets(value, out):
@@ -396,19 +421,22 @@ class _Address(Format):
 
 
 class _Octets(Format):
-    """BYTES, and SEQ and TUPLEARRAY of U8. The library checks the number of bytes."""
+    """BYTES, and SEQ and TUPLEARRAY of U8, of which each byte is a node. The library checks the number of bytes."""
 
     def __init__(self, word: str) -> None:
         self.takes = f"{word} takes bytes, or Hex(…) for digits"
+        self._are_nodes = word != "BYTES"
 
-    def open(self, value: Any, out: list[str]) -> Optional[_Writing]:
-        if not isinstance(value, (list, tuple)) and _put_octets(value, out):
+    def open(self, value: Any, out: _Pieces) -> Optional[_Writing]:
+        if not isinstance(value, (list, tuple)) and _put_octets(value, out, self._are_nodes):
             return None
         items = _items_of(value)
         if items is None:
             items = _elements_of(value)
         if items is None:
             raise self.wrong(value)
+        if self._are_nodes:
+            out.expect(len(items))
         out += ['"', _octets_of_items(items).hex(), '"']
         return None
 
@@ -446,7 +474,7 @@ class _List(Format):
     def _quick(self) -> _Quick:
         return self._element.resolved().quick
 
-    def open(self, value: Any, out: list[str]) -> Optional[_Writing]:
+    def open(self, value: Any, out: _Pieces) -> Optional[_Writing]:
         items = _items_of(value)
         if items is None and isinstance(self._element.resolved(), (_Number, _List, _Octets)):
             items = _elements_of(value)
@@ -454,6 +482,7 @@ class _List(Format):
             raise self.wrong(value)
         if not (type(self._element) is _Number and _are_plain(items)):
             return self._writing(items, out)
+        out.expect(len(items))
         out.append(_numbers_at_once(items))
         return None
 
@@ -461,13 +490,12 @@ class _List(Format):
         if type(value) is not list or not levels or len(value) > _MOST_QUICK_ITEMS:
             raise _Slow
         if type(self._element) is not _Number:
-            quick, levels = self._quick, levels - 1
-            return _joined([quick(item, levels) for item in value])
+            return f"[{_joined(zip(itertools.repeat(self._quick), value), levels - 1)}]"
         if not _are_plain(value):
             raise _Slow
         return _numbers_at_once(value)
 
-    def _writing(self, items: list[Any], out: list[str]) -> _Writing:
+    def _writing(self, items: list[Any], out: _Pieces) -> _Writing:
         number, element = 0, self._element
         out.append("[")
         try:
@@ -485,11 +513,17 @@ class _List(Format):
         out.append("]")
 
 
-def _joined(items: list[str]) -> str:
-    text = ",".join(items)
-    if len(text) > _MOST_QUICK:
-        raise _Slow
-    return f"[{text}]"
+def _joined(parts: Iterable[tuple[_Quick, Any]], levels: int) -> str:
+    """The JSON of the parts, with commas between. It stops at the first one that is too much: a value that holds others
+    many times takes little memory, and its JSON may take more than there is."""
+    texts, room = [], _MOST_QUICK
+    for quick, part in parts:
+        text = quick(part, levels)
+        room -= len(text)
+        if room < 0:
+            raise _Slow
+        texts.append(text)
+    return ",".join(texts)
 
 
 def _numbers_at_once(items: list[int]) -> str:
@@ -512,7 +546,7 @@ class _Row(Format):
     def _quick(self) -> list[_Quick]:
         return [format.resolved().quick for format in self._formats]
 
-    def open(self, value: Any, out: list[str]) -> Optional[_Writing]:
+    def open(self, value: Any, out: _Pieces) -> Optional[_Writing]:
         items = _items_of(value)
         if items is None:
             raise self.wrong(value)
@@ -521,10 +555,9 @@ class _Row(Format):
     def quick(self, value: Any, levels: int) -> str:
         if type(value) not in (list, tuple) or not levels or len(value) != len(self._formats):
             raise _Slow
-        levels -= 1
-        return _joined([quick(item, levels) for quick, item in zip(self._quick, value)])
+        return f"[{_joined(zip(self._quick, value), levels - 1)}]"
 
-    def _writing(self, items: list[Any], out: list[str]) -> _Writing:
+    def _writing(self, items: list[Any], out: _Pieces) -> _Writing:
         """If the number of items is wrong, the library gets nulls, and rejects their number."""
         number = 0
         out.append("[")
@@ -548,7 +581,7 @@ class _Map(Format):
     def __init__(self, key: Format, value: Format) -> None:
         self._entries = _List("MAP", _Row([key, value], "an entry of a MAP takes a pair"))
 
-    def open(self, value: Any, out: list[str]) -> Optional[_Writing]:
+    def open(self, value: Any, out: _Pieces) -> Optional[_Writing]:
         if isinstance(value, Mapping):
             value = [(key, value[key]) for key in [*value]]
         elif not isinstance(value, (list, tuple)):
@@ -600,23 +633,25 @@ class _Struct(_Object):
     def _quick(self) -> list[tuple[str, str, _Quick]]:
         return [(name, f"{_quoted(name)}:", format.resolved().quick) for name, _, _, format in self._fields]
 
-    def open(self, value: Any, out: list[str]) -> Optional[_Writing]:
+    def open(self, value: Any, out: _Pieces) -> Optional[_Writing]:
         return self._writing(self._members_of(value), out)
 
     def quick(self, value: Any, levels: int) -> str:
         if type(value) is not dict or not levels or len(value) != len(self._quick) or {*map(type, value)} != {str}:
             raise _Slow
-        levels -= 1
+        texts, room, levels = [], _MOST_QUICK, levels - 1
         try:
-            parts = [head + quick(value[name], levels) for name, head, quick in self._quick]
+            for name, head, quick in self._quick:
+                text = head + quick(value[name], levels)
+                room -= len(text)
+                if room < 0:
+                    raise _Slow
+                texts.append(text)
         except KeyError:
             raise _Slow from None
-        text = ",".join(parts)
-        if len(text) > _MOST_QUICK:
-            raise _Slow
-        return f"{{{text}}}"
+        return f"{{{','.join(texts)}}}"
 
-    def _writing(self, members: dict[str, Any], out: list[str]) -> _Writing:
+    def _writing(self, members: dict[str, Any], out: _Pieces) -> _Writing:
         name, is_first = "", True
         try:
             for name, first_head, head, format in self._fields:
@@ -656,7 +691,7 @@ class _Tagged(_Object):
         head, quick = known
         return head + quick(part, levels - 1) + "}"
 
-    def _writing(self, members: dict[str, Any], out: list[str]) -> _Writing:
+    def _writing(self, members: dict[str, Any], out: _Pieces) -> _Writing:
         name, before = "", "{"
         try:
             for name, part in members.items():
@@ -674,7 +709,7 @@ class _Tagged(_Object):
 class _Enum(_Tagged):
     takes = "ENUM takes a variant's name or a dict of one variant"
 
-    def open(self, value: Any, out: list[str]) -> Optional[_Writing]:
+    def open(self, value: Any, out: _Pieces) -> Optional[_Writing]:
         if isinstance(value, str):
             out.append(_text_of(value))
             return None
@@ -693,7 +728,7 @@ class _Option(_Tagged):
         self._is_plain = is_plain
         self.takes = f'OPTION takes None{", a value" if is_plain else ""} or {{"some": value}}'
 
-    def open(self, value: Any, out: list[str]) -> Optional[_Writing]:
+    def open(self, value: Any, out: _Pieces) -> Optional[_Writing]:
         if value is None:
             out.append("null")
             return None
@@ -722,7 +757,7 @@ class _Named(Format):
         self._name = name
         self._held: Optional[Format] = None
 
-    def open(self, value: Any, out: list[str]) -> Optional[_Writing]:
+    def open(self, value: Any, out: _Pieces) -> Optional[_Writing]:
         return (self._held or self.resolved()).open(value, out)
 
     def quick(self, value: Any, levels: int) -> str:

@@ -1,4 +1,4 @@
-"""What the methods of bcs_proved answer and raise. The answers are from docs/FORMAT.md."""
+"""What the methods of bcs_proved answer and raise. The answers are from docs/ENCODING.md."""
 
 import array
 import ctypes

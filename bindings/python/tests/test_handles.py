@@ -63,7 +63,7 @@ def told(call: Callable[[Registry], object], registry: Registry) -> object:
 
 
 class CountingLibrary(Library):
-    """Counts the handles that are open, and waits in a call as long as it is told to."""
+    """Counts the handles that are open, and waits in a call as long as a test wants."""
 
     def __init__(self) -> None:
         super().__init__(os.environ["BCS_LIBRARY"])

@@ -390,7 +390,7 @@ class Nesting(unittest.TestCase):
 
 class Order(unittest.TestCase):
     def test_formats_first(self) -> None:
-        """What is wrong with the format is said before what is wrong with the value, and before its code runs."""
+        """A fault of the format is reported before one of the value, and before the value's code runs."""
         registry = Registry(PAYMENT)
         formats: list[tuple[Any, str]] = [
             ("Paymen", "UnknownName"),
@@ -442,6 +442,49 @@ class Memory(unittest.TestCase):
             self.assertEqual(told.stdout.count("TooManyNodes"), 6, told.stdout)
         told = run("-c", script.replace("[*calls, lambda", "[registry.decode] or [lambda"), "Limits.standard()")
         self.assertEqual((told.returncode, told.stdout, told.stderr), (0, "MemoryError\n", ""))
+
+    def test_shared_parts(self) -> None:
+        """A value that holds others many times takes little memory, and its JSON would take gigabytes. If it has more
+        nodes than are allowed, it is refused in little memory and time."""
+        script = (
+            "import resource, sys, time; from bcs_proved import Limits, Registry, TextError\n"
+            "fields = [{f'f{place}': {'SEQ': 'U64'}} for place in range(1000)]\n"
+            "payload = {'1': {'a': {'NEWTYPE': {'SEQ': 'U64'}}}}\n"
+            "registry = Registry({'S': {'STRUCT': fields}, 'E': {'ENUM': payload}})\n"
+            "resource.setrlimit(resource.RLIMIT_AS, (400_000_000, 400_000_000))\n"
+            "numbers, text, octets = [2**40] * 30000, 'x' * 50000, bytes(50000)\n"
+            "large, wide = bytes(2**24), 'x' * 2**24\n"
+            "format, value = map(eval, sys.argv[1:])\n"
+            "start = time.process_time()\n"
+            "try:\n"
+            "    registry.encode(format, value, Limits(nodes=1000))\n"
+            "except TextError as fault:\n"
+            "    print(fault.reason, time.process_time() - start < 5)\n"
+        )
+        for format, value in [
+            ("{'SEQ': {'SEQ': 'U64'}}", "[numbers] * 60000"),
+            ("{'SEQ': {'TUPLE': [{'SEQ': 'U64'}, 'U8']}}", "[(numbers, 7)] * 60000"),
+            ("{'TUPLE': [{'SEQ': 'U64'}] * 1000}", "[numbers] * 1000"),
+            ("{'TUPLEARRAY': {'CONTENT': {'SEQ': 'U64'}, 'SIZE': 60000}}", "[numbers] * 60000"),
+            ("{'MAP': {'KEY': 'U64', 'VALUE': {'SEQ': 'U64'}}}", "dict.fromkeys(range(60000), numbers)"),
+            ("{'MAP': {'KEY': {'SEQ': 'U64'}, 'VALUE': 'U8'}}", "[(numbers, 7)] * 60000"),
+            ("'S'", "{f'f{place}': numbers for place in range(1000)}"),
+            ("{'SEQ': {'TYPENAME': 'S'}}", "[dict.fromkeys((f'f{i}' for i in range(1000)), numbers)] * 900"),
+            ("{'SEQ': {'TYPENAME': 'E'}}", "[{'a': numbers}] * 60000"),
+            ("{'SEQ': {'OPTION': {'SEQ': 'U64'}}}", "[{'some': numbers}] * 60000"),
+            ("{'SEQ': {'SEQ': {'SEQ': 'U64'}}}", "[[[2**40] * 3000] * 60000] * 60000"),
+            ("{'SEQ': {'SEQ': 'BOOL'}}", "[[True] * 60000] * 60000"),
+            ("{'SEQ': {'SEQ': 'STR'}}", "[[text] * 60] * 60000"),
+            ("{'SEQ': {'SEQ': 'BYTES'}}", "[[octets] * 60] * 60000"),
+            ("{'SEQ': {'SEQ': 'U8'}}", "[octets] * 60000"),
+            ("{'SEQ': {'SEQ': 'U8'}}", "[large] * 60000"),
+            ("{'SEQ': {'SEQ': 'U8'}}", "[[7] * 60000] * 60000"),
+            ("{'SEQ': {'TUPLEARRAY': {'CONTENT': 'U8', 'SIZE': 50000}}}", "[octets] * 60000"),
+        ]:
+            told = run("-c", script, format, value)
+            self.assertEqual(
+                (told.returncode, told.stdout, told.stderr), (0, "TooManyNodes True\n", ""), (format, value)
+            )
 
     def test_the_limit(self) -> None:
         """16 for each byte and 65,536 more; the list itself is one, and so is each unit. Three bytes are the

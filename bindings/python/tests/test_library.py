@@ -2,6 +2,7 @@
 
 import os
 import pathlib
+import platform
 import shutil
 import subprocess
 import sys
@@ -42,6 +43,19 @@ class Places(unittest.TestCase):
     def test_beside_the_module(self) -> None:
         shutil.copy(LIBRARY, pathlib.Path(self.folder) / MODULE.name / "libbcs.so")
         self.assertEqual(run(self.folder).stdout, "07\n")
+
+    def test_in_a_clone(self) -> None:
+        """In a clone, the module finds dist/. Anywhere else, a folder dist/ above it or here means nothing."""
+        room = pathlib.Path(self.folder).resolve()
+        dist = room / "dist" / f"{platform.machine()}-linux"
+        dist.mkdir(parents=True)
+        shutil.copy(LIBRARY, dist / "libbcs.so")
+        for path, found in [("bindings/python", "07\n"), ("bindings/other", ""), ("lib/python/site-packages", "")]:
+            with self.subTest(path):
+                shutil.copytree(MODULE, room / path / MODULE.name)
+                told = run(self.folder, before="import sys; del sys.path[0]; ", PYTHONPATH=str(room / path))
+                self.assertEqual(told.stdout, found)
+        self.assertEqual(run(str(room / "bindings/python"), BCS_LIBRARY="/nowhere").stdout, "")
 
     def test_the_system(self) -> None:
         shutil.copy(LIBRARY, pathlib.Path(self.folder) / "libbcs.so.0")

@@ -95,7 +95,7 @@ class Places(unittest.TestCase):
         self.tells(
             BytesError,
             ".",
-            "expected number of a variant; found 1; variants: 0 Dot, 2 Circle",
+            "expected the number of a variant; found 1; variants: 0 Dot, 2 Circle",
             self.registry.scan,
             "Shape",
             b"\1",

@@ -1,5 +1,5 @@
 """Random values of random registries, in any of the types that a format accepts, there and back. Their bytes are made
-here, by the rules of docs/FORMAT.md."""
+here, by the rules of docs/ENCODING.md."""
 
 import array
 import json

@@ -3,13 +3,15 @@
 import io
 import json
 import pathlib
+import re
 import subprocess
 import sys
 import tempfile
 import unittest
-from contextlib import redirect_stderr
+from contextlib import redirect_stderr, redirect_stdout
 from typing import Any
 
+import bcs_proved
 from bcs_proved import registries
 from bcs_proved.registries import Refused, from_yaml
 
@@ -37,7 +39,7 @@ CONVERTED: list[tuple[str, Any, list[str]]] = [
     ("a b-c: UNITSTRUCT # a comment\n", {"a b-c": "UNITSTRUCT"}, []),
     ('{A: UNITSTRUCT, "B": [1, {2: x}]}', {"A": "UNITSTRUCT", "B": [1, {"2": "x"}]}, ["numbers of variants: 1, 1"]),
 ]
-# YAML that no registry means, and a part of what is said.
+# YAML that isn't a registry, and a part of the message.
 REFUSED = [
     ("", "one document"),
     ("# nothing\n", "one document"),
@@ -71,10 +73,10 @@ REFUSED = [
     ("A: !seq U8\n", "the tag !seq isn't supported"),
     ("!SEQ A: U8\n", "the tag !SEQ isn't supported"),
     ("A: !<!> U8\n", "isn't supported"),
-    ("A: {\n", "no YAML"),
-    ("A: 'b\n", "no YAML"),
-    ("\tA: b\n", "no YAML"),
-    ("A: \0\n", "no YAML"),
+    ("A: {\n", "while "),
+    ("A: 'b\n", "while "),
+    ("\tA: b\n", "while "),
+    ("A: \0\n", "unacceptable character"),
     ("A: " + "[" * 200, "nests more than 130 deep"),
     ("A: " + "[" * 1_000_000, "nests more than 130 deep"),
     ("".join(f"{' ' * deep}a:\n" for deep in range(200)), "nests more than 130 deep"),
@@ -102,7 +104,9 @@ class Yaml(unittest.TestCase):
         for text, words in REFUSED:
             with self.subTest(text=text[:100]), self.assertRaises(Refused) as raised:
                 from_yaml(text.encode())
-            self.assertIn(words, str(raised.exception))
+            fault = raised.exception
+            self.assertIn(words, f"{fault.at}: {fault.message}")
+            self.assertEqual(str(fault), f"at {fault.at}: {fault.reason}: {fault.message}")
 
     def test_not_unicode(self) -> None:
         with self.assertRaises(Refused):
@@ -122,7 +126,7 @@ class Command(unittest.TestCase):
     def run_with(self, *words: str) -> tuple[int, str]:
         """The status and standard error."""
         errors = io.StringIO()
-        with redirect_stderr(errors):
+        with redirect_stderr(errors), redirect_stdout(io.TextIOWrapper(io.BytesIO())):
             status = registries.main(list(words))
         return status, errors.getvalue()
 
@@ -154,6 +158,14 @@ class Command(unittest.TestCase):
             self.assertEqual((status, out.read_text(encoding="utf-8")), (2, "before"))
             self.assertIn(reason, errors)
 
+    def test_script(self) -> None:
+        """It imports Python's own module `types`, and not the one beside it. Some have it already without -S."""
+        script = pathlib.Path(registries.__file__)
+        for name in [str(script), script.name]:
+            words = [sys.executable, "-E", "-S", name, "--help"]
+            told = subprocess.run(words, cwd=script.parent, capture_output=True, text=True)
+            self.assertEqual((told.returncode, told.stdout, told.stderr), (0, registries.__doc__, ""))
+
     def test_merge(self) -> None:
         one = self.file("one.yaml", "A:\n  ENUM:\n    1:\n      X: UNIT\nB: UNITSTRUCT\n")
         other = self.file("other.json", '{"C":{"NEWTYPESTRUCT":{"TYPENAME":"B"}},"B":"UNITSTRUCT"}')
@@ -174,12 +186,98 @@ class Command(unittest.TestCase):
         )
 
     def test_arguments(self) -> None:
-        wrong: list[list[str]] = [[], ["a", "b"], ["-x"], ["merge"], ["merge", "a"], ["-o"], ["-o", "a"]]
+        wrong: list[list[str]] = [[""], ["a", "b"], ["-x"], ["merge"], ["merge", "a"], ["-o"], ["-o", ""]]
         for words in [*wrong, ["merge", "-o", "a", "b"]]:
             status, errors = self.run_with(*words)
-            self.assertEqual((status, errors[:19]), (3, "Usage: bcs-registry"), words)
-        self.assertEqual(self.run_with(str(self.room / "none.yaml"))[0], 4)
-        self.assertEqual(self.run_with(str(self.room))[0], 4)
+            self.assertEqual((status, errors[:7]), (3, "error: "), words)
+            self.assertIn("\n\nUsage: bcs-registry ", errors)
+        none, out = self.room / "none.yaml", self.room / "none/out.json"
+        one = self.file("one.json", "{}")
+        for words, expected in [
+            ([str(none)], f"fault: open\nin the file {none}: No such file or directory\n"),
+            ([str(self.room)], f"fault: open\nin the file {self.room}: Is a directory\n"),
+            (["-o", str(out), one], f"fault: write\nin the file {out}: No such file or directory\n"),
+        ]:
+            self.assertEqual(self.run_with(*words), (4, expected))
+
+    def run_command(self, *words: str, given: str = "") -> tuple[int, str, str]:
+        told = subprocess.run(
+            [sys.executable, "-m", "bcs_proved.registries", *words], input=given, capture_output=True, text=True
+        )
+        return told.returncode, told.stdout, told.stderr
+
+    def test_standard_input(self) -> None:
+        yaml = "A:\n  ENUM:\n    0:\n      No: UNIT\n"
+        whole = {"A": {"ENUM": {"0": {"No": "UNIT"}}}}
+        arguments: list[list[str]] = [[], ["-"]]
+        for words in arguments:
+            status, output, errors = self.run_command(*words, given=yaml)
+            self.assertEqual((status, json.loads(output)), (0, whole))
+            self.assertTrue(errors.startswith("the standard input: numbers of variants"), errors)
+            self.assertEqual(json.loads(self.run_command(*words, given=json.dumps(whole))[1]), whole)
+        other = self.file("other.json", '{"B":"UNITSTRUCT"}')
+        self.assertEqual([*json.loads(self.run_command("merge", other, "-", given=yaml)[1])], ["B", "A"])
+
+    def test_reports(self) -> None:
+        """Refusals and faults are reported like those of the program."""
+        clash = self.file("clash.json", '{"A":"UNITSTRUCT"}')
+        rows: list[tuple[list[str], str, int, str, str]] = [
+            ([], "A: [", 2, "refused: NotYaml\n", "at the standard input: NotYaml: while parsing"),
+            ([], "A: &a b\n", 2, "refused: BadShape\n", "at the standard input, line 1: BadShape: anchors and"),
+            ([], "A: UNIT\n", 2, "refused: BadShape\n", "at the standard input, /A: BadShape: expected a container"),
+            ([], "A: UNIT\nA: UNIT\n", 2, "refused: RepeatedName\n", "at the standard input, line 2: RepeatedName: "),
+            ([], "{", 2, "refused: NotJson\n", "at the standard input, line 1, column 1: NotJson: the document ends"),
+            ([], f"A: {'9' * 30}\n", 2, "refused: BadNumber\n", "at the standard input, line 1: BadNumber: a number"),
+            ([], "[" * 200, 2, "refused: TooNested\n", "at the standard input, line 1: TooNested: it nests"),
+            (
+                [],
+                "A: {NEWTYPESTRUCT: {TYPENAME: B}}\n",
+                2,
+                "refused: UnknownName\n",
+                "at the standard input, A: Unknown",
+            ),
+            (
+                ["merge", "-", clash],
+                "A: {NEWTYPESTRUCT: U8}\n",
+                2,
+                "refused: Different\n",
+                'at merge: Different: "A" isn',
+            ),
+            (["none.yaml"], "", 4, "", "fault: open\nin the file none.yaml: No such file or directory\n"),
+            (["merge", "-", "-"], "", 3, "", "error: only one registry can be the standard input\n\nUsage: "),
+            (["a", "b"], "", 3, "", "error: unexpected argument 'b' found; to join registries, use merge\n\nUsage: "),
+        ]
+        for words, given, status, output, errors in rows:
+            told = self.run_command(*words, given=given)
+            self.assertEqual((*told[:2], told[2][: len(errors)]), (status, output, errors))
+
+    def test_checks_by_the_module_and_the_program(self) -> None:
+        """They report the same."""
+        checks = [registries._by_module(bcs_proved), registries._by_program(str(EXAMPLES.parent / "bcs"))]
+        for text in ["{", "", "7", '{"A":"UNIT"}', '{"A":{"NEWTYPESTRUCT":{"TYPENAME":"B"}}}', '{"A":7,"A":7}', "\xff"]:
+            reports = []
+            for check in checks:
+                with self.assertRaises(Refused) as raised:
+                    check(text.encode("latin1"), "a.json")
+                reports.append(raised.exception.args)
+            self.assertEqual(*reports)
+        for check in checks:
+            check(b'{"A":"UNITSTRUCT"}', "a.json")
+
+    def test_help_and_version(self) -> None:
+        for words in [["--version"], ["-V"]]:
+            self.assertEqual(self.run_command(*words), (0, f"bcs-registry {bcs_proved.__version__}\n", ""))
+        for words in [["--help"], ["-h"]]:
+            status, output, errors = self.run_command(*words)
+            self.assertEqual((status, errors, output), (0, "", registries.__doc__))
+
+    def test_manual(self) -> None:
+        """It has each option, and each line of the usage."""
+        manual = (EXAMPLES.parent / "tools/packaging/bcs-registry.1").read_text(encoding="ascii").replace("\\-", "-")
+        for word in ["-o", "--output", "-h", "--help", "-V", "--version", "merge", "REGISTRY", bcs_proved.__version__]:
+            self.assertIn(word, manual)
+        for line in (registries.__doc__ or "").split("Usage: ")[1].splitlines()[:2]:
+            self.assertIn(line.strip(), re.sub(r"\\f[BIR]", "", manual))
 
 
 if __name__ == "__main__":

@@ -31,6 +31,22 @@ EACH = 3
 TEXTS = ["", "a", '"', "'", "\\", "\n", "\u2028", "名前", "😀", "%s", "{x}", "\0"]
 
 
+MOVE_NAMES = {
+    "0x1::coin::transfer<0x1::aptos_coin::AptosCoin>": "transfer_AptosCoin",
+    "0x1::coin::transfer<0x1::aptos_coin::AptosCoin>::arg0": "transfer_AptosCoin_arg0",
+    "0x1::coin::CoinStore<0x1::aptos_coin::AptosCoin>": "CoinStore_AptosCoin",
+    "0x2::dynamic_field::Field<address, vector<u8>>": "Field_address_vector_u8",
+    "vector<u8>": "vector_u8",
+    "0x1::m::Twice": "T0x1_m_Twice",
+    "0x2::m::Twice": "T0x2_m_Twice",
+    "0x1::m::Pair<0x1::a::A>": "T0x1_m_Pair_0x1_a_A",
+    "0x1::m::Pair<0x2::a::A>": "T0x1_m_Pair_0x2_a_A",
+    "0x1::m::Plain": "T0x1_m_Plain",
+    "Plain": "Plain",
+    "0x1::m::Union": "T0x1_m_Union",
+}
+
+
 class NoValue(Exception):
     """There is no value of this format, or none within so many containers."""
 
@@ -191,6 +207,17 @@ class Types(unittest.TestCase):
         self.write("readme.py", program)
         ran = run(sys.executable, "readme.py", folder=self.folder)
         self.assertEqual((ran.stdout, ran.stderr), ("8\n", ""))
+
+    def test_types_of_move(self) -> None:
+        """Their modules are left out where the name is unique, and isn't one that no type may have."""
+        for names in (MOVE_NAMES, dict(reversed(MOVE_NAMES.items()))):
+            self.assertEqual(_Identifiers().of_all(names), MOVE_NAMES)
+            self.assertEqual(_Identifiers().of_all(iter(names)), MOVE_NAMES)
+        written = module_of(json.dumps(dict.fromkeys(MOVE_NAMES, "UNITSTRUCT")))
+        self.assertIn(
+            "# The container '0x1::coin::CoinStore<0x1::aptos_coin::AptosCoin>'.\nCoinStore_AptosCoin: ", written
+        )
+        self.assertIn('COIN_STORE_APTOS_COIN = Name["CoinStore_AptosCoin"](', written)
 
     def test_the_command(self) -> None:
         options = "[--plain-options] [--address NAME] [--u256 NAME] [--i256 NAME]"

@@ -1,4 +1,4 @@
-"""Every type of Python at every format: a cell of the table is the bytes of docs/FORMAT.md, or a rejection with its
+"""Every type of Python at every format: a cell of the table is the bytes of docs/ENCODING.md, or a rejection with its
 pointer and its words. A cell that isn't listed for a value is the rejection of the value itself."""
 
 import array
@@ -47,7 +47,7 @@ DICT, SOME = "STRUCT takes a dict", 'OPTION takes None or {"some": value}'
 # Options that may also be written as None or their value: the column of the value.
 PLAIN_OPTIONS = {"OPTION": "U8", "OPTION Point": "Point", "OPTION Shape": "Shape"}
 VARIANT = "ENUM takes a variant's name or a dict of one variant"
-# A column's format, and what is said where a value isn't accepted there.
+# A column's format, and the message if a value isn't accepted there.
 COLUMNS: dict[str, tuple[Any, str]] = {
     **{word: (f'"{word}"', f"{word} takes an int") for word in WIDTHS},
     **{word: (f'"{word}"', "Unsupported") for word in UNSUPPORTED},

@@ -1,7 +1,11 @@
 //! Makes the calls that are asked for on standard input, a line each, and answers each by a line. `tests/rows` starts
 //! it, and asks it the rows of the repository's tests.
-use bcs_proved::{Error, ErrorKind, Form, Format, Limits, Part, Registry};
+use bcs_proved::{
+    Error, ErrorKind, Explanation, Form, Format, Limits, MadeRegistry, Part, Registry, Views, registry_of_modules,
+};
 use std::io::{self, BufRead, Write};
+
+const UNSAYABLE: &str = "unsayable";
 
 fn main() -> io::Result<()> {
     let mut output = io::stdout().lock();
@@ -16,12 +20,17 @@ fn main() -> io::Result<()> {
 fn answer(line: &str) -> String {
     let mut words = Words(line.split('\t'));
     let told = match words.next() {
-        "fault_name" => return "unsayable".into(),
+        "fault_name" => return UNSAYABLE.into(),
         "grows" => grows(words),
         "registry_place" => place(Registry::read(words.bytes()).err(), words.next()),
+        "registry_of_modules" => made(&mut words).map_or_else(|error| Told::error(error, "registry"), Told::made),
+        "modules_place" => place(made(&mut words).err(), words.next()),
         call => ask(call, words).unwrap_or_else(|error| Told::error(error, "registry")),
     };
     let Told { status, fault, place, length, output } = told;
+    if status == UNSAYABLE {
+        return status.into();
+    }
     format!("{status}\t{}\t{place}\t{length}\t{}", fault.unwrap_or("-"), digits(&output))
 }
 
@@ -74,6 +83,11 @@ impl Told {
         Told { length: output.len(), output, ..Told::done() }
     }
 
+    fn made(MadeRegistry { json, notes }: MadeRegistry) -> Told {
+        let notes = if notes.is_empty() { notes } else { format!("\n{notes}") };
+        Told::output(format!("{json}{notes}").into())
+    }
+
     /// `registry` is the status where a registry is refused.
     fn error(error: Error, registry: &'static str) -> Told {
         let status = match error.kind() {
@@ -81,6 +95,8 @@ impl Told {
             ErrorKind::Format(_) => "format",
             ErrorKind::Limits => "limits",
             ErrorKind::Growth(_) | ErrorKind::Text(_) | ErrorKind::Bytes(_) | ErrorKind::TooNested => "refused",
+            ErrorKind::Modules(_) => "refused",
+            ErrorKind::NoContent => "refused",
             ErrorKind::Path => "path",
             ErrorKind::Memory => "memory",
             ErrorKind::Stack => "stack",
@@ -101,6 +117,13 @@ fn grows(mut words: Words) -> Told {
     }
 }
 
+/// The registry for types, which the line has one below the other.
+fn made(words: &mut Words) -> Result<MadeRegistry, Error> {
+    let modules = words.bytes();
+    let types = String::from_utf8(words.bytes()).expect("types are UTF-8");
+    registry_of_modules(modules, types.split_terminator('\n'))
+}
+
 fn ask(call: &str, mut words: Words) -> Result<Told, Error> {
     let registry = Registry::read(words.bytes())?;
     let format = &Format::json(words.bytes());
@@ -119,6 +142,8 @@ fn ask(call: &str, mut words: Words) -> Result<Told, Error> {
         "scan" => Told { length: registry.scan(format, input)?, ..Told::done() },
         "part" => part(&registry, format, &input, &words.bytes())?,
         "part_named" => part_named(&registry, format, &input, &words.bytes(), words.next())?,
+        "content" => content(&registry, format, &input, &words.bytes(), words.next())?,
+        "explain_with" => explain_with(&registry, format, &input, words.next(), &words.bytes())?,
         "explain" => explain(&registry, format, &input, words.next())?,
         "text_place" => text_place(&registry, format, &input, words.next()),
         "stop_place" => stop_place(&registry, format, &input, words.next()),
@@ -154,7 +179,7 @@ fn place(refused: Option<Error>, what: &str) -> Told {
         }
         (_, "where") => error.at(),
         (_, "wanted") => error.at().map(|_| error.message()),
-        _ => panic!("nothing is told that is named {what}"),
+        _ => panic!("there is no place called {what}"),
     };
     told.map_or(Told::yes_or_no(false), |words| Told::output(words.into()))
 }
@@ -172,6 +197,16 @@ fn part_named(registry: &Registry, format: &Format, input: &[u8], name: &[u8], n
     Ok(told_of_part(part, input))
 }
 
+fn content(registry: &Registry, format: &Format, input: &[u8], name: &[u8], notation: &str) -> Result<Told, Error> {
+    let part = match notation {
+        "steps" => registry.content(format, input, name)?,
+        "name" => registry.content_by_name(format, input, name)?,
+        "pointer" => registry.content_by_pointer(format, input, name)?,
+        _ => panic!("no notation is named {notation}"),
+    };
+    Ok(told_of_part(part, input))
+}
+
 fn told_of_part(part: Option<Part<'_>>, input: &[u8]) -> Told {
     let Some(part) = part else {
         return Told::yes_or_no(false);
@@ -180,18 +215,56 @@ fn told_of_part(part: Option<Part<'_>>, input: &[u8]) -> Told {
     Told { place: part.place, length: part.bytes.len(), ..Told::done() }
 }
 
-fn explain(registry: &Registry, format: &Format, input: &[u8], form: &str) -> Result<Told, Error> {
-    let form = match form {
+/// The views of lines such as `inside NAME=FORMAT`. One without a format or a function can't be made.
+fn views_of(lines: &str) -> Option<Views> {
+    lines.split_terminator('\n').try_fold(Views::new(), |views, line| {
+        let (word, rest) = line.split_once(' ')?;
+        Some(match word {
+            "address" => views.address(rest),
+            "u256" => views.u256(rest),
+            "i256" => views.i256(rest),
+            _ => {
+                let (name, of) = rest.split_at(end_of_name(rest)?);
+                if word == "call" { views.call(name, &of[1..]) } else { views.inside(name, &of[1..]) }
+            }
+        })
+    })
+}
+
+/// Where the first `=` outside quotes is.
+fn end_of_name(view: &str) -> Option<usize> {
+    let mut is_quoted = false;
+    view.find(|sign| {
+        is_quoted ^= sign == '"';
+        sign == '=' && !is_quoted
+    })
+}
+
+fn form_of(word: &str) -> Form {
+    match word {
         "ways" => Form::Ways,
         "paths" => Form::Paths,
         "tree" => Form::Tree,
         "json" => Form::Json,
-        _ => panic!("no form is named {form}"),
-    };
-    let explanation = registry.explain_text(format, input, form)?;
+        _ => panic!("no form is named {word}"),
+    }
+}
+
+fn explain_with(registry: &Registry, format: &Format, input: &[u8], form: &str, views: &[u8]) -> Result<Told, Error> {
+    match views_of(std::str::from_utf8(views).expect("views are UTF-8")) {
+        Some(views) => Ok(told_of(registry.explain_text_with(format, input, form_of(form), &views)?)),
+        None => Ok(Told { status: UNSAYABLE, ..Told::default() }),
+    }
+}
+
+fn explain(registry: &Registry, format: &Format, input: &[u8], form: &str) -> Result<Told, Error> {
+    Ok(told_of(registry.explain_text(format, input, form_of(form))?))
+}
+
+fn told_of(explanation: Explanation) -> Told {
     let told = Told::output(explanation.text.into());
-    Ok(match explanation.stop {
+    match explanation.stop {
         Some(stop) => Told { fault: Some(stop.reason.name()), place: stop.place, ..told },
         None => told,
-    })
+    }
 }

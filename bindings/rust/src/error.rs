@@ -1,4 +1,4 @@
-use crate::faults::{ExampleFault, GrowthFault, Reason, RegistryFault, Stop, TextFault};
+use crate::faults::{ExampleFault, GrowthFault, ModulesFault, Reason, RegistryFault, Stop, TextFault};
 use crate::sys::{self, Answer};
 use std::fmt;
 
@@ -50,10 +50,14 @@ pub enum ErrorKind {
     Bytes(Stop),
     /// The bytes are a value, but its JSON would nest more than 100 deep.
     TooNested,
-    /// The path, name or pointer of a part is invalid.
+    /// The path, name or pointer of a part is invalid, or a view of [`Views`](crate::Views).
     Path,
+    /// The part isn't a byte string: `BYTES`, `STR`, or a list or an array of `U8`.
+    NoContent,
     /// The format has no such example.
     Example(ExampleFault),
+    /// The modules of a Move chain, or a type that is requested of them, give no registry.
+    Modules(ModulesFault),
     /// A value of a `serde` type isn't of the format, or a value of the format isn't of the type: with the feature `serde_json`.
     Value,
     /// The thread has too little stack left for a value that nests so deep. On a thread with more stack the call may succeed.
@@ -80,8 +84,8 @@ impl Error {
 
     /// Where it is refused. In JSON, in a format and in a `serde` value it is a JSON Pointer (RFC 6901) such as `/payload/args/1`,
     /// which is empty if the whole is refused. In bytes it is the field path, such as `.payload.args[1]`. In a registry, and in two
-    /// that don't grow, it is a definition, such as `Shape, field side`, and in a path a step, such as `step 2 x`. Names are as they
-    /// are, never escaped or cut.
+    /// that don't grow, it is a definition, such as `Shape, field side`, and in a path a step, such as `step 2 x`. In modules it is a
+    /// JSON Pointer, or the type that was requested. Names are as they are, never escaped or cut.
     pub fn at(&self) -> Option<&str> {
         self.found.as_deref().map(|found| found.at.as_str())
     }
@@ -99,6 +103,11 @@ impl Error {
         ErrorKind::of(answer).into()
     }
 
+    /// The same error with what was expected of the whole.
+    pub(crate) fn expected(self, what: &str) -> Error {
+        self.found(Some((String::new(), format!("expected {what}"))))
+    }
+
     /// The same error with its location and message, if they are known.
     pub(crate) fn found(mut self, found: Option<(String, String)>) -> Error {
         self.found = found.map(|(at, message)| Box::new(Found { at, message }));
@@ -108,7 +117,7 @@ impl Error {
 
 impl ErrorKind {
     /// The name of the kind, which is the same in all languages: `registry`, `format`, `limits`, `growth`, `text`, `bytes`,
-    /// `path`, `example`, `value`, `stack` or `memory`.
+    /// `path`, `example`, `modules`, `value`, `stack` or `memory`.
     pub const fn name(&self) -> &'static str {
         match self {
             ErrorKind::Registry(_) => "registry",
@@ -117,8 +126,9 @@ impl ErrorKind {
             ErrorKind::Growth(_) => "growth",
             ErrorKind::Text(_) => "text",
             ErrorKind::Bytes(_) | ErrorKind::TooNested => "bytes",
-            ErrorKind::Path => "path",
+            ErrorKind::Path | ErrorKind::NoContent => "path",
             ErrorKind::Example(_) => "example",
+            ErrorKind::Modules(_) => "modules",
             ErrorKind::Value => "value",
             ErrorKind::Stack => "stack",
             ErrorKind::Memory => "memory",
@@ -134,7 +144,9 @@ impl ErrorKind {
             ErrorKind::Bytes(stop) => Some(stop.reason.name()),
             ErrorKind::TooNested => Some("TooNested"),
             ErrorKind::Path => Some("BadPath"),
+            ErrorKind::NoContent => Some("NoContent"),
             ErrorKind::Example(fault) => Some(fault.name()),
+            ErrorKind::Modules(fault) => Some(fault.name()),
             ErrorKind::Value => Some("WrongType"),
             ErrorKind::Limits | ErrorKind::Stack | ErrorKind::Memory => None,
         }
@@ -158,7 +170,9 @@ impl ErrorKind {
             ErrorKind::Bytes(stop) => stop.reason.meaning(),
             ErrorKind::TooNested => "the value's JSON would nest more than 100 deep",
             ErrorKind::Path => "not a path, a name or a pointer of a part",
+            ErrorKind::NoContent => "expected a part that is BYTES, STR, or a list or an array of U8",
             ErrorKind::Example(fault) => fault.meaning(),
+            ErrorKind::Modules(fault) => fault.meaning(),
             ErrorKind::Value => "the value and the format don't fit",
             ErrorKind::Stack => "the thread has too little stack left",
             ErrorKind::Memory => "out of memory",
@@ -182,14 +196,17 @@ impl ErrorKind {
 
 /// What an input is refused for.
 fn refusal(answer: Answer) -> Option<ErrorKind> {
-    if answer.fault == sys::SHOWN_TOO_NESTED {
-        return Some(ErrorKind::TooNested);
+    match answer.fault {
+        sys::SHOWN_TOO_NESTED => return Some(ErrorKind::TooNested),
+        sys::NO_CONTENT => return Some(ErrorKind::NoContent),
+        _ => {}
     }
     stop(answer)
         .map(ErrorKind::Bytes)
         .or_else(|| TextFault::of(answer.fault).map(ErrorKind::Text))
         .or_else(|| GrowthFault::of(answer.fault).map(ErrorKind::Growth))
         .or_else(|| ExampleFault::of(answer.fault).map(ErrorKind::Example))
+        .or_else(|| ModulesFault::of(answer.fault).map(ErrorKind::Modules))
 }
 
 /// Where bytes stop being a value, if the answer says that they do.

@@ -13,7 +13,7 @@ pub enum Form {
     Ways,
     /// The same, and the path that [`Registry::part`](crate::Registry::part) takes.
     Paths,
-    /// A tree: each piece is set in by how deep it stands.
+    /// A tree: each piece is indented by its depth.
     Tree,
     /// A JSON object on each line.
     Json,
@@ -76,7 +76,7 @@ pub struct Pieces {
 }
 
 impl Pieces {
-    /// What the library explains as JSON, an object a line: the last tells the end, or the stop.
+    /// What the library explains as JSON, an object per line: the last is the end, or the stop.
     pub(crate) fn of(explanation: &Explanation) -> Pieces {
         let mut lines: Vec<&str> = explanation.text.lines().collect();
         lines.pop();

@@ -111,6 +111,26 @@ faults! {
     }
 }
 
+faults! {
+    /// Why there is no registry for types of Move modules.
+    ModulesFault {
+        NotJson = 801: "the modules aren't JSON in UTF-8, or nest too deep to be read",
+        RepeatedMember = 802: "an object has two members with the same name",
+        NotModules = 803: "the JSON isn't that of modules",
+        ChainError = 804: "the chain returned an error",
+        MixedChains = 805: "there are modules of Aptos and of Sui",
+        RepeatedName = 806: "two modules that differ, two declarations of a module, or two fields have the same name",
+        BadType = 807: "this isn't a type, a name or an address of Move, or there is no such type parameter",
+        MissingModule = 808: "modules are needed and missing",
+        UnknownName = 809: "the module has no such type or function",
+        WrongCount = 810: "the number of type arguments isn't that of the type parameters",
+        NoBytes = 811: "a reference, a signer, a function value or a native struct has no bytes",
+        UnknownVariants = 812: "the chain doesn't return the variants of this enum, or their numbers",
+        NotStandard = 813: "a type of the standard library is declared in another way",
+        TooLarge = 814: "types nest too deep, are too long or too many",
+    }
+}
+
 /// Where bytes stop being a value, and why.
 #[derive(Clone, Copy, Debug, PartialEq, Eq, Hash)]
 pub struct Stop {

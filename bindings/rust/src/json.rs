@@ -30,7 +30,7 @@ pub(crate) enum Json {
     Other,
 }
 
-/// The members of the one object that a text is, as they stand there. `None`: it isn't one.
+/// The members of the JSON object in a text, in its order. `None`: it isn't one object.
 pub(crate) fn members(text: &str) -> Option<Vec<(String, Json)>> {
     let mut reader = Reader { rest: text };
     let mut found = Vec::new();

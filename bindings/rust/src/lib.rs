@@ -14,13 +14,14 @@
 //! # Ok::<(), bcs_proved::Error>(())
 //! ```
 //!
-//! A registry stands in a file mostly, as `Registry::read(include_str!("registry.json"))?` or
+//! A registry is mostly in a file, as in `Registry::read(include_str!("registry.json"))?` or
 //! `Registry::read(std::fs::read("registry.json")?)?`.
 //!
 //! With the feature `serde_json`, `Registry::encode` and `Registry::decode` take and return values of your own `serde` types.
 
 #[cfg(feature = "serde_json")]
 mod address;
+mod answers;
 #[cfg(feature = "serde_json")]
 pub mod bytes;
 mod error;
@@ -34,6 +35,7 @@ mod json;
 mod limits;
 #[cfg(feature = "serde_json")]
 mod mismatch;
+mod modules;
 #[cfg(feature = "serde_json")]
 mod normal;
 mod places;
@@ -49,6 +51,7 @@ mod shapes;
 mod sys;
 #[cfg(feature = "serde_json")]
 mod values;
+mod views;
 #[cfg(feature = "serde_json")]
 mod wide_integers;
 
@@ -58,10 +61,12 @@ pub use address::{Address, ParseError};
 pub use bytes::{Bytes, Hex};
 pub use error::{Error, ErrorKind};
 pub use explanation::{Explanation, Form, Piece, Pieces};
-pub use faults::{ExampleFault, GrowthFault, Reason, RegistryFault, Stop, TextFault};
+pub use faults::{ExampleFault, GrowthFault, ModulesFault, Reason, RegistryFault, Stop, TextFault};
 pub use format::Format;
 pub use limits::Limits;
+pub use modules::{MadeRegistry, registry_of_modules};
 pub use registry::{Example, Part, Registry};
+pub use views::Views;
 #[cfg(feature = "serde_json")]
 pub use wide_integers::{I256, OutOfRange, U256};
 

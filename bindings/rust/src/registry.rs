@@ -1,10 +1,11 @@
+use crate::answers::{done, done_unless_no, fill, found, into_text};
 use crate::error::{Error, ErrorKind, stop};
 use crate::explanation::{Explanation, Form, Pieces};
 use crate::format::Format;
 use crate::json;
 use crate::limits::Limits;
-use crate::places::location_and_message;
 use crate::sys::{self, Answer, Open, Question};
+use crate::views::Views;
 use std::collections::HashSet;
 use std::fmt;
 use std::sync::Arc;
@@ -20,7 +21,7 @@ use std::sync::Arc;
 /// that; a few bytes that encode millions of empty values are rejected as `TooManyNodes`.
 #[derive(Clone)]
 pub struct Registry {
-    open: Arc<Open>,
+    pub(crate) open: Arc<Open>,
     limits: Limits,
     #[cfg(feature = "serde_json")]
     pub(crate) shapes: Arc<std::sync::OnceLock<crate::shapes::Shapes>>,
@@ -331,13 +332,9 @@ impl Registry {
         bytes: &'b (impl AsRef<[u8]> + ?Sized),
         path: impl AsRef<[u8]>,
     ) -> Result<Option<Part<'b>>, Error> {
-        let (format, bytes) = (format.into(), bytes.as_ref());
-        let (path, question) = (path.as_ref(), self.of_bytes(&format, bytes));
-        let found = done_unless_no(self.open.part(question, bytes, path)).map_err(|error| match error.kind() {
-            ErrorKind::Path => found(error, |out| sys::path_place(path, out)),
-            _ => self.in_bytes(error, &format, bytes),
-        });
-        Ok(found?.map(|answer| Part::of(answer, bytes)))
+        let (format, bytes, path) = (format.into(), bytes.as_ref(), path.as_ref());
+        let answer = self.open.part(self.of_bytes(&format, bytes), bytes, path);
+        self.part_of(answer, &format, bytes, sys::STEPS, path)
     }
 
     /// Like [`Registry::part`], with the name of the part, as [`Registry::explain`] prints it. `.` is the whole value.
@@ -387,19 +384,97 @@ impl Registry {
         notation: u32,
         name: &[u8],
     ) -> Result<Option<Part<'b>>, Error> {
-        let expected = match notation {
-            sys::NAME => "expected a name such as .payload.args[1]",
-            _ => "expected a JSON Pointer such as /payload/args/1",
-        };
         let answer = self.open.part_named(self.of_bytes(format, bytes), notation, name, bytes);
-        let found = done_unless_no(answer).map_err(|error| match error.kind() {
-            ErrorKind::Path => error.found(Some((String::new(), expected.to_owned()))),
-            _ => self.in_bytes(error, format, bytes),
-        });
-        Ok(found?.map(|answer| Part::of(answer, bytes)))
+        self.part_of(answer, format, bytes, notation, name)
     }
 
-    /// What the bytes are, piece by piece. Damage is no error here: it is told beside the pieces that stand before it.
+    /// The content of the byte string to which a path leads: its bytes without the length before them. The part has to be of
+    /// the format `BYTES`, `STR`, or a list or an array of `U8`; any other is refused as [`ErrorKind::NoContent`].
+    ///
+    /// ```
+    /// use bcs_proved::{ErrorKind, Registry};
+    ///
+    /// let registry = Registry::read(r#"{"Payment":{"STRUCT":[{"to":"STR"},{"amount":"U64"}]}}"#)?;
+    /// let bytes = b"\x03bob\x07\0\0\0\0\0\0\0";
+    /// let to = registry.content("Payment", bytes, "inner/0")?.unwrap();
+    /// assert_eq!((to.place, to.bytes), (1, &b"bob"[..]));
+    /// assert_eq!(registry.content("Payment", bytes, "inner/2")?, None);
+    /// assert_eq!(registry.content("Payment", bytes, "inner/1").unwrap_err(), ErrorKind::NoContent);
+    /// # Ok::<(), bcs_proved::Error>(())
+    /// ```
+    pub fn content<'b>(
+        &self,
+        format: impl Into<Format>,
+        bytes: &'b (impl AsRef<[u8]> + ?Sized),
+        path: impl AsRef<[u8]>,
+    ) -> Result<Option<Part<'b>>, Error> {
+        self.content_named(&format.into(), bytes.as_ref(), sys::STEPS, path.as_ref())
+    }
+
+    /// Like [`Registry::content`], with the name of the part, as [`Registry::explain`] prints it.
+    ///
+    /// ```
+    /// let registry = bcs_proved::Registry::read(r#"{"Payment":{"STRUCT":[{"to":"STR"},{"amount":"U64"}]}}"#)?;
+    /// let bytes = b"\x03bob\x07\0\0\0\0\0\0\0";
+    /// assert_eq!(registry.content_by_name("Payment", bytes, ".to")?.unwrap().bytes, b"bob");
+    /// # Ok::<(), bcs_proved::Error>(())
+    /// ```
+    pub fn content_by_name<'b>(
+        &self,
+        format: impl Into<Format>,
+        bytes: &'b (impl AsRef<[u8]> + ?Sized),
+        name: impl AsRef<[u8]>,
+    ) -> Result<Option<Part<'b>>, Error> {
+        self.content_named(&format.into(), bytes.as_ref(), sys::NAME, name.as_ref())
+    }
+
+    /// Like [`Registry::content`], with a JSON Pointer into the value's JSON.
+    ///
+    /// ```
+    /// let registry = bcs_proved::Registry::read(r#"{"Payment":{"STRUCT":[{"to":"STR"},{"amount":"U64"}]}}"#)?;
+    /// let bytes = b"\x03bob\x07\0\0\0\0\0\0\0";
+    /// assert_eq!(registry.content_by_pointer("Payment", bytes, "/to")?.unwrap().bytes, b"bob");
+    /// # Ok::<(), bcs_proved::Error>(())
+    /// ```
+    pub fn content_by_pointer<'b>(
+        &self,
+        format: impl Into<Format>,
+        bytes: &'b (impl AsRef<[u8]> + ?Sized),
+        pointer: impl AsRef<[u8]>,
+    ) -> Result<Option<Part<'b>>, Error> {
+        self.content_named(&format.into(), bytes.as_ref(), sys::POINTER, pointer.as_ref())
+    }
+
+    fn content_named<'b>(
+        &self,
+        format: &Format,
+        bytes: &'b [u8],
+        notation: u32,
+        name: &[u8],
+    ) -> Result<Option<Part<'b>>, Error> {
+        let answer = self.open.content(self.of_bytes(format, bytes), notation, name, bytes);
+        self.part_of(answer, format, bytes, notation, name)
+    }
+
+    /// The part that a call found by this name, or its error.
+    fn part_of<'b>(
+        &self,
+        answer: Answer,
+        format: &Format,
+        bytes: &'b [u8],
+        notation: u32,
+        name: &[u8],
+    ) -> Result<Option<Part<'b>>, Error> {
+        let part = done_unless_no(answer).map_err(|error| match (error.kind(), notation) {
+            (ErrorKind::Path, sys::STEPS) => found(error, |out| sys::path_place(name, out)),
+            (ErrorKind::Path, sys::NAME) => error.expected("a name such as .payload.args[1]"),
+            (ErrorKind::Path, _) => error.expected("a JSON Pointer such as /payload/args/1"),
+            _ => self.in_bytes(error, format, bytes),
+        });
+        Ok(part?.map(|answer| Part::of(answer, bytes)))
+    }
+
+    /// The bytes, piece by piece. Invalid bytes aren't an error here: the stop follows the pieces before it.
     ///
     /// ```
     /// use bcs_proved::Registry;
@@ -415,7 +490,7 @@ impl Registry {
         Ok(Pieces::of(&self.explain_text(format, bytes, Form::Json)?))
     }
 
-    /// The same as a text for people to read, which tells damage behind the pieces that stand before it.
+    /// The same as text for people, in which the stop follows the pieces before it.
     ///
     /// ```
     /// use bcs_proved::{Form, Registry};
@@ -434,11 +509,53 @@ impl Registry {
         form: Form,
     ) -> Result<Explanation, Error> {
         let (format, bytes) = (format.into(), bytes.as_ref());
-        // A line of some 110 signs may tell a single byte, and mostly tells more.
+        // A line of some 110 characters describes at least one byte, and mostly more.
         let room = bytes.len().saturating_mul(24).saturating_add(1024);
         let question = self.of_bytes(&format, bytes);
         let explained = fill(room, |out| self.open.explain(question, form.number(), bytes, out));
         let (text, answer) = explained.map_err(|error| self.in_format(error, &format))?;
+        Ok(Explanation { text: into_text(text), stop: stop(answer) })
+    }
+
+    /// What the bytes are, piece by piece, also inside of byte strings, as the [`Views`] say.
+    ///
+    /// ```
+    /// use bcs_proved::{Registry, Views};
+    ///
+    /// let registry = Registry::read(r#"{"Sealed":{"STRUCT":[{"of":"BYTES"}]}}"#)?;
+    /// let found = registry.explain_with("Sealed", [2, 7, 8], &Views::new().inside(".of", r#"{"TUPLE":["U8","U8"]}"#))?;
+    /// let told: Vec<_> = found.pieces.iter().map(|it| (it.place, it.name.as_str(), it.value.as_str())).collect();
+    /// assert_eq!(told[1..], [(1, ".of[bcs][0]", "7"), (2, ".of[bcs][1]", "8")]);
+    /// # Ok::<(), bcs_proved::Error>(())
+    /// ```
+    pub fn explain_with(
+        &self,
+        format: impl Into<Format>,
+        bytes: impl AsRef<[u8]>,
+        views: &Views,
+    ) -> Result<Pieces, Error> {
+        Ok(Pieces::of(&self.explain_text_with(format, bytes, Form::Json, views)?))
+    }
+
+    /// The same as a text for people to read.
+    pub fn explain_text_with(
+        &self,
+        format: impl Into<Format>,
+        bytes: impl AsRef<[u8]>,
+        form: Form,
+        views: &Views,
+    ) -> Result<Explanation, Error> {
+        let (format, bytes, lines) = (format.into(), bytes.as_ref(), views.lines()?);
+        let room = bytes.len().saturating_mul(24).saturating_add(1024);
+        let question = self.of_bytes(&format, bytes);
+        let explained = fill(room, |out| self.open.explain_with(question, form.number(), &lines, bytes, out));
+        let (text, answer) = explained.map_err(|error| match error.kind() {
+            ErrorKind::Path => error.expected("views with names such as .payload.args[1]"),
+            _ => views.formats().fold(self.in_format(error, &format), |error, inside| match error.at() {
+                None => self.in_format(error, inside),
+                Some(_) => error,
+            }),
+        })?;
         Ok(Explanation { text: into_text(text), stop: stop(answer) })
     }
 
@@ -521,57 +638,4 @@ impl<'b> Part<'b> {
         let place = sys::to_place(answer.place);
         Part { place, bytes: &bytes[place..place + answer.length] }
     }
-}
-
-fn done(answer: Answer) -> Result<Answer, Error> {
-    match answer.status {
-        sys::DONE => Ok(answer),
-        _ => Err(Error::of(answer)),
-    }
-}
-
-fn done_unless_no(answer: Answer) -> Result<Option<Answer>, Error> {
-    match answer.status {
-        sys::NO => Ok(None),
-        _ => done(answer).map(Some),
-    }
-}
-
-/// The output of a call that is done.
-fn fill(room: usize, call: impl Fn(&mut [u8]) -> Answer) -> Result<(Vec<u8>, Answer), Error> {
-    let (out, answer) = put(room, call)?;
-    Ok((out, done(answer)?))
-}
-
-/// Makes a call with an output that has `room`, and once more with as much as it asks for where that is too short.
-fn put(room: usize, call: impl Fn(&mut [u8]) -> Answer) -> Result<(Vec<u8>, Answer), Error> {
-    let mut out = Vec::new();
-    let mut room = room;
-    loop {
-        let missing = room.saturating_sub(out.len());
-        out.try_reserve_exact(missing).map_err(|_| ErrorKind::Memory)?;
-        out.resize(room, 0);
-        let answer = call(&mut out);
-        if answer.status != sys::SHORT {
-            out.truncate(answer.length);
-            return Ok((out, answer));
-        }
-        room = answer.length;
-    }
-}
-
-/// What a call writes about a refusal, if it does.
-fn written(call: impl Fn(&mut [u8]) -> Answer) -> Option<String> {
-    let (text, answer) = put(200, call).ok()?;
-    (answer.status == sys::DONE).then(|| into_text(text))
-}
-
-/// The error with the location and the message that a call reports.
-fn found(error: Error, call: impl Fn(&mut [u8]) -> Answer) -> Error {
-    let found = written(call).and_then(|report| location_and_message(&report));
-    error.found(found)
-}
-
-fn into_text(text: Vec<u8>) -> String {
-    String::from_utf8(text).expect("texts of the library are UTF-8")
 }

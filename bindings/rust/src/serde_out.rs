@@ -18,7 +18,7 @@ pub(crate) fn json_of<T: Serialize + ?Sized>(value: &T, at: At) -> Result<String
 /// How deep arrays and objects may nest, which the library checks, too. Here it keeps a value from exhausting the stack.
 const NESTING: u32 = 100;
 
-/// What the library rejects wherever it is: it stands where a value is rejected in any case.
+/// What the library rejects wherever it is: it replaces a value that is rejected in any case.
 const NO_VALUE: &str = "0.5";
 
 /// What a value is.

@@ -27,11 +27,13 @@ pub(crate) const LEAST: u32 = 0;
 pub(crate) const FULL: u32 = 1;
 
 // How the name of a part is written: `enum bcs_notation`.
+pub(crate) const STEPS: u32 = 0;
 pub(crate) const NAME: u32 = 1;
 pub(crate) const POINTER: u32 = 2;
 
-/// The one fault of `enum bcs_fault` that belongs to no enum of `faults`, beside that of a path, which its status tells.
+// The faults of `enum bcs_fault` that belong to no enum of `faults`, except that of a path, which its status implies.
 pub(crate) const SHOWN_TOO_NESTED: u32 = 501;
+pub(crate) const NO_CONTENT: u32 = 602;
 
 /// `bcs_handle`: an open registry. Only the library looks inside.
 #[repr(C)]
@@ -132,6 +134,32 @@ unsafe extern "C" {
         bytes: *const u8,
         bytes_length: usize,
     ) -> Answer;
+    fn bcs_handle_content(
+        handle: *mut Handle,
+        format: *const u8,
+        format_length: usize,
+        depth: u32,
+        nodes: u32,
+        notation: u32,
+        name: *const u8,
+        name_length: usize,
+        bytes: *const u8,
+        bytes_length: usize,
+    ) -> Answer;
+    fn bcs_handle_explain_with(
+        handle: *mut Handle,
+        format: *const u8,
+        format_length: usize,
+        depth: u32,
+        nodes: u32,
+        form: u32,
+        views: *const u8,
+        views_length: usize,
+        bytes: *const u8,
+        bytes_length: usize,
+        out: *mut u8,
+        out_length: usize,
+    ) -> Answer;
     fn bcs_handle_explain(
         handle: *mut Handle,
         format: *const u8,
@@ -220,6 +248,22 @@ unsafe extern "C" {
         out_length: usize,
     ) -> Answer;
     fn bcs_registry_refusal(registry: *const u8, registry_length: usize, out: *mut u8, out_length: usize) -> Answer;
+    fn bcs_registry_of_modules(
+        modules: *const u8,
+        modules_length: usize,
+        types: *const u8,
+        types_length: usize,
+        out: *mut u8,
+        out_length: usize,
+    ) -> Answer;
+    fn bcs_modules_place(
+        modules: *const u8,
+        modules_length: usize,
+        types: *const u8,
+        types_length: usize,
+        out: *mut u8,
+        out_length: usize,
+    ) -> Answer;
     #[cfg(test)]
     fn bcs_fault_name(fault: u32, out: *mut u8, out_length: usize) -> Answer;
 }
@@ -335,6 +379,38 @@ impl Open {
         unsafe { ask!(bcs_handle_part_named(self, question, notation, name, length, bytes.as_ptr(), bytes.len())) }
     }
 
+    pub(crate) fn content(&self, question: Question, notation: u32, name: &[u8], bytes: &[u8]) -> Answer {
+        let (name, length) = (name.as_ptr(), name.len());
+        // SAFETY: the handle is open, and the slices are borrowed for the call.
+        unsafe { ask!(bcs_handle_content(self, question, notation, name, length, bytes.as_ptr(), bytes.len())) }
+    }
+
+    pub(crate) fn explain_with(
+        &self,
+        question: Question,
+        form: u32,
+        views: &[u8],
+        bytes: &[u8],
+        out: &mut [u8],
+    ) -> Answer {
+        let (views, length) = (views.as_ptr(), views.len());
+        let (bytes, bytes_length) = (bytes.as_ptr(), bytes.len());
+        // SAFETY: the handle is open, and the slices are borrowed for the call, `out` for writing.
+        unsafe {
+            ask!(bcs_handle_explain_with(
+                self,
+                question,
+                form,
+                views,
+                length,
+                bytes,
+                bytes_length,
+                out.as_mut_ptr(),
+                out.len()
+            ))
+        }
+    }
+
     pub(crate) fn explain(&self, question: Question, form: u32, bytes: &[u8], out: &mut [u8]) -> Answer {
         // SAFETY: the handle is open, and the slices are borrowed for the call, `out` for writing.
         unsafe {
@@ -407,6 +483,20 @@ pub(crate) fn path_place(path: &[u8], out: &mut [u8]) -> Answer {
 pub(crate) fn registry_refusal(text: &[u8], out: &mut [u8]) -> Answer {
     // SAFETY: the slices are borrowed for the call, `out` alone for writing.
     unsafe { bcs_registry_refusal(text.as_ptr(), text.len(), out.as_mut_ptr(), out.len()) }
+}
+
+pub(crate) fn registry_of_modules(modules: &[u8], types: &[u8], out: &mut [u8]) -> Answer {
+    let (length, types_length) = (modules.len(), types.len());
+    // SAFETY: the slices are borrowed for the call, `out` alone for writing.
+    unsafe {
+        bcs_registry_of_modules(modules.as_ptr(), length, types.as_ptr(), types_length, out.as_mut_ptr(), out.len())
+    }
+}
+
+pub(crate) fn modules_place(modules: &[u8], types: &[u8], out: &mut [u8]) -> Answer {
+    let (length, types_length) = (modules.len(), types.len());
+    // SAFETY: the slices are borrowed for the call, `out` alone for writing.
+    unsafe { bcs_modules_place(modules.as_ptr(), length, types.as_ptr(), types_length, out.as_mut_ptr(), out.len()) }
 }
 
 /// A place in bytes that are in memory.

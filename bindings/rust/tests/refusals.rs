@@ -1,4 +1,4 @@
-//! What is refused, with the fault's name and its place. The faults are those that docs/FORMAT.md tells.
+//! What is refused, with the fault's name and its place. The faults are those of docs/ENCODING.md and docs/JSON.md.
 use bcs_proved::{
     Error, ErrorKind, Example, Form, Format, GrowthFault, Limits, Reason, Registry, RegistryFault, Stop, TextFault,
 };
@@ -155,7 +155,7 @@ fn damaged_transactions_are_refused() {
 fn a_text_that_would_nest_too_deep_is_refused() {
     let text = r#"{"Chain":{"STRUCT":[{"next":{"OPTION":{"TYPENAME":"Chain"}}}]}}"#;
     let registry = Registry::read(text).unwrap();
-    // A link is an object, and one more stands between two: `some`. So 50 links nest 99 deep, and 51 nest 101 deep.
+    // A link is an object, and between two there is one more: `some`. So 50 links nest 99 deep, and 51 nest 101 deep.
     let chain = |links: usize| [vec![1; links - 1], vec![0]].concat();
     assert!(registry.decode_json("Chain", chain(50)).is_ok());
     assert_eq!(registry.decode_json("Chain", chain(51)).unwrap_err(), ErrorKind::TooNested);

@@ -265,7 +265,7 @@ impl Random {
     }
 }
 
-/// The encoding as docs/FORMAT.md has it, of lengths below 16384.
+/// The encoding as docs/ENCODING.md has it, of lengths below 16384.
 fn length(count: usize) -> Vec<u8> {
     if count < 128 { vec![count as u8] } else { vec![count as u8 | 128, (count >> 7) as u8] }
 }

@@ -1,4 +1,4 @@
-//! The deepest values on the stacks that README.md tells.
+//! The deepest values on the stacks that README.md names.
 use bcs_proved::{ErrorKind, Limits, Registry};
 use std::thread;
 

@@ -113,6 +113,12 @@ static const struct {
     {"select bcs_part_by_name(" REGISTRY ",'A',x'0701036F6E65','.y[1]')", "null"},
     {"select hex(bcs_part_by_pointer(" REGISTRY ",'A',x'0701036F6E65','/y/0'))", "036F6E65"},
     {"select bcs_part_by_pointer(" REGISTRY ",'A',x'0701036F6E65','/z')", "null"},
+    {"select hex(bcs_content(" REGISTRY ",'A',x'0701036F6E65','inner/1/0'))", "6F6E65"},
+    {"select hex(bcs_content_by_name(" REGISTRY ",'A',x'0701036F6E65','.y[0]'))", "6F6E65"},
+    {"select hex(bcs_content_by_pointer(" REGISTRY ",'A',x'0701036F6E65','/y/0'))", "6F6E65"},
+    {"select bcs_content(" REGISTRY ",'A',x'0701036F6E65','inner/1/1')", "null"},
+    {"select bcs_content(" REGISTRY ",'A',x'0701036F6E65','inner/0')",
+     "bcs: refused: NoContent: the part isn't BYTES, STR, or a list or an array of U8"},
     {"select bcs_scan(" REGISTRY ",'A',x'0701036F6E6500')", "6"},
     {"select bcs_is(" REGISTRY ",'A',x'0701036F6E6500')", "0"},
     {"select bcs_fault(" REGISTRY ",'A',x'0701036F6E')",
@@ -120,7 +126,20 @@ static const struct {
     {"select bcs_fault(" REGISTRY ",'A',x'0701036F6E65')", "null"},
     {"select bcs_explain('{}','\"U8\"',x'07','json')",
      "{\"bytes\":\"07\",\"kind\":\"unsigned\",\"name\":\".\",\"path\":\".\",\"place\":0,\"value\":\"7\",\"what\":\"U8\"}\n{\"end\":1}\n"},
+    {"select bcs_explain_with('{}','\"BYTES\"',x'0107','json','inside .=\"U8\"')",
+     "{\"bytes\":\"01\",\"kind\":\"length\",\"name\":\".\",\"path\":\".\",\"place\":0,\"value\":1,\"what\":\"BYTES\"}\n"
+     "{\"bytes\":\"07\",\"kind\":\"unsigned\",\"name\":\"[bcs]\",\"path\":null,\"place\":1,\"value\":\"7\",\"what\":\"U8\"}\n{\"end\":2}\n"},
+    {"select bcs_explain_with('{}','\"BYTES\"',x'0107','json','inside .')", "bcs: refused: BadPath in the path"},
+    {"select bcs_explain_with('{}','\"BYTES\"',x'0107','json','inside .=A')", "bcs: refused: UnknownName in the format"},
     {"select bcs_decode(null,'A',x'07')", "null"},
+    {"select bcs_registry_of_modules('[]','vector<u8>\nu8')",
+     "{\"u8\":{\"NEWTYPESTRUCT\":\"U8\"},\"vector<u8>\":{\"NEWTYPESTRUCT\":\"BYTES\"}}"},
+    {"select bcs_notes_of_modules(x'5b5d','0x01::string::String')",
+     "\"0x01::string::String\": the container is called 0x1::string::String"},
+    {"select bcs_notes_of_modules('[]','u8')", "null"},
+    {"select bcs_registry_of_modules('[]',null)", "null"},
+    {"select bcs_registry_of_modules('[{\"abi\":7}]','u8')",
+     "bcs: refused: NotModules at /0/abi: expected an object, found a number"},
     {"select hex(bcs_encode('{}','\"U64\"',7))", "0700000000000000"},
     {"select bcs_decode(x'7b7d','\"STR\"',x'02c3a9')", "\"\xc3\xa9\""},
     {"select bcs_encode('{\"A\":{\"STRUCT\":[{\"a/~\":{\"SEQ\":\"BYTES\"}}]}}','A','{\"a/~\":[\"00\",\"0\"]}')",
@@ -145,6 +164,8 @@ static void answers(void) {
         (is_refused_with_memory(row) ? is_error : is_answered)(database, questions[row].sql, questions[row].answer);
     }
     is_answered(database, "select json_group_array(bcs_decode('{}','\"BOOL\"',x'01'))", "[true]");
+    is_answered(database, "select json_group_array(bcs_registry_of_modules('[]','u8'))", "[{\"u8\":{\"NEWTYPESTRUCT\":\"U8\"}}]");
+    is_answered(database, "select bcs_decode(bcs_registry_of_modules('[]','vector<u16>'),'vector<u16>',x'010700')", "[7]");
     is_error(database, "select bcs_decode('{}','\"U8\"','07')", "bcs: the bytes are no BLOB");
     is_error(database, "select bcs_is('{}','\"U8\"',x'07',4294967296)",
              "bcs: nodes are from 0 to 4294967295, and a depth is from 0 to 500");
@@ -206,6 +227,11 @@ static void places(void) {
              "bcs: refused: UnknownName in the registry at " TWO_HUNDRED("b") "...(cut): no container is called Z");
     is_error(database, "select bcs_is('7','\"U8\"',x'07')",
              "bcs: refused: BadShape in the registry: expected an object of containers, found 7");
+    is_error(database, "select bcs_registry_of_modules('[]','u8' || char(10) || 'signer')",
+             "bcs: refused: NoBytes at signer: a signer has no bytes");
+    is_error(database, "select bcs_notes_of_modules('{\"a~\":0,\"\xc3\xa9\\u0000\":[{\"b\":1,\"b\":2}]}','u8')",
+             "bcs: refused: RepeatedMember at /\\u00e9\\u0000/0/b: the object has another member with this name: delete one");
+    is_error(database, "select bcs_registry_of_modules('[]',cast(x'ff' as text))", "bcs: refused: BadType: the types aren't UTF-8");
     closed(database);
 }
 

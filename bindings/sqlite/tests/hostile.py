@@ -29,12 +29,30 @@ FUNCTIONS = {
     "bcs_part_place": ENDLESS + ", '.'",
     "bcs_part_by_name": ENDLESS + ", '.'",
     "bcs_part_by_pointer": ENDLESS + ", ''",
+    "bcs_content": ENDLESS + ", '.'",
+    "bcs_content_by_name": ENDLESS + ", '.'",
+    "bcs_content_by_pointer": ENDLESS + ", ''",
     "bcs_explain": ENDLESS + ", 'ways'",
+    "bcs_explain_with": ENDLESS + ", 'ways', ''",
     "bcs_encode": "'{}', '\"U8\"', 7",
     "bcs_normalise": "'{}', '\"U8\"', 7",
     "bcs_equal": "'{}', '\"U8\"', 7, 7",
 }
-BOUNDED = FUNCTIONS.keys() - {"bcs_explain"}
+BOUNDED = FUNCTIONS.keys() - {"bcs_explain", "bcs_explain_with"}
+# A struct whose fields have its own arguments with two of them swapped: a small module has 12! instances.
+WORDS = ["u8", "u16", "u32", "u64", "u128", "u256", "bool", "address", "i8", "i16", "i32", "i64"]
+NESTED = [f"vector<{word}>" for word in WORDS] + [f"vector<vector<vector<vector<{word}>>>>" for word in WORDS]
+
+
+def swapped(number: int) -> dict[str, str]:
+    words = [f"T{n}" for n in range(12)]
+    words[number : number + 2] = [f"T{number + 1}", f"T{number}"]
+    return {"name": f"f{number}", "type": f"0x1::m::A<{', '.join(words)}>"}
+
+
+STRUCT = {"name": "A", "is_native": False, "generic_type_params": [{}] * 12, "fields": [swapped(n) for n in range(11)]}
+MULTIPLYING = json.dumps({"address": "0x1", "name": "m", "structs": [STRUCT]})
+MULTIPLIED = f"0x1::m::A<{', '.join(WORDS)}>"
 # The places of a schema where an expression is.
 SCHEMAS = {
     "a view": "create view v as select {} as answer",
@@ -49,7 +67,7 @@ USES = {"a view": "select * from v", "a generated column": "select * from t"}
 
 
 def length(number: int) -> bytes:
-    """ULEB128, as docs/FORMAT.md has it."""
+    """ULEB128, as docs/ENCODING.md has it."""
     data = bytearray()
     while number > 127:
         data.append(number & 127 | 128)
@@ -127,6 +145,26 @@ class Hostile(unittest.TestCase):
                         self.assertIn(f"unsafe use of {name}()", str(told), (schema, name, limits))
                     count += 1
         print(f"hostile: {count} expressions in schemas")
+
+    def test_modules(self) -> None:
+        """In a schema, registries are made from modules. Hostile ones cost little: type arguments that multiply, and
+        long modules."""
+        for schema in SCHEMAS:
+            self.assertIsNone(self.used(schema, "bcs_registry_of_modules('[]', 'u8')"))
+            self.assertIn("TooLarge", str(self.used(schema, f"bcs_notes_of_modules('{MULTIPLYING}', '{MULTIPLIED}')")))
+        with contextlib.closing(opened()) as database, heap(300):
+            for modules, types in (MULTIPLYING, MULTIPLIED), ("[" + "{}," * 1_000_000 + "{}]", "u8"):
+                taken(is_reset=True)
+                start, before = time.process_time(), used()
+                with self.assertRaisesRegex(sqlite3.OperationalError, "refused: (TooLarge|NotModules) at /"):
+                    database.execute("select bcs_registry_of_modules(?, ?)", [modules, types])
+                spent, most = time.process_time() - start, taken() - before
+                print(f"hostile: modules of {len(modules)} bytes took {spent:.2f} s and {most >> 20} MB")
+                self.assertLess(most, (64 << 20) + 32 * len(modules))
+            self.assertLess(used() - before, 100_000)
+            database.setlimit(sqlite3.SQLITE_LIMIT_LENGTH, 1000)
+            with self.assertRaisesRegex(sqlite3.DataError, "too big"):
+                database.execute("select bcs_registry_of_modules('[]', ?)", ["\n".join(NESTED)])
 
     def test_trusted(self) -> None:
         """In the application's own statements all of them run."""

@@ -50,6 +50,10 @@ CALLS = [
             "bcs_part_place('{}', '\"U8\"', ?, '.')",
             "bcs_part_by_name('{}', '\"U8\"', ?, '.')",
             "bcs_part_by_pointer('{}', '\"U8\"', ?, '')",
+            "bcs_content('{}', '\"BYTES\"', ?, '.')",
+            "bcs_content_by_name('{}', '\"BYTES\"', ?, '.')",
+            "bcs_content_by_pointer('{}', '\"BYTES\"', ?, '')",
+            "bcs_explain_with('{}', '\"U8\"', ?, 'json', '')",
             "bcs_explain('{}', '\"U8\"', ?, 'json')",
         ]
     ),
@@ -65,9 +69,23 @@ CALLS = [
         for call in ["bcs_is('{}', ?, x'07')", "bcs_encode('{}', ?, 7)", "bcs_equal('{}', ?, 7, 8)"]
     ),
     *(
-        (call, ["TEXT"], WORD)
-        for call in ["bcs_part('{}', '\"U8\"', x'07', ?)", "bcs_explain('{}', '\"U8\"', x'07', ?)"]
+        (f"{name}(?, 'u8')", ["TEXT", "BLOB"], "bcs: the modules are neither TEXT nor BLOB")
+        for name in ["bcs_registry_of_modules", "bcs_notes_of_modules"]
     ),
+    *(
+        (f"{name}('[]', ?)", ["TEXT"], "bcs: the types aren't TEXT")
+        for name in ["bcs_registry_of_modules", "bcs_notes_of_modules"]
+    ),
+    *(
+        (call, ["TEXT"], WORD)
+        for call in [
+            "bcs_part('{}', '\"U8\"', x'07', ?)",
+            "bcs_content('{}', '\"BYTES\"', x'0107', ?)",
+            "bcs_explain('{}', '\"U8\"', x'07', ?)",
+            "bcs_explain_with('{}', '\"U8\"', x'07', ?, '')",
+        ]
+    ),
+    ("bcs_explain_with('{}', '\"U8\"', x'07', 'ways', ?)", ["TEXT"], "bcs: the views aren't TEXT"),
     *(
         (call, ["INTEGER"], LIMITS)
         for call in [
@@ -175,6 +193,9 @@ class Types(unittest.TestCase):
             ("bcs_is(x'7b7d', '\"U8\"', x'')", 0),
             ("bcs_decode('{}', '\"STR\"', x'0137')", '"7"'),
             ("bcs_decode('{}', '\"U8\"', x'37')", "55"),
+            ("bcs_registry_of_modules('[]', 'u8')", '{"u8":{"NEWTYPESTRUCT":"U8"}}'),
+            ("bcs_registry_of_modules(x'5b5d', '')", "{}"),
+            ("bcs_notes_of_modules('[]', 'u8')", None),
         ]:
             self.assertEqual((expression, self.told(expression)), (expression, right))
 

@@ -25,9 +25,9 @@ EXAMPLES = HERE.parent.parent.parent / "examples"
 
 # Each module comes after those that it imports.
 WORKER = ["../errors", "../hex", "../octets", "../texts", "../move_types", "../shapes", "../json_output", "../writing"]
-WORKER += ["../reading", "../interruptions", "../calls", "../limits", "../holder", "../refusals", "../format_calls"]
-WORKER += ["../registry", "../support", "../loader"]
-WORKER += ["coding", "roots", "layout", "blank", "outline", "worker"]
+WORKER += ["../reading", "../interruptions", "../calls", "../limits", "../holder", "../refusals", "../views"]
+WORKER += ["../format_calls", "../registry", "../support", "../modules", "../loader"]
+WORKER += ["coding", "roots", "layout", "blank", "outline", "arguments", "joined_registry", "worker"]
 SCRIPT = ["../hex", "../octets", "../support", "coding", "names", "reasons", "lights", "link", "pane", "places"]
 SCRIPT += ["questions", "digits", "tree"]
 SCRIPT += ["main"]

@@ -12,6 +12,9 @@ const COLOURS = {
   text: 'text',
   bytes: 'bytes',
   octets: 'bytes',
+  address: 'bytes',
+  u256: 'number',
+  i256: 'number',
 };
 const MOST_OF_PIECE = 512;
 

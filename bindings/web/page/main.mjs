@@ -15,6 +15,8 @@ import { Tree } from './tree.mjs';
 const OWN = 'own';
 const TYPING_PAUSE = 120;
 const MOST_OPENED = 1 << 28;
+const CLOSED = '';
+const BYTE_STRINGS = ['bytes', 'octets', 'text'];
 const NO_PIECES = { first: 0, pieces: [], rows: [], stop: undefined, rest: '', covered: 0, length: 0, isCut: false };
 
 const $ = (id) => document.getElementById(id);
@@ -29,12 +31,17 @@ class Page {
   #side = 'text';
   #coding = 'hex';
   #part = '';
+  // the formats of the byte strings that the reader opened, by their names, and the one that can be opened now
+  #inside = {};
+  #opening = '';
   #explained = NO_PIECES;
   #pauses = new Map();
 
   constructor() {
     this.panes = {
       registry: new Pane($('registry'), $('registry-note'), () => this.#later('registry', () => this.#readOwnRegistry())),
+      modules: new Pane($('modules'), $('modules-note'), () => {}),
+      types: new Pane($('types'), $('types-note'), () => {}),
       text: new Pane($('text'), $('text-note'), () => this.#changed('text')),
       bytes: new Pane($('bytes'), $('bytes-note'), () => this.#changed('bytes')),
       first: new Pane($('first'), $('first-note'), () => this.#later('compare', () => this.#compare())),
@@ -53,7 +60,10 @@ class Page {
   #listen() {
     $('example').addEventListener('change', () => this.#takeChosenExample());
     $('container').addEventListener('change', () => this.#chooseContainer());
-    $('format').addEventListener('input', () => this.#later('value', () => this.#answer()));
+    $('format').addEventListener('input', () => this.#later('value', () => this.#answerClosed()));
+    $('make').addEventListener('click', () => this.#makeRegistry('{}'));
+    $('add').addEventListener('click', () => this.#makeRegistry(this.panes.registry.content));
+    $('inside').addEventListener('change', () => this.#openInside());
     $('normal').addEventListener('click', () => this.#fill('normal', { content: this.panes.text.content }));
     $('blank').addEventListener('click', () => this.#fill('blank', {}));
     $('take').addEventListener('click', () => this.#takeForComparing());
@@ -105,14 +115,31 @@ class Page {
     this.#coding = $('coding').value = 'hex';
     this.panes.registry.content = registry;
     this.#side = side;
+    this.#inside = {};
     this.panes[side].content = content;
     this.panes[this.#otherSide].content = '';
     await this.#readRegistry(format);
   }
 
+  /** The registry of modules, which takes the place of the one that is there, or goes beside its containers. */
+  async #makeRegistry(beside) {
+    const asked = { modules: this.panes.modules.content, types: this.panes.types.content, beside };
+    const told = await this.#questions.ask('modules', asked);
+    if (told === undefined) return;
+    const { answer, refusal } = told;
+    const verdict = $('modules-verdict');
+    verdict.className = refusal ? 'bad' : 'good';
+    verdict.textContent = refusal ? toldOfRefusal(refusal) : shownName(answer.notes || 'a registry was made', 1000);
+    this.panes.modules.mark(refusal?.kind === 'modules' ? rangeOf(this.panes.modules.content, refusal) : undefined);
+    if (!answer) return;
+    this.panes.registry.content = answer.text;
+    await this.#readOwnRegistry();
+  }
+
   /** A registry without the container that was chosen gets its own root, and a blank value of that. */
   async #readOwnRegistry() {
     $('example').value = OWN;
+    this.#inside = {};
     const isOther = await this.#readRegistry(this.#format, true);
     if (isOther) await this.#fill('blank', {});
   }
@@ -145,7 +172,22 @@ class Page {
     const isOwn = $('container').value === OWN;
     $('own-format').hidden = !isOwn;
     if (isOwn && $('format').value === '') $('format').value = '{"SEQ":"U8"}';
+    this.#answerClosed();
+  }
+
+  /** Opens a byte string with the container that was chosen, or closes it. */
+  #openInside() {
+    const name = this.#opening;
+    const { [name]: _, ...others } = this.#inside;
+    // (what is inside of it is closed, too)
+    const kept = Object.entries(others).filter(([other]) => !other.startsWith(`${name}[bcs]`));
+    this.#inside = Object.fromEntries($('inside').value === CLOSED ? kept : [...kept, [name, $('inside').value]]);
     this.#answer();
+  }
+
+  #answerClosed() {
+    this.#inside = {};
+    return this.#answer();
   }
 
   get #format() {
@@ -153,7 +195,7 @@ class Page {
   }
 
   get #asked() {
-    return { registry: this.panes.registry.content, format: jsonOfFormat(this.#format), coding: this.#coding };
+    return { registry: this.panes.registry.content, format: jsonOfFormat(this.#format), coding: this.#coding, inside: this.#inside };
   }
 
   /** Writes the bytes in the other way. What isn't bytes stays as it is. */
@@ -199,9 +241,10 @@ class Page {
     this.#digits.show(explained);
     this.#tree.show(explained);
     this.#tellLit(-1, -1);
+    $('opening').hidden = true;
     $('pieces-note').textContent = noteOn(explained);
     if (fault) this.#tellFault(fault, explained.stop);
-    else tellVerdict('', `${counted(answer.length, 'byte', 'bytes')}:`, ' the one encoding of this value.');
+    else tellVerdict('', `${counted(answer.length, 'byte', 'bytes')}:`, ` the one encoding of this value.${toldOfTrouble(explained.trouble)}`);
   }
 
   #fillOtherSide({ text, digits, length }) {
@@ -246,9 +289,26 @@ class Page {
     const lit = pieces.slice(Math.max(from, 0), Math.max(to, 0));
     $('detail').textContent = lit.length === 0 ? 'Point at digits or at a row, or go there by the arrow keys.' : detailOf(lit);
     // No part is inside a key.
+    this.#offerOpening(lit);
     const name = lit.length === 1 && lit[0].path !== null ? lit[0].name : null;
     $('part').hidden = name === null;
     this.#part = name === null ? '' : `bcs part --name ${quoted(name)} registry.json ${quoted(this.#wordOfFormat)} value.hex`;
+  }
+
+  /** Offers to open the byte string that is lit, or to close the opened one. It stays where the pointer leaves the views. */
+  #offerOpening(lit) {
+    const byteString = byteStringOf(lit);
+    const opened = lit.length > 0 ? openedAround(lit[0].name, Object.keys(this.#inside)) : undefined;
+    if (lit.length === 0) return;
+    const name = byteString?.name ?? opened;
+    $('opening').hidden = name === undefined;
+    if (name === undefined) return;
+    this.#opening = name;
+    const containers = [...$('container').options].filter(({ value }) => value !== OWN);
+    const options = containers.map(({ text, value }) => new Option(text, value));
+    $('inside').replaceChildren(new Option(this.#inside[name] === undefined ? 'choose a container' : 'close it', CLOSED), ...options);
+    $('inside').value = this.#inside[name] ?? CLOSED;
+    $('inside').ariaLabel = `Open ${shownName(name, 100)} as`;
   }
 
   /** The format as an argument of the program. */
@@ -427,6 +487,27 @@ function tellBroken(reason) {
 function toldOfContainers({ count, names }) {
   const listed = names.length < count ? `, the first ${shownNumber(names.length)} listed` : '';
   return counted(count, 'container', 'containers') + listed;
+}
+
+/** Why the byte strings stay closed. */
+function toldOfTrouble(trouble) {
+  if (trouble === undefined) return '';
+  const { reason, place, want, name, detail } = trouble;
+  const where = place === undefined ? '' : ` at byte ${shownNumber(place)}`;
+  const words = want === undefined ? shownName(detail ?? '', 200) : `expected there: ${shownName(want)}, at ${shownName(name, 200)}`;
+  return ` Its byte strings stay closed, since one isn’t a value of its format: ${reason}${where}, ${words}.`;
+}
+
+/** The content of the byte string that is lit, alone or behind its length. */
+function byteStringOf(lit) {
+  const isWhole = lit.length === 2 && lit[0].kind === 'length' && lit[0].name === lit[1].name;
+  const piece = isWhole ? lit[1] : lit.length === 1 ? lit[0] : undefined;
+  return piece !== undefined && BYTE_STRINGS.includes(piece.kind) ? piece : undefined;
+}
+
+/** The innermost of the opened byte strings that a piece is in. */
+function openedAround(name, opened) {
+  return opened.filter((own) => name.startsWith(`${own}[bcs]`) || name === own).sort((a, b) => b.length - a.length)[0];
 }
 
 function noteOn({ isCut, first, pieces, covered, length, stop }) {

@@ -4,9 +4,12 @@ const MOST_ROWS = 200_000;
 // (rows of parts that have no bytes, of which a few bytes can announce millions)
 const MOST_EMPTY = 64;
 
-/** Rows in the order of the bytes: `{ level, label, value, what, from, own, to }`, the last three counting pieces. */
-export function outlineOf(containers, format, pieces) {
-  const outline = new Outline(containers, pieces);
+/**
+ * Rows in the order of the bytes: `{ level, label, value, what, from, own, to }`, the last three counting pieces. `insides` has the
+ * formats of the byte strings that are opened, by their names.
+ */
+export function outlineOf(containers, format, pieces, insides = new Map()) {
+  const outline = new Outline(containers, pieces, insides);
   try {
     outline.value(format, { level: 0, label: '', types: [] });
   } catch (error) {
@@ -20,9 +23,10 @@ export function outlineOf(containers, format, pieces) {
 class OutOfPieces extends Error {}
 
 class Outline {
-  constructor(containers, pieces) {
+  constructor(containers, pieces, insides) {
     this.containers = containers;
     this.pieces = pieces;
+    this.insides = insides;
     this.next = 0;
     this.rows = [];
   }
@@ -75,12 +79,18 @@ class Outline {
   octets(at, what) {
     const [length, content] = [this.piece, this.pieces[this.next + 1]];
     const isWhole = length.value > 0 && content !== undefined;
+    const inside = this.insides.get(length.name);
+    if (isWhole && inside !== undefined && content.name.startsWith(`${length.name}[bcs]`)) {
+      const told = { value: length.value === 1 ? '1 byte' : `${length.value} bytes`, what, count: 1 };
+      return this.row(at, told, () => this.value(formatOf(inside), below(at, '[bcs]')));
+    }
     const value = isWhole ? contentOf(content) : length.value === 0 ? 'empty' : '';
     this.row(at, { value, what: what === 'SEQ' ? `${length.value} × U8` : what, count: isWhole ? 2 : 1 });
   }
 
   array(at) {
-    this.row(at, { value: contentOf(this.piece), what: `${this.piece.value} × U8`, count: 1 });
+    const { kind, value } = this.piece;
+    this.row(at, { value: contentOf(this.piece), what: kind === 'octets' ? `${value} × U8` : '', count: 1 });
   }
 
   option(inner, at) {
@@ -169,12 +179,18 @@ class Outline {
   }
 }
 
+/** A container's name, or a format's JSON. */
+function formatOf(text) {
+  return /^[{"]/.test(text) ? JSON.parse(text) : { TYPENAME: text };
+}
+
 function below(at, label) {
   return { level: at.level + 1, label, types: [] };
 }
 
 /** What a text or a byte string holds, cut where it is long. */
 function contentOf(piece) {
+  if (['address', 'u256', 'i256'].includes(piece.kind)) return String(piece.value);
   if (piece.kind === 'text') return JSON.stringify(piece.value.slice(0, 200));
   return piece.bytes.length <= 32 ? piece.bytes : `${piece.bytes.slice(0, 16)}…${piece.bytes.slice(-8)}`;
 }

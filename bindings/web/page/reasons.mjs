@@ -1,4 +1,4 @@
-// What the reasons of a refusal mean, in a sentence each. docs/FORMAT.md has the rules.
+// What the reasons of a refusal mean, in a sentence each. docs/ENCODING.md and docs/JSON.md have the rules.
 const REASONS = {
   registry: {
     NotJson: 'The registry is no JSON.',

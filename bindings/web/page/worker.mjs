@@ -3,7 +3,9 @@ import { BcsError } from '../errors.mjs';
 import { load } from '../loader.mjs';
 import { hexOf } from '../hex.mjs';
 import { coded, decoded } from './coding.mjs';
+import { callsIn } from './arguments.mjs';
 import { blankOf } from './blank.mjs';
+import { joinedRegistry } from './joined_registry.mjs';
 import { laidOut } from './layout.mjs';
 import { outlineOf } from './outline.mjs';
 import { rootOf } from './roots.mjs';
@@ -21,7 +23,7 @@ let bcs;
 let open = { text: undefined, registry: undefined, containers: undefined };
 let last = { text: '', bytes: new Uint8Array() };
 
-const ANSWERS = { start, registry, value, blank, normal, compare, whole };
+const ANSWERS = { start, registry, modules, value, blank, normal, compare, whole };
 
 self.onmessage = async ({ data: { id, question, ...asked } }) => {
   try {
@@ -61,30 +63,38 @@ function registry({ text }) {
   return { count: names.length, names: names.slice(0, MOST_NAMES), root: rootOf(open.containers) };
 }
 
-/** A value by its text or by its bytes: the other side, and the pieces. */
-function value({ registry: text, format, side, content, coding }) {
+/** The registry for types of modules, perhaps beside the containers of another one, and the notes. */
+function modules({ modules: text, types, beside }) {
+  const asked = types.split('\n').map((line) => line.trim()).filter((line) => line !== '');
+  const { json, notes } = bcs.registryOfModules(text, asked);
+  return { text: joinedRegistry(beside, json), notes };
+}
+
+/** A value by its text or by its bytes: the other side, and the pieces. `inside` has the formats of byte strings by their names. */
+function value({ registry: text, format, side, content, coding, inside }) {
   const { registry } = opened(text);
   registry.check(format);
-  return side === 'text' ? valueOfText(registry, format, content, coding) : valueOfBytes(registry, format, content, coding);
+  const valueOf = side === 'text' ? valueOfText : valueOfBytes;
+  return valueOf(registry, format, content, { coding, inside });
 }
 
-function valueOfText(registry, format, text, coding) {
+function valueOfText(registry, format, text, { coding, inside }) {
   const bytes = registry.encodeText(format, text);
   last = { text, bytes };
-  return { length: bytes.length, digits: digitsOf(bytes, coding), explained: explained(registry, format, bytes) };
+  return { length: bytes.length, digits: digitsOf(bytes, coding), explained: explained(registry, format, bytes, inside) };
 }
 
-function valueOfBytes(registry, format, digits, coding) {
+function valueOfBytes(registry, format, digits, { coding, inside }) {
   const { bytes, fault } = decoded(digits, coding);
   if (fault !== undefined) throw new BcsError('digits', { reason: fault });
   last = { text: '', bytes };
   try {
     last.text = registry.decodeText(format, bytes);
-    return { length: bytes.length, text: shownText(last.text), explained: explained(registry, format, bytes) };
+    return { length: bytes.length, text: shownText(last.text), explained: explained(registry, format, bytes, inside) };
   } catch (error) {
     // (of damaged bytes there are pieces, too)
     if (!(error instanceof BcsError) || error.kind !== 'bytes') throw error;
-    return { length: bytes.length, refusal: refusalOf(error), explained: explained(registry, format, bytes) };
+    return { length: bytes.length, refusal: refusalOf(error), explained: explained(registry, format, bytes, inside) };
   }
 }
 
@@ -99,14 +109,14 @@ function shownText(text) {
 }
 
 /** The pieces of the bytes with their outline. At damage the last of them are told, and else the first. */
-function explained(registry, format, bytes) {
+function explained(registry, format, bytes, inside) {
   const isFront = bytes.length > MOST_EXPLAINED;
-  const told = registry.explain(format, isFront ? bytes.subarray(0, FRONT_EXPLAINED) : bytes);
+  const { told, insides, trouble } = toldOf(registry, format, isFront ? bytes.subarray(0, FRONT_EXPLAINED) : bytes, inside);
   const end = told.pop();
   // (a front ends before its value does, which is no damage)
   const stop = end.refused !== undefined && !(isFront && end.refused === 'EndOfInput') ? end : undefined;
   const first = stop ? Math.max(0, told.length - MOST_PIECES) : 0;
-  const outline = outlineOf(open.containers, parsed(format), told);
+  const outline = outlineOf(open.containers, parsed(format), told, insides);
   const pieces = told.slice(first, first + MOST_PIECES);
   const covered = pieces.length === 0 ? 0 : pieces.at(-1).place + pieces.at(-1).bytes.length / 2;
   return {
@@ -114,11 +124,44 @@ function explained(registry, format, bytes) {
     pieces: pieces.map(shortened),
     rows: outline.filter((row) => row.to >= first && row.from < first + MOST_PIECES),
     stop,
+    trouble,
     rest: stop ? hexOf(bytes.subarray(covered, covered + 64)) : '',
     covered,
     length: bytes.length,
     isCut: isFront || first > 0 || told.length > MOST_PIECES,
   };
+}
+
+/**
+ * The pieces of a value and of the byte strings that are opened: those that the reader chose, and the arguments of functions that
+ * the registry knows. Where one of them isn't a value of its format, all stay closed, and `trouble` says why.
+ */
+function toldOf(registry, format, bytes, inside) {
+  const plain = registry.explain(format, bytes);
+  const calls = callsIn(open.containers, plain);
+  const insides = new Map(Object.entries(inside));
+  for (const [list, name] of Object.entries(calls)) argumentsOf(name).forEach((own, i) => insides.set(`${list}[${i}]`, own));
+  if (insides.size === 0) return { told: plain, insides };
+  const closed = (trouble) => ({ told: plain, insides: new Map(), trouble });
+  try {
+    const told = registry.explain(format, bytes, { inside, calls });
+    const [end, plainEnd] = [told.at(-1), plain.at(-1)];
+    if (end.refused !== undefined && end.place !== plainEnd.place) return closed({ reason: end.refused, ...end });
+    return { told, insides };
+  } catch (error) {
+    if (!(error instanceof BcsError)) throw error;
+    return closed(refusalOf(error));
+  }
+}
+
+/** The containers of a function's arguments. A reference or a signer has none, so a number may be left out. */
+function argumentsOf(name) {
+  const found = [];
+  for (const own of open.containers.keys()) {
+    const number = own.startsWith(`${name}::arg`) ? own.slice(name.length + 5) : '';
+    if (/^[0-9]{1,3}$/.test(number)) found[Number(number)] = own;
+  }
+  return found;
 }
 
 function parsed(format) {

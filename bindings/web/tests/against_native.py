@@ -3,8 +3,8 @@
 
     python3 bindings/web/tests/against_native.py COUNT DRIVER [WORD]... -- OTHER-DRIVER [WORD]...
 
-bindings/README.md says what a driver reads and writes. The inputs are values of examples/ and rows of crates/test_calls
-with changes, which are the same in each run.
+tests/rows/driver.py says what a driver reads and writes. The inputs are values of examples/ and rows of
+crates/test_calls with changes, which are the same in each run.
 """
 
 from __future__ import annotations

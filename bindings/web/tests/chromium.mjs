@@ -70,7 +70,7 @@ export class Chromium {
   }
 }
 
-/** Where an element stands, near its front, once it is in sight. */
+/** Where an element is, near its start, once it is visible. */
 function placeOf(expression) {
   return `(() => {
     const element = ${expression};
@@ -95,7 +95,7 @@ class PageHandle {
   #note({ method, params, sessionId }) {
     if (sessionId !== this.session) return;
     if (method === 'Network.requestWillBeSent') this.#requested.set(params.requestId, params.request.url);
-    // (what the policy blocks is told, but never sent)
+    // (what the policy blocks is reported, but never sent)
     if (method === 'Network.loadingFailed' && params.blockedReason) this.#requested.delete(params.requestId);
     if (method === 'Runtime.exceptionThrown') this.complaints.push(params.exceptionDetails.exception?.description);
     if (method === 'Log.entryAdded' && params.entry.level === 'error') this.complaints.push(params.entry.text);

@@ -1,4 +1,4 @@
-// The values of examples/ by the calls of bcs.mjs: their bytes, normal texts and tables stand there. BCS_WASM names the module.
+// The values of examples/ by the calls of bcs.mjs: their bytes, normal JSON and tables are there. BCS_WASM names the module.
 import assert from 'node:assert/strict';
 import { readFileSync } from 'node:fs';
 import test from 'node:test';

@@ -74,7 +74,7 @@ class Heap {
     return place;
   }
 
-  /** What was written into a block still stands there. */
+  /** What was written into a block is still there. */
   give(i) {
     const [block] = this.blocks.splice(i, 1);
     assert.ok(this.bytes(block).every((byte) => byte === block.mark), `the block of ${block.length} bytes at ${block.place}`);

@@ -1,5 +1,5 @@
 // The calls of bcs.mjs: what each answers and refuses, and values in JavaScript's own types. BCS_WASM names the module.
-// Expected values are those of the BCS specification and of docs/FORMAT.md.
+// Expected values are those of the BCS specification and of docs/ENCODING.md.
 import assert from 'node:assert/strict';
 import { readFileSync } from 'node:fs';
 import test from 'node:test';
@@ -7,6 +7,7 @@ import { once } from 'node:events';
 import { Worker } from 'node:worker_threads';
 import { BcsError, fromBase64, hex, isSupported, Limits, load, toBase64 } from '../bcs.mjs';
 import { bytesOfHex, hexOf } from '../hex.mjs';
+import { Identifiers } from '../identifiers.mjs';
 import { longestStringOf, nodesFor } from '../limits.mjs';
 
 const module = await WebAssembly.compile(readFileSync(process.env.BCS_WASM));
@@ -46,7 +47,7 @@ test('the module imports nothing, and has the proved calls alone', () => {
   assert.deepEqual(WebAssembly.Module.imports(module), []);
   const header = readFileSync(new URL('../../c/proved.h', import.meta.url), 'utf8');
   const calls = Array.from(header.matchAll(/^(?:bcs_answer|void) (bcs_c_\w+)\(/gm), (found) => found[1]);
-  assert.equal(calls.length, 26);
+  assert.equal(calls.length, 30);
   const exported = WebAssembly.Module.exports(module).map(({ name }) => name);
   assert.deepEqual(exported.sort(), [...calls, 'memory', 'take_memory', 'give_memory'].sort());
 });
@@ -58,7 +59,7 @@ test('a module for an engine with wider addresses is refused in words that say s
   await assert.rejects(load(Uint8Array.of(7)), isSupported(64) ? WebAssembly.CompileError : /takes bcs.wasm/);
 });
 
-test('an engine without vectors is told which have them', async () => {
+test('an engine without SIMD gets a message that names those with it', async () => {
   const { validate } = WebAssembly;
   // (the smallest module with a vector has the byte that begins instructions on them)
   WebAssembly.validate = (bytes) => !bytes.includes(0xfd) && validate(bytes);
@@ -232,7 +233,7 @@ test('what is no bytes, and no text, is not taken for any', () => {
   }
 });
 
-test('what is handed over, and what is handed out, is nobody else’s', () => {
+test('arguments and results are copies', () => {
   const text = new TextEncoder().encode('{"A":{"NEWTYPESTRUCT":"U16"}}');
   const registry = bcs.registry(text);
   text.fill(0);
@@ -539,6 +540,67 @@ test('growth', () => {
   assert.throws(() => bcs.grows('{}', '{'), refusal('newer', 'NotJson'));
 });
 
+test('registries of modules', () => {
+  const module = '{"address":"0x1","name":"m","structs":[{"name":"S","is_native":false,"generic_type_params":[{}],"fields":[{"name":"a","type":"vector<T0>"}]}]}';
+  const made = { json: '{"0x1::m::S<u8>":{"STRUCT":[{"a":"BYTES"}]}}', notes: '' };
+  for (const types of [['0x1::m::S<u8>'], new Set(['0x1::m::S<u8>']), ['0x1::m::S<u8>', '0x1::m::S<u8>']]) assert.deepEqual(bcs.registryOfModules(module, types), made);
+  assert.deepEqual(bcs.registryOfModules(encoder.encode(module), ['0x1::m::S<u8>']), made);
+  assert.equal(hexOf(bcs.registry(made.json).encode('0x1::m::S<u8>', { a: hex('c0de') })), '02c0de');
+  assert.deepEqual(bcs.registryOfModules('[]', []), { json: '{}', notes: '' });
+  assert.deepEqual(bcs.registryOfModules('[]', ['0x01::string::String']), {
+    json: '{"0x1::string::String":{"NEWTYPESTRUCT":"STR"}}', notes: '"0x01::string::String": the container is called 0x1::string::String',
+  });
+  // (longer than the first output)
+  const types = Array.from({ length: 29 }, (_, depth) => ['u8', 'u64', 'address'].map((inner) => `${'vector<'.repeat(depth + 1)}${inner}${'>'.repeat(depth + 1)}`)).flat();
+  const long = bcs.registryOfModules('[]', types).json;
+  assert.ok(long.length > 4096);
+  assert.deepEqual(new Set(Object.keys(JSON.parse(long))), new Set([...types, 'address']));
+});
+
+test('modules and types that are refused', () => {
+  for (const [modules, types, reason, at, detail] of [
+    ['[]', ['0x1::n::S'], 'MissingModule', '0x1::n::S', /^add these modules: 0x1::n /],
+    ['[7]', ['u8'], 'NotModules', '/0', /^this isn't the JSON of a module/],
+    [Uint8Array.of(255), ['u8'], 'NotJson', '', /^this isn't JSON/],
+    ['[]', [''], 'BadType', '', /^"" isn't a type$/],
+    ['[]', ['u8', 'u8\nu16'], 'BadType', 'u8\nu16', /^a type has no line feed$/],
+    ['[]', ['u8\n'], 'BadType', 'u8\n', /^a type has no line feed$/],
+    ['[]', ['\0'], 'BadType', '\0', /^"\\u0000" isn't a type/],
+    ['[]', ['a\0b\0'], 'BadType', 'a\0b\0', /^"a\\u0000b\\u0000" isn't a type/],
+    ['[]', ['é🦀'], 'BadType', 'é🦀', /^"\\u00e9/],
+    ['[]', ['signer'], 'NoBytes', 'signer', /^a signer has no bytes$/],
+  ]) {
+    assert.throws(() => bcs.registryOfModules(modules, types), (error) => {
+      assert.deepEqual([error.constructor, error.kind, error.reason, error.place, error.at], [BcsError, 'modules', reason, undefined, at]);
+      return detail.test(error.detail);
+    });
+  }
+  for (const wrong of ['u8', 7, null, undefined, {}, [7], [null], [['u8']], [undefined], ['\ud800'], [new String('u8')]]) {
+    assert.throws(() => bcs.registryOfModules('[]', wrong), TypeError, String(wrong));
+  }
+  for (const wrong of [7, null, undefined, {}, [{}], '\ud800']) assert.throws(() => bcs.registryOfModules(wrong, []), TypeError, String(wrong));
+});
+
+test('names of types of Move have no modules where they are unique', () => {
+  const names = {
+    '0x1::coin::transfer<0x1::aptos_coin::AptosCoin>': 'transfer_AptosCoin',
+    '0x1::coin::transfer<0x1::aptos_coin::AptosCoin>::arg0': 'transfer_AptosCoin_arg0',
+    '0x1::coin::CoinStore<0x1::aptos_coin::AptosCoin>': 'CoinStore_AptosCoin',
+    '0x2::dynamic_field::Field<address, vector<u8>>': 'Field_address_vector_u8',
+    'vector<u8>': 'vector_u8',
+    '0x1::m::Twice': 'T0x1_m_Twice',
+    '0x2::m::Twice': 'T0x2_m_Twice',
+    '0x1::m::Pair<0x1::a::A>': 'T0x1_m_Pair_0x1_a_A',
+    '0x1::m::Pair<0x2::a::A>': 'T0x1_m_Pair_0x2_a_A',
+    '0x1::m::Plain': 'T0x1_m_Plain',
+    'Plain': 'Plain',
+    '0x1::m::Map': 'T0x1_m_Map',
+  };
+  for (const asked of [Object.keys(names), Object.keys(names).reverse()]) {
+    assert.deepEqual(Object.fromEntries(new Identifiers().ofAll(asked)), names);
+  }
+});
+
 test('scans, parts and pieces', () => {
   assert.equal(none.scan(MAP, bytesOfHex('0201620102616102ff')), 8);
   const map = '{"MAP":{"KEY":"U16","VALUE":"BOOL"}}';
@@ -561,6 +623,58 @@ test('scans, parts and pieces', () => {
   assert.throws(() => none.explainText('"UNIT"', new Uint8Array(), 'table'), TypeError);
 });
 
+test('contents of byte strings', () => {
+  const registry = bcs.registry('{"P":{"STRUCT":[{"a":"U8"},{"b":"BYTES"}]}}');
+  const bytes = bytesOfHex('07026162');
+  const found = { place: 2, bytes: bytesOfHex('6162') };
+  assert.deepEqual(registry.content('P', bytes, 'inner/1'), found);
+  assert.deepEqual(registry.contentByName('P', bytes, '.b'), found);
+  assert.deepEqual(registry.contentByPointer('P', bytes, '/b'), found);
+  assert.equal(registry.contentByName('P', bytes, '.c'), undefined);
+  for (const [call, name, reason] of [
+    ['content', 'inner/0', 'NoContent'], ['contentByName', '.a', 'NoContent'], ['contentByPointer', '', 'NoContent'],
+    ['content', 'x', 'BadPath'], ['contentByName', 'x', 'BadPath'], ['contentByPointer', 'x', 'BadPath'],
+  ]) assert.throws(() => registry[call]('P', bytes, name), refusal('path', reason), `${call} ${name}`);
+  assert.throws(() => registry.contentByName('P', bytesOfHex('07096162'), '.b'), refusal('bytes', 'EndOfInput', 4));
+});
+
+test('pieces inside byte strings, and values of Move', () => {
+  const newtype = { NEWTYPESTRUCT: { TUPLEARRAY: { CONTENT: 'U8', SIZE: 32 } } };
+  const registry = bcs.registry(JSON.stringify({
+    P: { STRUCT: [{ a: 'U8' }, { b: 'BYTES' }] }, address: newtype, Account: newtype,
+    F: { STRUCT: [{ arg0: 'U8' }, { arg1: 'BOOL' }] }, 'F::arg0': { NEWTYPESTRUCT: 'U8' }, 'F::arg1': { NEWTYPESTRUCT: 'BOOL' },
+  }));
+  const [list, bytes] = [{ SEQ: 'BYTES' }, bytesOfHex('010407026162')];
+  const names = (views, given = bytes) => registry.explain(list, given, views).slice(0, -1).map(({ name }) => name);
+  const opened = ['.', '[0]', '[0][bcs].a', '[0][bcs].b', '[0][bcs].b'];
+  for (const format of ['P', '{"TYPENAME":"P"}', { TYPENAME: 'P' }]) assert.deepEqual(names({ inside: { '[0]': format } }), opened);
+  assert.deepEqual(names({ inside: { '[*]': 'P' }, calls: {}, addresses: [], u256s: new Set(), i256s: undefined }), opened);
+  assert.deepEqual(names({}), names(undefined));
+  assert.deepEqual(names({ calls: { '.': 'F' } }, bytesOfHex('0201050101')), ['.', '[0]', '[0][bcs]', '[1]', '[1][bcs]']);
+  assert.match(registry.explainText(list, bytes, 'ways', { inside: { '[0]': 'P' } }), /\[0\]\[bcs\]\.a\n/);
+  const shown = (format, views) => (({ kind, value }) => [kind, value])(registry.explain(format, Uint8Array.of(1, ...new Array(31).fill(0)), views)[0]);
+  assert.deepEqual(shown('address'), ['address', `0x01${'00'.repeat(31)}`]);
+  assert.deepEqual(shown('Account', { u256s: ['Account'] }), ['u256', '1']);
+  const end = registry.explain(list, bytesOfHex('010407056162'), { inside: { '[0]': 'P' } }).at(-1);
+  assert.deepEqual([end.refused, end.place, end.name], ['EndOfInput', 6, '[0][bcs].b']);
+  for (const [views, kind, reason, at, detail] of [
+    [{ inside: { '': 'P' } }, 'path', 'BadPath', '', /expected a name/], [{ inside: { 'a=b': 'P' } }, 'path', 'BadPath', 'a=b', /expected a name/],
+    [{ calls: { '."a': 'F' } }, 'path', 'BadPath', '."a', /expected a name/], [{ i256s: ['\n'] }, 'path', 'BadPath', '\n', /line feed/],
+    [{ inside: { ['[bcs]'.repeat(16)]: 'P' } }, 'path', 'BadPath', '[bcs]'.repeat(16), /expected a name/],
+    [{ inside: { '[0]': 'P', '[1]': 'Q' } }, 'format', 'UnknownName', '', /^inside \[1\]: no container is called Q/],
+    [{ inside: { '[0]': '{"SEQ":"U9"}' } }, 'format', 'BadShape', '/SEQ', /^inside \[0\]: expected a format/],
+    [{ calls: { '.': 'G' } }, 'format', 'UnknownName', '', /^calls \.: the registry has no arguments/], [{ addresses: ['P'] }, 'format', 'UnknownName', '', /^addresses P: /],
+  ]) {
+    assert.throws(() => registry.explain(list, bytes, views), (error) => {
+      assert.deepEqual([error.kind, error.reason, error.at], [kind, reason, at]);
+      return detail.test(error.detail);
+    });
+  }
+  for (const wrong of [7, null, 'x', { other: 1 }, { inside: [] }, { inside: 'P' }, { calls: { a: 7 } }, { addresses: 'P' }, { addresses: [7] }, { u256s: 7 }]) {
+    assert.throws(() => registry.explain(list, bytes, wrong), TypeError, JSON.stringify(wrong));
+  }
+});
+
 test('names of faults', () => {
   assert.equal(bcs.faultName(402), 'BadBool');
   assert.equal(bcs.faultName(0), undefined);
@@ -575,7 +689,7 @@ test('as deep as it goes, and a call behind each that is refused', () => {
   assert.equal(hexOf(none.encodeText('"U8"', '7')), '07');
 });
 
-test('where the engine’s stack ends, it is told, and the next call is answered', () => {
+test('out of stack is reported, and the next call works', () => {
   // (500 containers of 32 levels each are allowed: 16,000 levels)
   const deep = Array.from({ length: 32 }).reduce((format) => ({ OPTION: format }), { TYPENAME: 'L' });
   const registry = bcs.registry(JSON.stringify({ L: { STRUCT: [{ n: deep }] } }));
@@ -601,7 +715,7 @@ test('on a thread with a small stack each call is answered, or throws the kind s
   assert.equal(counts['at last answered'], 3);
 });
 
-test('where memory ends, it is told, and the next call is answered', async () => {
+test('out of memory is reported, and the next call works', async () => {
   const small = await load(withMostPages(readFileSync(process.env.BCS_WASM), 128));
   const registry = small.registry('{}');
   const zeros = `[${'0,'.repeat(500_000)}0]`;

@@ -92,13 +92,13 @@ test('a page, by fetch, whatever type the server names', async () => {
   assert.equal(await foundBy('start.mjs'), '1,2');
 });
 
-test('a page whose policy forbids WebAssembly is told what the policy needs', async () => {
+test('a page whose policy forbids WebAssembly gets a message on what the policy needs', async () => {
   const allowed = "default-src 'self'; script-src 'self' 'wasm-unsafe-eval'";
   assert.equal(await foundBy('start.mjs', allowed), '1,2');
   assert.match(await foundBy('start.mjs', "default-src 'self'; script-src 'self'"), /script-src needs 'wasm-unsafe-eval'/);
 });
 
-test('a page without the module is told where it was looked for', async () => {
+test('a page without the module gets a message on where it was looked for', async () => {
   writeFileSync(join(room, 'far.mjs'), readFileSync(join(room, 'start.mjs'), 'utf8').replace('./bcs.mjs', './far/bcs.mjs'));
   for (const name of FILES.filter((name) => name.endsWith('.mjs'))) cpSync(join(room, name), join(room, 'far', name));
   assert.match(await foundBy('far.mjs'), /no module at http:.*\/far\/bcs\.wasm: status 404; pass the module to load\(\)/);

@@ -21,7 +21,7 @@ const verdict = "document.getElementById('verdict').textContent";
 const valueOf = (id) => `document.getElementById('${id}').value`;
 const focus = (page, id) => page.ask(`document.getElementById('${id}').focus()`);
 
-/** A page that stands ready, with its first example. */
+/** A page that is ready, with its first example. */
 async function opened(options, fragment = '') {
   const page = await chromium.page(options);
   await page.open(address + fragment);
@@ -110,7 +110,7 @@ test('files are opened, of bytes also those as they are', async () => {
   await isQuiet(page);
 });
 
-test('a text that is refused is told, and the other side is marked', async () => {
+test('a refused document is reported, and the other side is marked', async () => {
   const page = await opened();
   await replace(page, 'text', read('aptos_transfer_damaged.json'));
   await page.until(`${verdict}.includes('BadHex')`);
@@ -270,7 +270,7 @@ const IMAGE = '<img src=x onerror=alert(3)>';
 const SCRIPT = '<script>alert(4)</script>';
 const MARKUP = "document.querySelectorAll('main :is(img, script, b)').length";
 
-/** A refusal is told with these words, in which names of others are text, and what can't be seen an escape. */
+/** A refusal is reported with these words, in which names of others are text, and what can't be seen an escape. */
 async function isToldAsText(page, id, told) {
   await page.until(`document.getElementById('${id}').textContent.includes(${JSON.stringify(told)})`);
   assert.equal(await page.ask(MARKUP), 0);
@@ -506,6 +506,56 @@ test('a wrong format says which, and a refused text has no empty panels', async 
   await replace(page, 'text', '"x"');
   await page.until(`${verdict}.includes('Refused')`);
   assert.ok(await page.ask("document.getElementById('pieces').hidden"));
+  await isQuiet(page);
+});
+
+/** Writes into a box as a reader does who pastes. */
+async function fill(page, id, text) {
+  await page.ask(`(() => {
+    const box = document.getElementById('${id}');
+    box.value = ${JSON.stringify(text)};
+    box.dispatchEvent(new Event('input'));
+  })()`);
+}
+
+const rows = "[...document.querySelectorAll('[role=treeitem]')].map((row) => row.textContent).join('\\n')";
+
+test('modules become a registry, and the arguments of a function open by themselves', async () => {
+  const page = await opened();
+  const told = "document.getElementById('modules-verdict').textContent";
+  await fill(page, 'modules', read('move/aptos_modules.json'));
+  await fill(page, 'types', '0x1::coin::transfer<0x1::aptos_coin::AptosCoin>\n\n');
+  await page.ask("document.getElementById('add').click()");
+  await page.until(`${told} !== '' && ${verdict}.includes('the one encoding')`);
+  await page.until(`${rows}.includes('[bcs]')`);
+  assert.match(await page.ask(rows), /5000/);
+  assert.equal(await page.ask(valueOf('bytes')), read('aptos_transfer.hex'));
+  await fill(page, 'types', '0x1::coin::Coin<\n');
+  await page.ask("document.getElementById('make').click()");
+  await page.until(`${told}.includes('BadType')`);
+  await fill(page, 'types', 'u64');
+  await page.ask("document.getElementById('make').click()");
+  await page.until(`document.getElementById('registry-verdict').textContent.includes('1 container')`);
+  await isQuiet(page);
+});
+
+test('a byte string is opened with a container, and closed', async () => {
+  const page = await opened();
+  await fill(page, 'registry', '{"Outer":{"STRUCT":[{"data":"BYTES"}]},"Inner":{"STRUCT":[{"a":"U8"},{"b":"BOOL"}]},"Other":{"NEWTYPESTRUCT":"STR"}}');
+  await page.until("[...document.getElementById('container').options].some(({ text }) => text === 'Outer')");
+  await choose(page, 'container', 'Outer');
+  await fill(page, 'text', '{"data":"0701"}');
+  await page.until(`${valueOf('bytes')} === '020701'`);
+  await focus(page, 'digits');
+  await page.press('ArrowRight');
+  await page.until("!document.getElementById('opening').hidden");
+  await choose(page, 'inside', 'Inner');
+  await page.until(`${rows}.includes('[bcs]')`);
+  await page.press('ArrowRight');
+  await page.until("!document.getElementById('opening').hidden");
+  await choose(page, 'inside', 'Other');
+  await page.until(`${verdict}.includes('stay closed')`);
+  assert.match(await page.ask(verdict), /the one encoding of this value\. Its byte strings stay closed/);
   await isQuiet(page);
 });
 

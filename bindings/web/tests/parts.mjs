@@ -4,7 +4,9 @@ import { readFileSync } from 'node:fs';
 import test from 'node:test';
 import { load } from '../bcs.mjs';
 import { bytesOfHex } from '../hex.mjs';
+import { callsIn } from '../page/arguments.mjs';
 import { blankOf } from '../page/blank.mjs';
+import { joinedRegistry } from '../page/joined_registry.mjs';
 import { laidOut } from '../page/layout.mjs';
 import { fragmentOf, stateOf } from '../page/link.mjs';
 import { shownName } from '../page/names.mjs';
@@ -26,7 +28,7 @@ test('a text is laid out, and means the same', () => {
   }
 });
 
-test('blank values of each container are values, but where one stands within itself', () => {
+test('blank values of each container are values, unless it contains itself', () => {
   for (const name of ['aptos_registry', 'sui_registry', 'diem_transaction']) {
     const text = read(`${name}.json`);
     const registry = bcs.registry(text);
@@ -144,4 +146,28 @@ test('the outline ends where the engine’s stack does', () => {
   const piece = { kind: 'option', value: true, bytes: '01', what: 'OPTION' };
   const rows = outlineOf(new Map(), deep, Array.from({ length: 20_000 }, () => piece));
   assert.ok(rows.length > 100 && rows.length < 20_000, String(rows.length));
+});
+
+test('the functions that a value calls are found in its pieces, where the registry has their arguments', () => {
+  const named = 'F::arg0';
+  const piece = (kind, name, more) => ({ kind, name, bytes: '', what: '', ...more });
+  const one = `${'0'.repeat(63)}1`;
+  const pieces = [
+    piece('octets', '.c.module.address', { bytes: one }), piece('text', '.c.module.name', { value: 'coin' }), piece('text', '.c.function', { value: 'pay' }),
+    piece('length', '.c.ty_args', { value: 2 }), piece('variant', '.c.ty_args[0]', { what: 'TypeTag::Vector' }), piece('variant', '.c.ty_args[0]::Vector', { what: 'TypeTag::U8' }),
+    piece('variant', '.c.ty_args[1]', { what: 'TypeTag::Struct' }), piece('octets', '.c.ty_args[1]::Struct.address', { bytes: 'ab'.repeat(32) }),
+    piece('text', '.c.ty_args[1]::Struct.module', { value: 'm' }), piece('text', '.c.ty_args[1]::Struct.name', { value: 'S' }),
+    piece('length', '.c.ty_args[1]::Struct.type_args', { value: 0 }), piece('length', '.c.args', { value: 1 }),
+  ];
+  const called = `0x1::coin::pay<vector<u8>, 0x${'ab'.repeat(32)}::m::S>`;
+  const containers = (...names) => new Map(names.map((name) => [name, 'UNITSTRUCT']));
+  assert.deepEqual(callsIn(containers(called, `${called}::arg0`), pieces), { '.c.args': called });
+  for (const others of [[], [called], [`${called}::arg0`], ['0x1::coin::pay', '0x1::coin::pay::arg0'], [called, named]]) {
+    assert.deepEqual(callsIn(containers(...others), pieces), {});
+  }
+});
+
+test('a registry of modules goes beside another one, if they agree', () => {
+  assert.equal(joinedRegistry('{"A":"UNITSTRUCT"}', '{"A":"UNITSTRUCT","__proto__":"UNITSTRUCT"}'), '{"A":"UNITSTRUCT",\n"__proto__":"UNITSTRUCT"}');
+  assert.throws(() => joinedRegistry('{"A":"UNITSTRUCT"}', '{"A":{"NEWTYPESTRUCT":"U8"}}'), /another container that is called A/);
 });

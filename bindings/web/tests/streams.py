@@ -26,7 +26,10 @@ MEGABYTE = 1_000_000
 MOST_INPUT = 268_435_456
 NUMBER = ["encode", "{}", '"I16"']
 BYTES = ["--raw", "{}", '{"SEQ":"U8"}']
-NO_FILE = "No such file or directory" "; a value itself goes to standard input, and a registry itself starts with {"
+NO_FILE = (
+    "No such file or directory"
+    "; a value itself goes to standard input, and a registry or a module itself starts with {"
+)
 WRITE_FAULT = b"fault: write\nin the standard output\n"
 
 

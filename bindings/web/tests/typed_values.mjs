@@ -1,6 +1,6 @@
 // Writes random values for TypeScript to judge: typed_values.mjs REGISTRY.json TYPES, with the module that BCS_WASM names. Of
 // each container with values some are made in any of the ways in which `encode` takes them, encoded and decoded. Each is
-// written twice with its type of the module TYPES: as it was handed over, and as `decode` gave it, which `encode` has to take too.
+// written twice with its type of the module TYPES: as it was passed, and as `decode` returned it, which `encode` has to accept, too.
 import assert from 'node:assert/strict';
 import { readFileSync } from 'node:fs';
 import { BcsError, load } from '../bcs.mjs';
@@ -133,7 +133,7 @@ function ascii(value) {
   return JSON.stringify(value).replace(/[^ -~]/g, (unit) => `\\u${unit.charCodeAt(0).toString(16).padStart(4, '0')}`);
 }
 
-/** A value handed over, its bytes, and what they are decoded to; or nothing, where two keys are one or there is no value. */
+/** A value, its bytes, and what they are decoded to; or nothing, if two keys are the same or there is no value. */
 function tried(name) {
   const format = { TYPENAME: name };
   try {

@@ -1,6 +1,6 @@
 // What the declarations let through, and what they refuse: `tsc` reads this, and nothing runs it.
 import { BcsError, fromBase64, hex, isSupported, Limits, load, toBase64 } from '../bcs.mjs';
-import type { End, IntegerArray, Kind, Piece, Registry, Stop, Value, ValueInput } from '../bcs.mjs';
+import type { End, IntegerArray, Kind, MadeRegistry, Piece, Registry, Stop, Value, ValueInput } from '../bcs.mjs';
 
 export async function calls(wasm: Uint8Array): Promise<void> {
   if (!isSupported()) return;
@@ -26,6 +26,8 @@ export async function calls(wasm: Uint8Array): Promise<void> {
   const back: Value = registry.decode('A', fromBase64(toBase64([1, 2])).buffer as ArrayBuffer, { plainOptions: false });
   const named: Registry = bcs.registry('{}', { names: { address: ['AccountAddress'], u256: [] } });
   console.log(back, normal, named.names);
+  const made: MadeRegistry = bcs.registryOfModules(new Uint8Array(), new Set(['u8']));
+  console.log(bcs.registry(made.json), made.notes, bcs.registryOfModules('[]', ['u8', '0x1::m::S']).json);
   registry.close();
   for (const piece of registry.explain('A', bytes)) tell(piece);
   console.log(name, value, isEqual, length, place, registry.names.length);

@@ -1,5 +1,5 @@
 // What each format takes of JavaScript's types: a table of values by formats, and random values there and back. BCS_WASM names
-// the module. Expected bytes are written out, or made by the small encoder at the end, which follows docs/FORMAT.md alone.
+// the module. Expected bytes are written out, or made by the small encoder at the end, which follows docs/ENCODING.md alone.
 import assert from 'node:assert/strict';
 import { readFileSync } from 'node:fs';
 import test from 'node:test';
@@ -538,6 +538,38 @@ test('a value that holds others many times ends at the limit on nodes, or at 512
   assert.throws(() => shared.withLimits({ nodes: 4 }).encode(row, [[1, { some: [2] }]]), { reason: 'TooManyNodes' });
 });
 
+test('the numbers of arrays count as nodes, before they are written', () => {
+  const text = '{"S":{"STRUCT":[{"a":{"SEQ":"U64"}}]},"E":{"ENUM":{"0":{"a":{"NEWTYPE":{"SEQ":"U64"}}}}}}';
+  const limited = bcs.registry(text).withLimits({ nodes: 1000 });
+  const [wide, numbers, octets] = [new BigUint64Array(30000).fill(2n ** 60n), new Array(30000).fill(2 ** 40), new Uint8Array(2 ** 24)];
+  const start = process.cpuUsage();
+  for (const part of [wide, numbers]) {
+    for (const [format, value] of [
+      [{ SEQ: { SEQ: 'U64' } }, new Array(60000).fill(part)],
+      [{ TUPLEARRAY: { CONTENT: { SEQ: 'U64' }, SIZE: 1000 } }, new Array(1000).fill(part)],
+      [{ SEQ: { TUPLE: ['U8', { SEQ: 'U64' }] } }, new Array(60000).fill([7, part])],
+      [{ MAP: { KEY: 'U64', VALUE: { SEQ: 'U64' } } }, new Array(60000).fill([7, part])],
+      [{ MAP: { KEY: 'U64', VALUE: { SEQ: 'U64' } } }, new Map(Array.from({ length: 6000 }, (_, key) => [key, part]))],
+      [{ SEQ: { TYPENAME: 'S' } }, new Array(60000).fill({ a: part })],
+      [{ SEQ: { TYPENAME: 'E' } }, new Array(60000).fill({ a: part })],
+      [{ SEQ: { OPTION: { SEQ: 'U64' } } }, new Array(60000).fill({ some: part })],
+    ]) assert.throws(() => limited.encode(format, value), { kind: 'value', reason: 'TooManyNodes' }, JSON.stringify(format));
+  }
+  for (const part of [octets, new Array(60000).fill(7)]) {
+    assert.throws(() => limited.encode({ SEQ: { SEQ: 'U8' } }, new Array(60000).fill(part)), { kind: 'value', reason: 'TooManyNodes' });
+  }
+  assert.ok(process.cpuUsage(start).user < 5_000_000, 'five seconds');
+  // (a list has a node for itself and one for each number; a byte string is one)
+  for (const part of [Uint8Array.of(1, 2), BigUint64Array.of(1n, 2n), [1, 2]]) {
+    for (const item of part instanceof BigUint64Array ? ['U64'] : ['U8', 'U64']) {
+      if (part instanceof Uint8Array && item === 'U64') continue;
+      assert.equal(bcs.registry('{}').withLimits({ nodes: 3 }).encode({ SEQ: item }, part).length, item === 'U8' ? 3 : 17);
+      assert.throws(() => bcs.registry('{}').withLimits({ nodes: 2 }).encode({ SEQ: item }, part), { kind: 'value', reason: 'TooManyNodes' });
+    }
+  }
+  assert.equal(bcs.registry('{}').withLimits({ nodes: 1 }).encode('"BYTES"', octets.subarray(0, 1000)).length, 1002);
+});
+
 test('pointers have the escapes of JSON Pointer', () => {
   const odd = bcs.registry(JSON.stringify({ A: { STRUCT: [{ 'a/~b': { MAP: { KEY: 'U8', VALUE: { OPTION: { TYPENAME: 'A' } } } } }] } }));
   const inner = { 'a/~b': new Map([[1, null], [2, { some: { 'a/~b': [[1, { some: 'x' }]] } }]]) };
@@ -753,7 +785,7 @@ test('random values there and back', () => {
   assert.equal(count, 50_000);
 });
 
-// The encoding of docs/FORMAT.md, as digits.
+// The encoding of docs/ENCODING.md, as digits.
 
 function littleEndian(number, size) {
   return BigInt.asUintN(8 * size, BigInt(number)).toString(16).padStart(2 * size, '0').match(/../g).reverse().join('');

@@ -6,3 +6,6 @@ pub mod Holdings
 pub mod RawBoxes
 pub mod RegistrySend
 pub mod Steps
+pub mod ContentAnswers
+pub mod Explanations
+pub mod NameRefusals

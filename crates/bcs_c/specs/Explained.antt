@@ -1,5 +1,5 @@
 -- The answer of a call that explains bytes.
-use Rattle.std.specs.Prelude.{◌≡◌, ◌==◌, ℕ, List, Option, if◌then◌else◌}
+use Rattle.std.specs.Prelude.{◌≡◌, ◌==◌, ℕ, List, [], Option, if◌then◌else◌}
 use Rattle.bcs_registry_model.specs.Container.{Entries}
 use Rattle.bcs_registry_model.specs.Shape.{Shape}
 use Rattle.bcs_value_model.specs.Limits.{Bounds}
@@ -7,10 +7,12 @@ use Rattle.bcs_decode_spec.specs.declared.stop.Stop.{Stop}
 use Rattle.bcs_display_text.specs.declared.style.Form.{Form}
 use Rattle.bcs_display_text.specs.declared.style.Form.TheVariants.{Json, Paths, Tree, Ways}
 use Rattle.bcs_display_pieces.specs.EndsAt.{EndsAt}
-use Rattle.bcs_c.specs.Answers.{plain, with_stop}
+use Rattle.bcs_c.specs.Answers.{plain, refusal, with_stop}
 use Rattle.bcs_c.specs.Output.{Puts}
+use Rattle.bcs_c.specs.Registries.{RefusesFor}
 use Rattle.bcs_c.specs.declared.answer.Answer.{Answer}
-use Rattle.bcs_c.specs.declared.status.Status.TheVariants.{Memory}
+use Rattle.bcs_c.specs.declared.fault.Fault.TheVariants.{BadPath}
+use Rattle.bcs_c.specs.declared.status.Status.TheVariants.{Format, Memory, Path}
 
 -- the form with this number
 abbrev pub form_numbered : ℕ → Form
@@ -21,3 +23,21 @@ pub data AnswersExplained (registry : Entries) (limits : Bounds) (s : Shape) (b 
   put : (text : List ℕ) (x : Option Stop) (without : Answer) → EndsAt registry limits s b x → Puts text old new without → a ≡ with_stop x without
       → AnswersExplained registry limits s b old new a
   no_memory : a ≡ plain Memory → AnswersExplained registry limits s b old new a
+
+-- the call returns a text, and reports a stop, if there is one. If `P` holds, that is where the bytes stop being a value; otherwise
+-- it may be that of a byte string in them. Or memory ran out
+pub data AnswersPieces (P : Type 0) (registry : Entries) (limits : Bounds) (s : Shape) (b old new : List ℕ) (a : Answer) : Type 0 where
+  put : (text : List ℕ) (x : Option Stop) (without : Answer) → (P → EndsAt registry limits s b x) → Puts text old new without → a ≡ with_stop x without
+      → AnswersPieces P registry limits s b old new a
+  no_memory : a ≡ plain Memory → AnswersPieces P registry limits s b old new a
+
+-- a line is no view, or names no part; or the registry refuses its format or doesn't have what it names; or memory ran out
+pub data RefusesViews (a : Answer) : Type 0 where
+  no_view : a ≡ refusal Path BadPath → RefusesViews a
+  no_format : RefusesFor (λ e. Unit {0}) Format a → RefusesViews a
+  no_memory : a ≡ plain Memory → RefusesViews a
+
+-- a view is refused; or the call returns the pieces. Without views, it reports where the bytes stop being a value
+pub data AnswersExplainedWith (registry : Entries) (limits : Bounds) (s : Shape) (views b old new : List ℕ) (a : Answer) : Type 0 where
+  refused : RefusesViews a → AnswersExplainedWith registry limits s views b old new a
+  pieces : AnswersPieces (views ≡ []) registry limits s b old new a → AnswersExplainedWith registry limits s views b old new a

@@ -11,8 +11,11 @@ use Rattle.bcs_decode_spec.specs.declared.reason.Reason.TheVariants as reason
 use Rattle.bcs_json_spec.specs.FaultNames.{json_fault_name}
 use Rattle.bcs_json_spec.specs.declared.json_fault.JsonFault.{JsonFault}
 use Rattle.bcs_json_spec.specs.declared.json_fault.JsonFault.TheVariants as json
+use Rattle.bcs_move_types.specs.FaultNames.{move_refusal_name}
+use Rattle.bcs_move_types.specs.declared.refusal.MoveRefusalName.{MoveRefusalName}
+use Rattle.bcs_move_types.specs.declared.refusal.MoveRefusalName.TheVariants as move
 use Rattle.bcs_c.specs.declared.fault.Fault.{Fault}
-use Rattle.bcs_c.specs.declared.fault.Fault.TheVariants.{Registry, Growth, Text, Stop, ShownTooNested, BadPath, ExampleUnknownVariant, ExampleNoValue, ExampleTooManyNodes, ExampleTooNested}
+use Rattle.bcs_c.specs.declared.fault.Fault.TheVariants.{Registry, Growth, Text, Stop, ShownTooNested, BadPath, NoContent, ExampleUnknownVariant, ExampleNoValue, ExampleTooManyNodes, ExampleTooNested, Move}
 
 abbrev pub registry_number : RegistryFault → ℕ
 registry_number registry.NotJson = 101
@@ -61,6 +64,22 @@ reason_number reason.TrailingBytes = 412
 reason_number reason.TooManyNodes = 413
 reason_number reason.Unsupported = 414
 
+abbrev pub move_number : MoveRefusalName → ℕ
+move_number move.NotJson = 801
+move_number move.RepeatedMember = 802
+move_number move.NotModules = 803
+move_number move.ChainError = 804
+move_number move.MixedChains = 805
+move_number move.RepeatedName = 806
+move_number move.BadType = 807
+move_number move.MissingModule = 808
+move_number move.UnknownName = 809
+move_number move.WrongCount = 810
+move_number move.NoBytes = 811
+move_number move.UnknownVariants = 812
+move_number move.NotStandard = 813
+move_number move.TooLarge = 814
+
 abbrev pub fault_number : Fault → ℕ
 fault_number (Registry e) = registry_number e
 fault_number (Growth e) = growth_number e
@@ -68,10 +87,12 @@ fault_number (Text e) = text_number e
 fault_number (Stop e) = reason_number e
 fault_number ShownTooNested = 501
 fault_number BadPath = 601
+fault_number NoContent = 602
 fault_number ExampleUnknownVariant = 701
 fault_number ExampleNoValue = 702
 fault_number ExampleTooManyNodes = 703
 fault_number ExampleTooNested = 704
+fault_number (Move e) = move_number e
 
 -- as the program `bcs` prints them
 abbrev pub fault_name : Fault → List ℕ
@@ -81,7 +102,9 @@ fault_name (Text e) = json_fault_name e
 fault_name (Stop e) = reason_name e
 fault_name ShownTooNested = codes "TooNested"
 fault_name BadPath = codes "BadPath"
+fault_name NoContent = codes "NoContent"
 fault_name ExampleUnknownVariant = codes "UnknownVariant"
 fault_name ExampleNoValue = codes "NoValue"
 fault_name ExampleTooManyNodes = codes "TooManyNodes"
 fault_name ExampleTooNested = codes "TooNested"
+fault_name (Move e) = move_refusal_name e

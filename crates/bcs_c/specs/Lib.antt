@@ -16,3 +16,4 @@ pub mod Explained
 pub mod Named
 pub mod Holding
 pub mod Places
+pub mod Contents

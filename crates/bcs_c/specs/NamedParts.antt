@@ -3,9 +3,11 @@ use Rattle.std.specs.Prelude.{◌≡◌, ◌==◌, ℕ, Bool, false, true, IsUtf
 use Rattle.bcs_registry_model.specs.Container.{Entries}
 use Rattle.bcs_registry_model.specs.Shape.{Shape}
 use Rattle.bcs_value_model.specs.Limits.{Bounds}
+use Rattle.bcs_decode_spec.specs.Stopping.{Stops}
+use Rattle.bcs_decode_spec.specs.declared.reason.Reason.{Reason}
 use Rattle.bcs_part_names.specs.Names.{is_name}
 use Rattle.bcs_part_names.specs.Pointers.{is_pointer}
-use Rattle.bcs_c.specs.Answers.{plain, refusal}
+use Rattle.bcs_c.specs.Answers.{plain, refusal, stop_at}
 use Rattle.bcs_c.specs.Parts.{AnswersSteps, Steps}
 use Rattle.bcs_c.specs.declared.answer.Answer.{Answer}
 use Rattle.bcs_c.specs.declared.fault.Fault.TheVariants.{BadPath}
@@ -24,3 +26,9 @@ pub data AnswersNamed (registry : Entries) (limits : Bounds) (s : Shape) (b : Li
   refused : (MayName n name → ⊥) → a ≡ refusal Path BadPath → AnswersNamed registry limits s b n name a
   stepped : MayName n name → (steps : Steps) → AnswersSteps registry limits s b steps a → AnswersNamed registry limits s b n name a
   no_memory : a ≡ plain Memory → AnswersNamed registry limits s b n name a
+
+-- the name is refused; or the input stops being a value; or memory ran out
+pub data RefusesName (registry : Entries) (limits : Bounds) (s : Shape) (b : List ℕ) (n : ℕ) (name : List ℕ) (a : Answer) : Type 0 where
+  no_name : (MayName n name → ⊥) → a ≡ refusal Path BadPath → RefusesName registry limits s b n name a
+  no_value : MayName n name → (e : Reason) (o : ℕ) → Stops registry limits s b e o → a ≡ stop_at e o → RefusesName registry limits s b n name a
+  out_of_memory : a ≡ plain Memory → RefusesName registry limits s b n name a

@@ -1,7 +1,8 @@
 //! Bytes piece by piece, for C.
 ghost use Rattle.std.specs.Prelude.{◌≡◌, ◌≢◌};
+ghost use Rattle.bcs_display_pieces.specs.IsPlain.{IsPlain};
 ghost use Rattle.bcs_c.specs.Asking.{On};
-ghost use Rattle.bcs_c.specs.Explained.{AnswersExplained, form_numbered};
+ghost use Rattle.bcs_c.specs.Explained.{AnswersExplained, AnswersPieces, form_numbered};
 ghost use Rattle.bcs_c.specs.Statuses.{status_number};
 ghost use Rattle.bcs_c.specs.declared.status.Status.TheVariants.{Done};
 
@@ -9,7 +10,7 @@ use crate::answer::Answer;
 use crate::asked::Asked;
 use crate::output::put;
 use crate::status::Status;
-use bcs_display_pieces::explain_text;
+use bcs_display_pieces::{Views, explain_text};
 use bcs_display_text::style::{Form, Paint, Style};
 use std::alloc::Global;
 
@@ -24,6 +25,21 @@ pub(crate) fn explanation(
     ensures answers { On asked.now (λ r l s. AnswersExplained r l s bytes.now out.old out.new result) }
     ensures untouched { result.status ≢ status_number Done → out.new ≡ out.old }
 {
+    explained(alloc, asked, form, &Views::none(alloc), bytes, out)
+}
+
+/// The same, with these views.
+pub(crate) fn explained(
+    alloc: Global,
+    asked: &Asked,
+    form: u32,
+    views: &Views,
+    bytes: &[u8],
+    out: &mut [u8],
+) -> Answer
+    ensures answers { On asked.now (λ r l s. AnswersPieces (IsPlain views.now) r l s bytes.now out.old out.new result) }
+    ensures untouched { result.status ≢ status_number Done → out.new ≡ out.old }
+{
     let style = Style {
         form: numbered_form(form),
         paint: Paint::Plain,
@@ -34,6 +50,7 @@ pub(crate) fn explanation(
         asked.format,
         &asked.limits,
         style,
+        views,
         bytes,
     ) {
         Ok(explained) => put(&explained.text, out).with_stop(explained.stop),

@@ -1,9 +1,10 @@
 //! Why something is refused.
 ghost use Rattle.std.specs.Prelude.{◌≡◌};
-ghost use Rattle.bcs_c.specs.Faults.{fault_name, fault_number, growth_number, reason_number, registry_number, text_number};
+ghost use Rattle.bcs_c.specs.Faults.{fault_name, fault_number, growth_number, move_number, reason_number, registry_number, text_number};
 
 use bcs_decode_spec::Reason;
 use bcs_json_spec::JsonFault;
+use bcs_move::MoveRefusalName;
 use bcs_registry_model::{GrowthFault, RegistryFault};
 
 /// Why something is refused. C sees its number.
@@ -21,6 +22,8 @@ pub(crate) enum Fault {
     ShownTooNested,
     /// A path is invalid.
     BadPath,
+    /// A part isn't a `BYTES`, a `STR`, or a list or an array of `U8`.
+    NoContent,
     /// The format isn't the name of an enum with the requested variant.
     ExampleUnknownVariant,
     /// No value of the format is within the limits.
@@ -29,6 +32,8 @@ pub(crate) enum Fault {
     ExampleTooManyNodes,
     /// The JSON of the example would nest more than 100 deep.
     ExampleTooNested,
+    /// Modules of a Move chain, or a type of them, are refused.
+    Move(MoveRefusalName),
 }
 
 impl Fault {
@@ -43,10 +48,12 @@ impl Fault {
             Fault::Stop(reason) => reason_number(reason),
             Fault::ShownTooNested => 501,
             Fault::BadPath => 601,
+            Fault::NoContent => 602,
             Fault::ExampleUnknownVariant => 701,
             Fault::ExampleNoValue => 702,
             Fault::ExampleTooManyNodes => 703,
             Fault::ExampleTooNested => 704,
+            Fault::Move(name) => move_number(name),
         }
     }
 
@@ -61,9 +68,11 @@ impl Fault {
             Fault::Stop(reason) => reason.name(),
             Fault::ShownTooNested | Fault::ExampleTooNested => "TooNested",
             Fault::BadPath => "BadPath",
+            Fault::NoContent => "NoContent",
             Fault::ExampleUnknownVariant => "UnknownVariant",
             Fault::ExampleNoValue => "NoValue",
             Fault::ExampleTooManyNodes => "TooManyNodes",
+            Fault::Move(name) => name.name(),
         }
     }
 }
@@ -132,5 +141,26 @@ fn reason_number(reason: Reason) -> u32
         Reason::TrailingBytes => 412,
         Reason::TooManyNodes => 413,
         Reason::Unsupported => 414,
+    }
+}
+
+fn move_number(name: MoveRefusalName) -> u32
+    ensures { result ≡ move_number name }
+{
+    match name {
+        MoveRefusalName::NotJson => 801,
+        MoveRefusalName::RepeatedMember => 802,
+        MoveRefusalName::NotModules => 803,
+        MoveRefusalName::ChainError => 804,
+        MoveRefusalName::MixedChains => 805,
+        MoveRefusalName::RepeatedName => 806,
+        MoveRefusalName::BadType => 807,
+        MoveRefusalName::MissingModule => 808,
+        MoveRefusalName::UnknownName => 809,
+        MoveRefusalName::WrongCount => 810,
+        MoveRefusalName::NoBytes => 811,
+        MoveRefusalName::UnknownVariants => 812,
+        MoveRefusalName::NotStandard => 813,
+        MoveRefusalName::TooLarge => 814,
     }
 }

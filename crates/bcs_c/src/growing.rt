@@ -9,8 +9,8 @@ use crate::output::put;
 use crate::registries::read_registry;
 use crate::status::Status;
 use crate::whole_refusals::written;
-use bcs_display_errors::growth_refusal;
 use bcs_display_registry::{difference_lines, differences};
+use bcs_display_registry_errors::growth_refusal;
 use bcs_registry::Registry;
 use std::alloc::{AllocError, Global};
 

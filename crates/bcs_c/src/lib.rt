@@ -4,6 +4,7 @@
 mod answer;
 mod ask;
 mod asked;
+mod contents;
 mod documents;
 mod explaining;
 mod fault;
@@ -11,6 +12,7 @@ mod growing;
 mod handle;
 mod handles;
 mod known;
+mod modules;
 mod named_parts;
 mod naming;
 mod numbered;
@@ -25,6 +27,8 @@ mod scanning;
 mod showing;
 mod status;
 mod texts;
+mod view_lines;
+mod views;
 mod whole_refusals;
 mod word_places;
 

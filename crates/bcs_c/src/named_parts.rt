@@ -1,11 +1,11 @@
 //! Parts of values by names, for C.
-ghost use Rattle.std.specs.Prelude.{◌≡◌, ℕ, IfOk, IfSome, map};
+ghost use Rattle.std.specs.Prelude.{◌≡◌, ℕ, IfErr, IfOk, IfSome, map};
 ghost use Rattle.std.specs.declared.option.Option.TheVariants.{None};
 ghost use Rattle.bcs_value_model.specs.Tree.{Tree};
 ghost use Rattle.bcs_decode_spec.specs.Accepting.{Accepts};
 ghost use Rattle.bcs_decode_parts.specs.Steps.{step_of};
 ghost use Rattle.bcs_c.specs.Asking.{AnswersIfAsked, On, on_handle};
-ghost use Rattle.bcs_c.specs.NamedParts.{AnswersNamed, MayName};
+ghost use Rattle.bcs_c.specs.NamedParts.{AnswersNamed, MayName, RefusesName};
 ghost use Rattle.bcs_c.specs.Parts.{AnswersSteps};
 
 use crate::Handle;
@@ -15,7 +15,7 @@ use crate::asked::Asked;
 use crate::fault::Fault;
 use crate::status::Status;
 use bcs_decode::{Step, scan};
-use bcs_decode_parts::{PathFault, steps_of};
+use bcs_decode_parts::{PathFault, PathStep, steps_of};
 use bcs_part_names::{Led, is_pointer, part_of_scanned, path_of_name, path_of_pointer, read_name};
 use std::alloc::{AllocError, Global};
 use std::str::from_utf8;
@@ -55,22 +55,41 @@ pub extern "C" fn bcs_c_handle_part_named(
 fn named_place(alloc: Global, asked: &Asked, notation: u32, name: &[u8], bytes: &[u8]) -> Answer
     ensures { On asked.now (λ r l s. AnswersNamed r l s bytes.now notation name.now result) }
 {
+    let path = match led_path(alloc, asked, notation, name, bytes) {
+        Ok(path) => path,
+        Err(answer) => return answer,
+    };
+    match steps_of(alloc, path.as_slice()) {
+        Ok(steps) => scanned_place(asked, bytes, steps.as_slice()),
+        Err(AllocError) => Answer::plain(Status::Memory),
+    }
+}
+
+/// The steps that the name leads along, if the input starts with a value.
+pub(crate) fn led_path(
+    alloc: Global,
+    asked: &Asked,
+    notation: u32,
+    name: &[u8],
+    bytes: &[u8],
+) -> Result<Vec<PathStep>, Answer>
+    ensures named { IfOk result (λ path. MayName notation name.now) }
+    ensures valid { IfOk result (λ path. On asked.now (λ r l s. (n : ℕ) × (c : Tree) × Accepts r l s bytes.now n c)) }
+    ensures err { IfErr result (λ a. On asked.now (λ r l s. RefusesName r l s bytes.now notation name.now a)) }
+{
     let part_name = match name_in(alloc, notation, name) {
         Ok(Some(part_name)) => part_name,
-        Ok(None) => return Answer::refusal(Status::Path, Fault::BadPath),
-        Err(AllocError) => return Answer::plain(Status::Memory),
+        Ok(None) => return Err(Answer::refusal(Status::Path, Fault::BadPath)),
+        Err(AllocError) => return Err(Answer::plain(Status::Memory)),
     };
     // In bytes that aren't a value, a map may claim billions of entries, and a name would be followed through all of them.
     match scan(asked.registry, asked.format, &asked.limits, bytes) {
         Ok(_) => {}
-        Err(stop) => return Answer::stopped(stop),
+        Err(stop) => return Err(Answer::stopped(stop)),
     }
-    let Ok(led) = follow(alloc, asked, part_name, bytes) else {
-        return Answer::plain(Status::Memory);
-    };
-    match steps_of(alloc, led.path.as_slice()) {
-        Ok(steps) => scanned_place(asked, bytes, steps.as_slice()),
-        Err(AllocError) => Answer::plain(Status::Memory),
+    match follow(alloc, asked, part_name, bytes) {
+        Ok(led) => Ok(led.path),
+        Err(AllocError) => Err(Answer::plain(Status::Memory)),
     }
 }
 

@@ -4,13 +4,15 @@ ghost use Rattle.bcs_registry_model.specs.declared.fault.RegistryFault.{Registry
 ghost use Rattle.bcs_registry_model.specs.declared.growth_fault.GrowthFault.{GrowthFault};
 ghost use Rattle.bcs_decode_spec.specs.declared.reason.Reason.{Reason};
 ghost use Rattle.bcs_json_spec.specs.declared.json_fault.JsonFault.{JsonFault};
+ghost use Rattle.bcs_move_types.specs.declared.refusal.MoveRefusalName.{MoveRefusalName};
 ghost use Rattle.bcs_c.specs.Named.{IsNumbered};
 ghost use Rattle.bcs_c.specs.declared.fault.Fault.{Fault};
-ghost use Rattle.bcs_c.specs.declared.fault.Fault.TheVariants.{Growth, Registry, Stop, Text};
+ghost use Rattle.bcs_c.specs.declared.fault.Fault.TheVariants.{Growth, Move, Registry, Stop, Text};
 
 use crate::fault::Fault;
 use bcs_decode_spec::Reason;
 use bcs_json_spec::JsonFault;
+use bcs_move::MoveRefusalName;
 use bcs_registry_model::{GrowthFault, RegistryFault};
 
 /// The fault with this number, or `None` exactly if there is none.
@@ -30,9 +32,13 @@ pub(crate) fn fault_numbered(number: u32) -> Option<Fault>
     if let Some(reason) = stop_reason(number) {
         return Some(Fault::Stop(reason));
     }
+    if let Some(name) = move_refusal(number) {
+        return Some(Fault::Move(name));
+    }
     match number {
         501 => Some(Fault::ShownTooNested),
         601 => Some(Fault::BadPath),
+        602 => Some(Fault::NoContent),
         701 => Some(Fault::ExampleUnknownVariant),
         702 => Some(Fault::ExampleNoValue),
         703 => Some(Fault::ExampleTooManyNodes),
@@ -110,6 +116,29 @@ fn stop_reason(number: u32) -> Option<Reason>
         412 => Some(Reason::TrailingBytes),
         413 => Some(Reason::TooManyNodes),
         414 => Some(Reason::Unsupported),
+        _ => None,
+    }
+}
+
+fn move_refusal(number: u32) -> Option<MoveRefusalName>
+    ensures some { IfSome result (λ e. IsNumbered (Move e) number) }
+    ensures none { IfNone result ((e : MoveRefusalName) → IsNumbered (Move e) number → ⊥) }
+{
+    match number {
+        801 => Some(MoveRefusalName::NotJson),
+        802 => Some(MoveRefusalName::RepeatedMember),
+        803 => Some(MoveRefusalName::NotModules),
+        804 => Some(MoveRefusalName::ChainError),
+        805 => Some(MoveRefusalName::MixedChains),
+        806 => Some(MoveRefusalName::RepeatedName),
+        807 => Some(MoveRefusalName::BadType),
+        808 => Some(MoveRefusalName::MissingModule),
+        809 => Some(MoveRefusalName::UnknownName),
+        810 => Some(MoveRefusalName::WrongCount),
+        811 => Some(MoveRefusalName::NoBytes),
+        812 => Some(MoveRefusalName::UnknownVariants),
+        813 => Some(MoveRefusalName::NotStandard),
+        814 => Some(MoveRefusalName::TooLarge),
         _ => None,
     }
 }

@@ -41,7 +41,7 @@ pub(crate) fn path_place(alloc: Global, asked: &Asked, bytes: &[u8], path: &[u8]
 }
 
 /// The steps of a path, or its refusal.
-fn read_steps(alloc: Global, path: &[u8]) -> Result<Vec<PathStep>, Answer>
+pub(crate) fn read_steps(alloc: Global, path: &[u8]) -> Result<Vec<PathStep>, Answer>
     ensures ok { IfOk result (λ steps. IsPath path.now (all_spelled steps.items)) }
     ensures err { IfErr result (λ a. RefusesPath path.now a) }
 {

@@ -10,7 +10,9 @@ pub use bcs_display_example::{
     ExampleFault, ExampleForm, ExampleOptions, ExampleOptionsFault, ExampleTextFault, example_text,
     example_value, example_with,
 };
-pub use bcs_display_pieces::{Explanation, explain_text, stop_place};
+pub use bcs_display_pieces::{
+    Explanation, RefusedView, ViewTexts, Views, explain_text, stop_place,
+};
 pub use bcs_display_registry::{
     Change, Difference, RegistryForm, Sizes, container_sizes, difference_lines, differences,
     show_registry,

@@ -45,7 +45,7 @@ impl fmt::Display for Expected<'_> {
                 f.write_str(found.advice())
             }
             Expected::Unsupported(word) => {
-                write!(f, "no value of {word} is supported; BCS has none")
+                write!(f, "BCS has no {word}; this format can't have a value")
             }
             Expected::Named(words, name) => write!(f, "{words} {name}"),
             Expected::Hinted(words, name, hint) => write!(f, "{words} {name}{hint}"),
@@ -59,20 +59,17 @@ impl fmt::Display for Expected<'_> {
 // Writes the range of the integer.
 fn write_whole<W: fmt::Write>(number: IntegerKind, f: &mut fmt::Formatter<W>) -> fmt::Result {
     let word = Scalar::Whole(number).word();
-    match number {
-        IntegerKind::Unsigned(width) => {
-            let greatest = width.greatest_unsigned();
-            write!(f, "expected an integer from 0 to {greatest} ({word})")
-        }
+    let (sign, least, greatest) = match number {
+        IntegerKind::Unsigned(width) => ("", 0, width.greatest_unsigned()),
         IntegerKind::Signed(width) => {
             let greatest = width.greatest_unsigned() / 2;
-            let below = greatest.saturating_add(1);
-            write!(
-                f,
-                "expected an integer from -{below} to {greatest} ({word})"
-            )
+            ("-", greatest.saturating_add(1), greatest)
         }
-    }
+    };
+    write!(
+        f,
+        "expected an integer from {sign}{least} to {greatest} ({word})"
+    )
 }
 
 impl fmt::Display for Count {

@@ -2,7 +2,7 @@
 
 use crate::field_list::FieldList;
 use crate::hints::Hint;
-use crate::nearest::NearestName;
+use bcs_display_mistakes::{NearestName, Suggestion};
 use bcs_display_refusal::Name;
 use bcs_registry::{Format, Named};
 use serde_json::{Map, Value as Json};
@@ -44,7 +44,7 @@ pub(crate) fn unknown_hint<'a>(
         search.consider(alloc, field.name.as_str())?;
     }
     match search.found() {
-        Some(name) => Ok(Hint::Nearest(Name::of(name))),
+        Some(name) => Ok(Hint::Nearest(Suggestion::of(Some(name)))),
         None => Ok(Hint::Fields(FieldList(fields))),
     }
 }

@@ -2,6 +2,7 @@
 
 use crate::field_list::FieldList;
 use crate::variant_list::VariantList;
+use bcs_display_mistakes::Suggestion;
 use bcs_display_refusal::Name;
 use std::fmt;
 
@@ -10,7 +11,7 @@ use std::fmt;
 pub(crate) enum Hint<'a> {
     Nothing,
     /// The name that was probably meant.
-    Nearest(Name<'a>),
+    Nearest(Suggestion<'a>),
     /// The name that was probably written in place of the one that is missing.
     Found(Name<'a>),
     /// The variants that exist.
@@ -21,21 +22,11 @@ pub(crate) enum Hint<'a> {
     Null,
 }
 
-impl<'a> Hint<'a> {
-    /// Suggests this name, if there is one.
-    pub(crate) fn nearest(name: Option<&'a str>) -> Hint<'a> {
-        match name {
-            Some(name) => Hint::Nearest(Name::of(name)),
-            None => Hint::Nothing,
-        }
-    }
-}
-
 impl fmt::Display for Hint<'_> {
     fn fmt<W: fmt::Write>(&self, f: &mut fmt::Formatter<W>) -> fmt::Result {
         match self {
             Hint::Nothing => Ok(()),
-            Hint::Nearest(name) => write!(f, "; did you mean {name}?"),
+            Hint::Nearest(suggestion) => write!(f, "{suggestion}"),
             Hint::Found(name) => write!(f, "; found: {name}"),
             Hint::Variants(list) => write!(f, "{list}"),
             Hint::Fields(list) => write!(f, "{list}"),

@@ -1,13 +1,13 @@
 //! What was expected in JSON where a value of a format belongs.
 
 use crate::content::{Content, Enum};
-use crate::digits::{has_prefix, wrong_digits};
 use crate::expectations::{Count, Expected};
 use crate::field_hints::{missing_hint, unknown_hint};
 use crate::json_outline::Outline;
 use crate::number_hints::FoundNumber;
 use crate::targets::Target;
 use crate::variant_hints::variant_hint;
+use bcs_display_mistakes::{has_prefix, wrong_digits};
 use bcs_display_refusal::Name;
 use bcs_registry::{Format, Named, Registry, VariantFormat};
 use bcs_registry_model::{Kind, Scalar};

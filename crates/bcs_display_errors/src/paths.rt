@@ -1,7 +1,7 @@
 //! The first invalid step of PATH.
 
-use crate::digits::{PREFIX, has_prefix};
 use bcs_decode_parts::{PathFault, read_path};
+use bcs_display_mistakes::{PREFIX, has_prefix};
 use bcs_display_refusal::{Location, Refusal};
 use std::alloc::{AllocError, Global};
 

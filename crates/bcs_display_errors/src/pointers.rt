@@ -1,8 +1,9 @@
 //! JSON Pointers.
 ghost use Rattle.std.specs.Prelude.{◌≡◌, ◌++◌, IfOk, OnOk, map};
 ghost use Rattle.bcs_json_spec.specs.Place.{pointer_step_of};
-ghost use Rattle.bcs_display_errors.specs.Pointers.{marked, marked_sign, pointer, pointer_step};
+ghost use Rattle.bcs_display_errors.specs.Pointers.{pointer, pointer_step};
 
+use bcs_display_mistakes::put_marked;
 use bcs_display_text::columns::put_decimal;
 use bcs_json_spec::JsonStep;
 use std::alloc::{AllocError, Global};
@@ -26,26 +27,5 @@ fn put_step(step: &JsonStep, out: &mut Vec<u8>) -> Result<(), AllocError>
     match step {
         JsonStep::Item(number) => put_decimal(u128::from(*number), out),
         JsonStep::Member(name) => put_marked(name.as_bytes(), out),
-    }
-}
-
-/// Appends a name.
-fn put_marked(name: &[u8], out: &mut Vec<u8>) -> Result<(), AllocError>
-    ensures { OnOk result (out.new.items ≡ out.old.items ++ marked name.now) }
-{
-    for sign in name {
-        put_sign(*sign, out)?;
-    }
-    Ok(())
-}
-
-/// Appends a byte of a name.
-fn put_sign(sign: u8, out: &mut Vec<u8>) -> Result<(), AllocError>
-    ensures { OnOk result (out.new.items ≡ out.old.items ++ marked_sign sign) }
-{
-    match sign {
-        b'~' => out.extend_from_slice(b"~0"),
-        b'/' => out.extend_from_slice(b"~1"),
-        _ => out.extend_from_slice(&[sign]),
     }
 }

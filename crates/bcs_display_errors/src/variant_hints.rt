@@ -1,9 +1,9 @@
 //! Hints about the name of a variant that an enum doesn't have, in JSON or after `--variant`.
 
 use crate::hints::Hint;
-use crate::nearest::NearestName;
 use crate::variant_list::VariantList;
-use bcs_display_refusal::{Location, Name, Refusal};
+use bcs_display_mistakes::{NearestName, Suggestion};
+use bcs_display_refusal::{Location, Refusal};
 use bcs_registry::{Container, Format, Named, Registry, VariantFormat};
 use std::alloc::{AllocError, Global};
 use std::collections::BTreeMap;
@@ -15,7 +15,7 @@ pub(crate) fn variant_hint<'a>(
     word: &'a str,
 ) -> Result<Hint<'a>, AllocError> {
     match nearest_variant(alloc, variants, word)? {
-        Some(name) => Ok(Hint::Nearest(Name::of(name))),
+        Some(name) => Ok(Hint::Nearest(Suggestion::of(Some(name)))),
         None => Ok(Hint::Variants(VariantList(variants))),
     }
 }
@@ -30,7 +30,7 @@ pub fn variant_refusal(
 ) -> Result<Refusal, AllocError> {
     let message = match variants_of(registry, format) {
         Some(variants) => {
-            let nearest = Hint::nearest(nearest_variant(alloc, variants, word)?);
+            let nearest = Suggestion::of(nearest_variant(alloc, variants, word)?);
             let list = VariantList(variants);
             format!(in alloc; "no variant has this name{nearest}{list}")?
         }

@@ -1,10 +1,15 @@
 //! JSON documents that are refused as a whole.
 
-use crate::no_json::no_value_json;
+use bcs_display_mistakes::{Mistake, SECOND, json_mistake};
 use bcs_display_refusal::{Location, Refusal};
 use bcs_json_spec::JsonFault;
 use bcs_value::Limits;
 use std::alloc::Global;
+
+const DIGITS: &str =
+    "hexadecimal digits, where JSON belongs; decode reads such digits, and in JSON they belong in double quotes";
+
+const LINES: &str = "; --lines reads one document from each line";
 
 /// The refusal of a document as a whole with this fault. For `NotJson`, it has the line and the column of the first
 /// mistake.
@@ -16,7 +21,7 @@ pub fn whole_refusal(
 ) -> Option<Refusal> {
     let nodes = limits.nodes();
     let message = match fault {
-        JsonFault::NotJson => return no_value_json(alloc, text),
+        JsonFault::NotJson => return no_json(alloc, text),
         JsonFault::TooNested => String::from_str(
             alloc,
             "arrays and objects are nested more than 100 levels deep",
@@ -30,4 +35,23 @@ pub fn whole_refusal(
     };
     let message = message.ok()?.into_bytes();
     Some(Refusal::of(fault.name(), Location::WholeText, message))
+}
+
+// The refusal of a document that isn't JSON.
+fn no_json(alloc: Global, text: &[u8]) -> Option<Refusal> {
+    let mistake = json_mistake(alloc, text)?;
+    if is_hexadecimal(text) {
+        return Mistake::at_start(DIGITS).refusal(alloc, text);
+    }
+    let mut refusal = mistake.refusal(alloc, text)?;
+    if mistake.words == SECOND {
+        refusal.message.extend_from_slice(LINES.as_bytes()).ok()?;
+    }
+    Some(refusal)
+}
+
+// Whether the text is an even number of hexadecimal digits.
+fn is_hexadecimal(text: &[u8]) -> bool {
+    let text = text.trim_ascii();
+    !text.is_empty() && text.len() % 2 == 0 && text.iter().all(|byte| byte.is_ascii_hexdigit())
 }

@@ -1,1 +1,2 @@
 pub mod EndsAt
+pub mod IsPlain

@@ -8,10 +8,32 @@ use std::alloc::AllocError;
 /// The number of bytes of the longest length or variant number in BCS.
 const LONGEST_NUMBER: usize = 5;
 
-/// Appends what was found at a stop for this reason, at the start of `rest`, and what to do.
-pub(crate) fn put_found(reason: Reason, rest: &[u8], out: &mut Vec<u8>) -> Result<(), AllocError> {
+/// What follows a stop.
+#[derive(Clone, Copy)]
+pub(crate) enum Found<'a> {
+    /// The rest of the input.
+    InInput(&'a [u8]),
+    /// The rest of a byte string in it.
+    InByteString(&'a [u8]),
+}
+
+impl<'a> Found<'a> {
+    pub(crate) fn rest(self) -> &'a [u8] {
+        match self {
+            Found::InInput(rest) | Found::InByteString(rest) => rest,
+        }
+    }
+}
+
+/// Appends what was found at a stop for this reason, and what to do.
+pub(crate) fn put_found(
+    reason: Reason,
+    found: Found<'_>,
+    out: &mut Vec<u8>,
+) -> Result<(), AllocError> {
+    let rest = found.rest();
     match reason {
-        Reason::EndOfInput => out.extend_from_slice(b", found the end of the input"),
+        Reason::EndOfInput => put_end(found, out),
         Reason::BadBool | Reason::BadOption => {
             out.extend_from_slice(b", 00 or 01, found ")?;
             put_hex(first_of(rest, 1), out)
@@ -32,12 +54,20 @@ pub(crate) fn put_found(reason: Reason, rest: &[u8], out: &mut Vec<u8>) -> Resul
             out.extend_from_slice(b" in UTF-8, found ")?;
             put_hex(first_of(rest, 1), out)
         }
-        Reason::TrailingBytes => put_trailing(rest, out),
+        Reason::TrailingBytes => put_trailing(found, out),
         Reason::KeyOrder | Reason::KeyRepeated => {
             out.extend_from_slice(b"; the keys of a map ascend, compared as bytes")
         }
-        Reason::Unsupported => out.extend_from_slice(b"; BCS has none of F32, F64 or CHAR"),
-        Reason::UnknownVariant | Reason::TooDeep | Reason::TooManyNodes => Ok(()),
+        Reason::Unsupported | Reason::UnknownVariant | Reason::TooDeep | Reason::TooManyNodes => Ok(
+            (),
+        ),
+    }
+}
+
+fn put_end(found: Found<'_>, out: &mut Vec<u8>) -> Result<(), AllocError> {
+    match found {
+        Found::InInput(_) => out.extend_from_slice(b", found the end of the input"),
+        Found::InByteString(_) => out.extend_from_slice(b", found the end of the byte string"),
     }
 }
 
@@ -53,11 +83,11 @@ fn put_number(rest: &[u8], out: &mut Vec<u8>) -> Result<(), AllocError> {
 }
 
 // The bytes behind a whole value.
-fn put_trailing(rest: &[u8], out: &mut Vec<u8>) -> Result<(), AllocError> {
+fn put_trailing(found: Found<'_>, out: &mut Vec<u8>) -> Result<(), AllocError> {
     out.extend_from_slice(b", found ")?;
-    put_quantity(rest.len() as u64, " byte more", " bytes more", out)?;
-    match rest {
-        [b'\n'] => out.extend_from_slice(b", a line feed; remove it"),
+    put_quantity(found.rest().len() as u64, " byte more", " bytes more", out)?;
+    match found {
+        Found::InInput([b'\n']) => out.extend_from_slice(b", a line feed; remove it"),
         _ => Ok(()),
     }
 }

@@ -1,6 +1,8 @@
 //! Lines in columns: the byte offset, the bytes, their meaning and the field path.
 
+use crate::above::Above;
 use crate::meaning::put_meaning;
+use crate::piece::Piece;
 use crate::steps::{put_branch, put_field_path, put_path};
 use bcs_display_text::colors::{end_color, end_painted, start_color};
 use bcs_display_text::columns::{end_column, put_blanks, put_hex, put_place};
@@ -23,20 +25,19 @@ const PLACE_COLOR: &str = "36";
 /// Appends the line of a piece, and more lines if it has more than `ROW_SIZE` bytes.
 pub(crate) fn put_lines(
     style: Style,
-    place: u64,
-    bytes: &[u8],
+    piece: &Piece<'_>,
+    above: &Above,
     trail: &Trail<'_, '_, '_>,
-    meaning: Meaning<'_>,
     out: &mut Vec<u8>,
 ) -> Result<(), AllocError> {
-    let rest = put_first_row(style.paint, place, bytes, out)?;
-    start_color(style.paint, color_of(meaning), out)?;
+    let rest = put_first_row(style.paint, piece.place, piece.bytes, out)?;
+    start_color(style.paint, color_of(piece.meaning), out)?;
     let start = out.len();
-    put_meaning(trail, bytes.len(), meaning, out)?;
+    put_meaning(trail, piece, out)?;
     end_painted(style.paint, start, MEANING_WIDTH, out)?;
-    put_led(style.form, trail, out)?;
+    put_led(style.form, above, trail, out)?;
     out.push(b'\n')?;
-    put_more_rows(style.paint, place, rest, out)
+    put_more_rows(style.paint, piece.place, rest, out)
 }
 
 /// Appends the offset and the first `ROW_SIZE` bytes as a padded column, and returns the bytes that are left.
@@ -78,15 +79,20 @@ fn put_spot(paint: Paint, place: u64, out: &mut Vec<u8>) -> Result<(), AllocErro
     put_blanks(2, out)
 }
 
-fn put_led(form: Form, trail: &Trail<'_, '_, '_>, out: &mut Vec<u8>) -> Result<(), AllocError> {
+fn put_led(
+    form: Form,
+    above: &Above,
+    trail: &Trail<'_, '_, '_>,
+    out: &mut Vec<u8>,
+) -> Result<(), AllocError> {
     match form {
-        Form::Ways | Form::Json => put_field_path(trail, out),
+        Form::Ways | Form::Json => put_field_path(above, trail, out),
         Form::Paths => {
-            put_field_path(trail, out)?;
+            put_field_path(above, trail, out)?;
             put_blanks(2, out)?;
-            put_path(trail, out)
+            put_path(above, trail, out)
         }
-        Form::Tree => put_branch(trail, out),
+        Form::Tree => put_branch(above, trail, out),
     }
 }
 

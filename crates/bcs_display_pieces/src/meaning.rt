@@ -1,13 +1,26 @@
 //! The meaning of a piece, in words.
 
+use crate::move_values::put_move_value;
+use crate::piece::Piece;
 use crate::steps::container_name;
 use bcs_display_text::columns::{put_decimal, put_signed};
 use bcs_display_text::escaping::put_escaped;
 use bcs_explain::{Counted, Meaning, Trail};
 use std::alloc::AllocError;
 
-/// Appends the meaning of a piece of `size` bytes at the end of `trail`.
+/// Appends the meaning of a piece at the end of `trail`.
 pub(crate) fn put_meaning(
+    trail: &Trail<'_, '_, '_>,
+    piece: &Piece<'_>,
+    out: &mut Vec<u8>,
+) -> Result<(), AllocError> {
+    match piece.kind {
+        Some(kind) => put_move_value(kind, piece.bytes, out),
+        None => put_bcs_meaning(trail, piece.bytes.len(), piece.meaning, out),
+    }
+}
+
+fn put_bcs_meaning(
     trail: &Trail<'_, '_, '_>,
     size: usize,
     meaning: Meaning<'_>,
@@ -89,7 +102,7 @@ pub(crate) fn counted_word(counted: Counted) -> &'static str {
     match counted {
         Counted::Text => "STR",
         Counted::Bytes => "BYTES",
-        Counted::List => "SEQ",
+        Counted::List | Counted::Octets => "SEQ",
         Counted::Map => "MAP",
     }
 }
@@ -97,7 +110,7 @@ pub(crate) fn counted_word(counted: Counted) -> &'static str {
 fn put_length(counted: Counted, count: u64, out: &mut Vec<u8>) -> Result<(), AllocError> {
     let (one, more) = match counted {
         Counted::Text | Counted::Bytes => (" byte", " bytes"),
-        Counted::List => (" element", " elements"),
+        Counted::List | Counted::Octets => (" element", " elements"),
         Counted::Map => (" entry", " entries"),
     };
     out.extend_from_slice(counted_word(counted).as_bytes())?;

@@ -1,8 +1,11 @@
 //! Pieces, the end and the stop as JSON objects, one per line. The fields of each struct are in alphabetical order,
 //! which is the order in which they are printed.
 
+use crate::above::Above;
 use crate::halt::Halt;
 use crate::meaning::put_format;
+use crate::move_values::put_move_value;
+use crate::piece::Piece;
 use crate::steps::{put_field_path, put_path};
 use bcs_display_text::columns::{put_decimal, put_signed};
 use bcs_explain::{Meaning, Stop, Trail};
@@ -25,7 +28,7 @@ struct PieceObject<'a> {
 enum PieceValue<'a> {
     Flag(bool),
     Count(u64),
-    /// An integer, as a string: it may have 128 bits.
+    /// An integer, as a string: it may have 128 bits. Or an address.
     Digits(String),
     Text(&'a str),
 }
@@ -45,21 +48,20 @@ struct StopObject<'a> {
 }
 
 pub(crate) fn put_piece_object(
-    place: u64,
-    bytes: &[u8],
+    piece: &Piece<'_>,
+    above: &Above,
     trail: &Trail<'_, '_, '_>,
-    meaning: Meaning<'_>,
     out: &mut Vec<u8>,
 ) -> Result<(), AllocError> {
     let alloc = *out.allocator();
     let object = PieceObject {
-        bytes: hex::encode(alloc, bytes)?,
-        kind: kind_word(meaning),
-        name: way_text(alloc, trail)?,
-        path: word_text(alloc, trail)?,
-        place,
-        value: meaning_value(alloc, bytes.len(), meaning)?,
-        what: format_text(alloc, trail, bytes.len(), meaning)?,
+        bytes: hex::encode(alloc, piece.bytes)?,
+        kind: kind_word(piece),
+        name: way_text(alloc, above, trail)?,
+        path: word_text(alloc, above, trail)?,
+        place: piece.place,
+        value: piece_value(alloc, piece)?,
+        what: format_text(alloc, trail, piece.bytes.len(), piece.meaning)?,
     };
     put_object(&object, out)
 }
@@ -88,7 +90,14 @@ fn put_object<T: Serialize>(object: &T, out: &mut Vec<u8>) -> Result<(), AllocEr
     Ok(out.push(b'\n')?)
 }
 
-fn kind_word(meaning: Meaning<'_>) -> &'static str {
+fn kind_word(piece: &Piece<'_>) -> &'static str {
+    match piece.kind {
+        Some(kind) => kind.word(),
+        None => meaning_word(piece.meaning),
+    }
+}
+
+fn meaning_word(meaning: Meaning<'_>) -> &'static str {
     match meaning {
         Meaning::Truth(_) => "truth",
         Meaning::Unsigned(_) => "unsigned",
@@ -99,6 +108,17 @@ fn kind_word(meaning: Meaning<'_>) -> &'static str {
         Meaning::Octets => "octets",
         Meaning::Option(_) => "option",
         Meaning::Variant(_, _) => "variant",
+    }
+}
+
+fn piece_value<'a>(alloc: Global, piece: &Piece<'a>) -> Result<PieceValue<'a>, AllocError> {
+    match piece.kind {
+        Some(kind) => {
+            let mut text = Vec::new(alloc);
+            put_move_value(kind, piece.bytes, &mut text)?;
+            Ok(PieceValue::Digits(ascii_text(text)?))
+        }
+        None => meaning_value(alloc, piece.bytes.len(), piece.meaning),
     }
 }
 
@@ -129,15 +149,19 @@ fn meaning_value<'a>(
 }
 
 // The field path of the piece, by names.
-fn way_text(alloc: Global, trail: &Trail<'_, '_, '_>) -> Result<String, AllocError> {
+fn way_text(alloc: Global, above: &Above, trail: &Trail<'_, '_, '_>) -> Result<String, AllocError> {
     let mut way = Vec::new(alloc);
-    put_field_path(trail, &mut way)?;
+    put_field_path(above, trail, &mut way)?;
     ascii_text(way)
 }
 
-fn word_text(alloc: Global, trail: &Trail<'_, '_, '_>) -> Result<Option<String>, AllocError> {
+fn word_text(
+    alloc: Global,
+    above: &Above,
+    trail: &Trail<'_, '_, '_>,
+) -> Result<Option<String>, AllocError> {
     let mut path = Vec::new(alloc);
-    put_path(trail, &mut path)?;
+    put_path(above, trail, &mut path)?;
     path_text(path)
 }
 

@@ -5,13 +5,13 @@ ghost use Rattle.bcs_registry_model.specs.WellFormed.{Admits};
 ghost use Rattle.bcs_decode_spec.specs.declared.stop.Stop as declared;
 ghost use Rattle.bcs_display_pieces.specs.EndsAt.{EndsAt};
 
-use crate::found::put_found;
+use crate::above::Above;
+use crate::ending::refusal_at;
+use crate::found::Found;
 use crate::halt::Halt;
-use crate::steps::container_name;
 use crate::stopping::stop_of;
-use crate::variants::put_variants;
-use bcs_display_refusal::{Location, Refusal};
-use bcs_explain::{Expected, Listener, Meaning, Reason, Stop, Trail};
+use bcs_display_refusal::Refusal;
+use bcs_explain::{Expected, Listener, Meaning, Stop, Trail};
 use bcs_registry::{Format, Registry};
 use bcs_value::Limits;
 use std::alloc::{AllocError, Global};
@@ -55,10 +55,11 @@ pub fn stop_refusal(
     ensures none { IfOk result (λ x. x ≡ None → EndsAt registry.now limits.now (shape_of format.now) bytes.now None) }
     ensures some { IfOk result (λ x. IfSome x (λ stopped. EndsAt registry.now limits.now (shape_of format.now) bytes.now (Some stopped.stop))) }
 {
+    let above = Above::input(alloc);
     let mut keeper = StopKeeper {
         alloc,
-        halt: Halt::at_end(alloc)?,
-        container: String::new(alloc),
+        halt: Halt::at_end(alloc, &above)?,
+        above,
         has_lost: false,
     };
     let Some(stop) = stop_of(registry, format, limits, bytes, &mut keeper) else {
@@ -67,57 +68,30 @@ pub fn stop_refusal(
     if keeper.has_lost {
         return Err(AllocError);
     }
-    let StopKeeper {
-        halt,
-        container,
-        ..
-    } = keeper;
-    let mut refusal = refusal_of(alloc, stop.reason, halt)?;
-    let rest = bytes.get(stop.place as usize..).unwrap_or(b"");
-    put_found(stop.reason, rest, &mut refusal.message)?;
-    if stop.reason == Reason::UnknownVariant {
-        put_variants(registry, container.as_str(), rest, &mut refusal.message)?;
-    }
+    let found = Found::InInput(bytes.get(stop.place as usize..).unwrap_or(b""));
+    let refusal = refusal_at(alloc, registry, stop.reason, &keeper.halt, found)?;
     Ok(Some(Stopped { stop, refusal }))
-}
-
-fn refusal_of(alloc: Global, reason: Reason, halt: Halt) -> Result<Refusal, AllocError> {
-    let mut message = Vec::from_slice(alloc, b"expected ")?;
-    message.extend_from_slice(&halt.expected)?;
-    Ok(Refusal::of(reason.name(), Location::Part(halt.way), message))
 }
 
 /// A listener that stores where the bytes stop.
 #[derive(Drop)]
 struct StopKeeper {
     alloc: Global,
+    above: Above,
     halt: Halt,
-    /// The container that was opened last there, or an empty name.
-    container: String,
     /// Whether an allocation failed.
     has_lost: bool,
-}
-
-impl StopKeeper {
-    fn keep(
-        &mut self,
-        trail: &Trail<'_, '_, '_>,
-        expected: Expected<'_>,
-    ) -> Result<(), AllocError> {
-        self.halt = Halt::at(self.alloc, trail, expected)?;
-        self.container = String::from_str(self.alloc, container_name(trail))?;
-        Ok(())
-    }
 }
 
 impl Listener for StopKeeper {
     ghost heard = { λ _ _ _. ⊤ };
 
-    fn hear(&mut self, _: u64, _: &[u8], _: &Trail<'_, '_, '_>, _: Meaning<'_>) {}
+    fn hear(&mut self, _: u64, _: &[u8], _: &Trail<'_, '_, '_>, _: Meaning<'_>, _: u32) {}
 
     fn halt(&mut self, trail: &Trail<'_, '_, '_>, expected: Expected<'_>) {
-        if let Err(AllocError) = self.keep(trail, expected) {
-            self.has_lost = true;
+        match Halt::at(self.alloc, &self.above, trail, expected) {
+            Ok(halt) => self.halt = halt,
+            Err(AllocError) => self.has_lost = true,
         }
     }
 }

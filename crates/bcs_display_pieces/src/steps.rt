@@ -1,7 +1,9 @@
 //! Prints the field path of a piece: by names, as a PATH argument, or as a branch of a tree. A trail is linked from the
 //! last step upwards, and a loop that follows it needs no stack. So the text is written backwards and then reversed.
 
+use crate::above::Above;
 use crate::meaning::put_quantity;
+use crate::patterns::INSIDE;
 use bcs_display_text::columns::{put_blanks, put_decimal, put_hex};
 use bcs_explain::{Step, Trail};
 use bcs_part_names::LONGEST_KEY;
@@ -14,39 +16,100 @@ enum Spelling {
     Path,
 }
 
-/// Appends the names of the steps from the whole value down, or `.` if there are none.
+/// Appends the names of the steps from the whole input down, or `.` if there are none.
 pub(crate) fn put_field_path(
+    above: &Above,
     trail: &Trail<'_, '_, '_>,
     out: &mut Vec<u8>,
 ) -> Result<(), AllocError> {
+    let start = out.len();
+    put_names(above, trail, out)?;
+    if out.len() == start {
+        out.push(b'.')?;
+    }
+    Ok(())
+}
+
+/// Appends the names of the steps from the whole input down.
+pub(crate) fn put_names(
+    above: &Above,
+    trail: &Trail<'_, '_, '_>,
+    out: &mut Vec<u8>,
+) -> Result<(), AllocError> {
+    out.extend_from_slice(&above.name)?;
     put_steps(Spelling::Names, trail, out)
 }
 
 /// Appends the PATH argument for `bcs part`: `.` for the whole value, and `-` if no path leads there.
-pub(crate) fn put_path(trail: &Trail<'_, '_, '_>, out: &mut Vec<u8>) -> Result<(), AllocError> {
-    if is_in_key(trail) {
+pub(crate) fn put_path(
+    above: &Above,
+    trail: &Trail<'_, '_, '_>,
+    out: &mut Vec<u8>,
+) -> Result<(), AllocError> {
+    if above.is_inside() || is_in_key(trail) {
         return Ok(out.push(b'-')?);
     }
-    put_steps(Spelling::Path, trail, out)
+    let start = out.len();
+    put_steps(Spelling::Path, trail, out)?;
+    if out.len() == start {
+        out.push(b'.')?;
+    }
+    Ok(())
 }
 
 /// Appends the last printed step, indented by two spaces for each one before it, or `.` if there are none.
-pub(crate) fn put_branch(trail: &Trail<'_, '_, '_>, out: &mut Vec<u8>) -> Result<(), AllocError> {
-    let mut last = None;
+pub(crate) fn put_branch(
+    above: &Above,
+    trail: &Trail<'_, '_, '_>,
+    out: &mut Vec<u8>,
+) -> Result<(), AllocError> {
+    let count = above.steps.saturating_add(count_steps(trail));
+    for _ in 1..count {
+        put_blanks(2, out)?;
+    }
+    match last_step(trail) {
+        Some(step) => put_name(step, out),
+        None if above.is_inside() => out.extend_from_slice(INSIDE),
+        None => Ok(out.push(b'.')?),
+    }
+}
+
+/// The number of steps that are printed.
+pub(crate) fn count_steps(trail: &Trail<'_, '_, '_>) -> usize {
+    let mut count: usize = 0;
     let mut rest = trail;
     while let Trail::Below(above, step) = rest {
         if is_written(step) {
-            match last {
-                None => last = Some(step),
-                Some(_) => put_blanks(2, out)?,
-            }
+            count = count.saturating_add(1);
         }
         rest = above;
     }
-    match last {
-        Some(step) => put_name(step, out),
-        None => Ok(out.push(b'.')?),
+    count
+}
+
+/// The number of containers that are open.
+pub(crate) fn count_containers(trail: &Trail<'_, '_, '_>) -> u32 {
+    let mut count: u32 = 0;
+    let mut rest = trail;
+    while let Trail::Below(above, step) = rest {
+        if !is_written(step) {
+            count = count.saturating_add(1);
+        }
+        rest = above;
     }
+    count
+}
+
+// The last step that is printed.
+fn last_step<'t, 'r, 'a>(trail: &'t Trail<'t, 'r, 'a>) -> Option<&'t Step<'r, 'a>> {
+    let mut rest = trail;
+    while let Trail::Below(above, step) = rest {
+        if is_written(step) {
+            return Some(step);
+        }
+        rest = above;
+    }
+    None
 }
 
 /// The name of the container that the last step opens, or an empty string if it opens none.
@@ -82,9 +145,6 @@ fn put_steps(
         }
         put_step_back(spelling, step, out)?;
         rest = above;
-    }
-    if out.len() == start {
-        out.push(b'.')?;
     }
     turn_from(start, out);
     Ok(())

@@ -1,85 +1,211 @@
 //! A listener that prints each piece.
 ghost use Rattle.std.specs.Prelude.{⊤};
 
-use crate::error_line::put_error;
+use crate::above::Above;
+use crate::argument_counts::{expected_arguments, wrong_count};
 use crate::halt::Halt;
 use crate::lines::put_lines;
-use crate::objects::{put_end_object, put_piece_object, put_stop_object};
-use bcs_display_text::style::{Form, Style};
-use bcs_explain::{Expected, Listener, Meaning, Stop, Trail};
+use crate::objects::put_piece_object;
+use crate::piece::Piece;
+use crate::steps::{count_containers, put_field_path};
+use crate::walk::{Hole, Scene, Walk};
+use bcs_display_text::style::Form;
+use bcs_explain::{Counted, Expected, Listener, Meaning, Trail};
 use std::alloc::{AllocError, Global};
 
-/// The lines of the pieces received so far.
+/// The pieces received so far.
 #[derive(Drop)]
-pub(crate) struct Table {
-    style: Style,
-    text: Vec<u8>,
-    /// The byte offset after the last piece.
-    end: u64,
-    halt: Halt,
+pub(crate) struct Table<'e> {
+    alloc: Global,
+    scene: Scene<'e>,
+    above: Above,
+    /// The number of containers that may be open at once.
+    depth: u32,
+    walk: Walk,
     /// Whether an allocation failed.
     has_lost: bool,
 }
 
-impl Table {
-    pub(crate) fn new(alloc: Global, style: Style) -> Result<Table, AllocError> {
-        Ok(Table {
-            style,
+impl<'e> Table<'e> {
+    pub(crate) fn new(
+        alloc: Global,
+        scene: Scene<'e>,
+        above: Above,
+        depth: u32,
+        nodes: u32,
+    ) -> Result<Table<'e>, AllocError> {
+        let walk = Walk {
             text: Vec::new(alloc),
-            end: 0,
-            halt: Halt::at_end(alloc)?,
+            holes: Vec::new(alloc),
+            called: Vec::new(alloc),
+            nodes,
+            end: above.start,
+            halt: Halt::at_end(alloc, &above)?,
+            inner: None,
+        };
+        Ok(Table {
+            alloc,
+            scene,
+            above,
+            depth,
+            walk,
             has_lost: false,
         })
     }
 
-    /// Completes the output: appends the error line if there is a stop, or in JSON form the object for the stop or the
-    /// end. Fails only if memory runs out.
-    pub(crate) fn finish(self, bytes: &[u8], stop: Option<Stop>) -> Result<Vec<u8>, AllocError> {
-        let Table {
-            style,
-            mut text,
-            end,
-            halt,
-            has_lost,
-        } = self;
-        if has_lost {
-            return Err(AllocError);
-        }
-        match (stop, style.form) {
-            (None, Form::Json) => put_end_object(bytes.len(), &mut text)?,
-            (None, Form::Ways | Form::Paths | Form::Tree) => {}
-            (Some(stop), Form::Json) => put_stop_object(stop, halt, &mut text)?,
-            (Some(stop), Form::Ways | Form::Paths | Form::Tree) => {
-                let rest = bytes.get(end as usize..).unwrap_or(&[]);
-                put_error(style, end, rest, stop, &halt, &mut text)?;
+    /// What was received. Fails if memory ran out.
+    pub(crate) fn finish(self) -> Result<Walk, AllocError> {
+        let Table { walk, has_lost, .. } = self;
+        if has_lost { Err(AllocError) } else { Ok(walk) }
+    }
+
+    fn add(
+        &mut self,
+        piece: &Piece<'_>,
+        trail: &Trail<'_, '_, '_>,
+        nodes: u32,
+    ) -> Result<(), AllocError> {
+        if self.scene.views.is_plain() {
+            self.put(piece, trail)?;
+        } else {
+            match piece.meaning {
+                Meaning::Text(_) | Meaning::Bytes(_) | Meaning::Octets => {
+                    self.add_content(piece, trail, nodes)?;
+                }
+                Meaning::Length(Counted::List, count) => {
+                    self.add_list(piece, trail, count)?;
+                }
+                Meaning::Length(Counted::Text | Counted::Bytes | Counted::Octets, 0) => {
+                    self.put(piece, trail)?;
+                    self.add_hole(piece_end(piece), piece_end(piece), trail, nodes)?;
+                }
+                _ => self.put(piece, trail)?,
             }
         }
-        Ok(text)
+        self.walk.nodes = nodes;
+        Ok(())
+    }
+
+    fn put(&mut self, piece: &Piece<'_>, trail: &Trail<'_, '_, '_>) -> Result<(), AllocError> {
+        let text = &mut self.walk.text;
+        match self.scene.style.form {
+            Form::Json => put_piece_object(piece, &self.above, trail, text)?,
+            Form::Ways | Form::Paths | Form::Tree => {
+                put_lines(self.scene.style, piece, &self.above, trail, text)?;
+            }
+        }
+        self.walk.end = piece_end(piece);
+        Ok(())
+    }
+
+    // The content of a byte string.
+    fn add_content(
+        &mut self,
+        piece: &Piece<'_>,
+        trail: &Trail<'_, '_, '_>,
+        nodes: u32,
+    ) -> Result<(), AllocError> {
+        if self.add_hole(piece.place, piece_end(piece), trail, nodes)? {
+            return Ok(());
+        }
+        self.put(piece, trail)
+    }
+
+    // Whether the byte string is explained: its content is from `start` to `end`.
+    fn add_hole(
+        &mut self,
+        start: u64,
+        end: u64,
+        trail: &Trail<'_, '_, '_>,
+        nodes: u32,
+    ) -> Result<bool, AllocError> {
+        let name = self.name_of(trail)?;
+        let Some(view) = self.scene.views.inside_at(&name) else {
+            return Ok(false);
+        };
+        let hole = Hole {
+            at: self.walk.text.len(),
+            view,
+            above: self.above.inside(self.alloc, start, trail)?,
+            end,
+            depth: self.depth.saturating_sub(count_containers(trail)),
+            nodes,
+        };
+        self.walk.holes.push(hole)?;
+        self.walk.end = end;
+        Ok(true)
+    }
+
+    // The length of a list, which may have the arguments of a function.
+    fn add_list(
+        &mut self,
+        piece: &Piece<'_>,
+        trail: &Trail<'_, '_, '_>,
+        count: u32,
+    ) -> Result<(), AllocError> {
+        let name = self.name_of(trail)?;
+        let views = self.scene.views;
+        if let Some(call) = views.call_at(&name) {
+            if u64::from(count) != call.count {
+                let expected = expected_arguments(self.alloc, call)?;
+                self.walk.halt = Halt::with(self.alloc, &self.above, trail, expected)?;
+                let inner = wrong_count(self.alloc, call, count, piece.place, &self.walk.halt)?;
+                self.walk.inner = Some(inner);
+                return Ok(());
+            }
+            if !self.walk.called.contains(&call.source) {
+                self.walk.called.push(call.source)?;
+            }
+        }
+        self.put(piece, trail)
+    }
+
+    fn name_of(&self, trail: &Trail<'_, '_, '_>) -> Result<Vec<u8>, AllocError> {
+        let mut name = Vec::new(self.alloc);
+        put_field_path(&self.above, trail, &mut name)?;
+        Ok(name)
     }
 }
 
-impl Listener for Table {
+fn piece_end(piece: &Piece<'_>) -> u64 {
+    // This never saturates: the input has fewer than 2^64 bytes.
+    piece.place.saturating_add(piece.bytes.len() as u64)
+}
+
+impl Listener for Table<'_> {
     ghost heard = { λ _ _ _. ⊤ };
 
-    fn hear(&mut self, place: u64, bytes: &[u8], trail: &Trail<'_, '_, '_>, meaning: Meaning<'_>) {
-        if self.has_lost {
+    fn hear(
+        &mut self,
+        place: u64,
+        bytes: &[u8],
+        trail: &Trail<'_, '_, '_>,
+        meaning: Meaning<'_>,
+        nodes: u32,
+    ) {
+        if self.has_lost || self.walk.inner.is_some() {
             return;
         }
-        let put = match self.style.form {
-            Form::Json => put_piece_object(place, bytes, trail, meaning, &mut self.text),
-            Form::Ways | Form::Paths | Form::Tree => {
-                put_lines(self.style, place, bytes, trail, meaning, &mut self.text)
-            }
+        let scene = self.scene;
+        let piece = Piece {
+            place: self.above.place(place),
+            bytes,
+            meaning,
+            kind: scene
+                .views
+                .kind_of(scene.registry, trail, meaning, bytes.len()),
         };
-        match put {
-            Ok(()) => self.end = place + bytes.len() as u64,
-            Err(AllocError) => self.has_lost = true,
+        if let Err(AllocError) = self.add(&piece, trail, nodes) {
+            self.has_lost = true;
         }
     }
 
     fn halt(&mut self, trail: &Trail<'_, '_, '_>, expected: Expected<'_>) {
-        match Halt::at(*self.text.allocator(), trail, expected) {
-            Ok(halt) => self.halt = halt,
+        if self.walk.inner.is_some() {
+            return;
+        }
+        match Halt::at(self.alloc, &self.above, trail, expected) {
+            Ok(halt) => self.walk.halt = halt,
             Err(AllocError) => self.has_lost = true,
         }
     }

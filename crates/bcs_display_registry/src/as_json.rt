@@ -18,7 +18,7 @@ pub(crate) fn json_line(
 {
     match selection {
         Selection::All => whole_line(alloc, registry),
-        Selection::Names(names) => part_line(alloc, registry, names),
+        Selection::Names(_, names) => part_line(alloc, registry, names),
     }
 }
 

@@ -20,8 +20,8 @@ pub enum RegistryForm {
     Json,
 }
 
-/// Prints the whole registry or, given a name, that container and all containers it depends on. Returns `None` if no
-/// container has the name. Fails only if memory runs out.
+/// Prints the whole registry or, given a name, that container and then all containers it depends on. JSON has all of them
+/// in the order of their names. Returns `None` if no container has the name. Fails only if memory runs out.
 pub fn show_registry(
     alloc: Global,
     registry: &Registry,
@@ -33,7 +33,7 @@ pub fn show_registry(
     let selection = match name {
         None => Selection::All,
         Some(name) if registry.container(name).is_none() => return Ok(None),
-        Some(name) => Selection::Names(standing(alloc, registry.containers(), name)?),
+        Some(name) => Selection::Names(name, standing(alloc, registry.containers(), name)?),
     };
     Ok(Some(selected_text(alloc, registry, &selection, form)?))
 }

@@ -11,6 +11,8 @@ pub enum Counted {
     Text,
     Bytes,
     List,
+    /// The elements of a list of `U8`.
+    Octets,
     Map,
 }
 
@@ -65,8 +67,16 @@ pub trait Listener {
     /// The listener has received pieces that are exactly these bytes, and whether it has then received a stop.
     ghost heard: { Self → List ℕ → Bool → Type 0 };
 
-    /// Receives a piece, at the byte offset where the previous piece ended. A piece has at least one byte.
-    fn hear(&mut self, place: u64, bytes: &[u8], trail: &Trail<'_, '_, '_>, meaning: Meaning<'_>)
+    /// Receives a piece, at the byte offset where the previous piece ended. A piece has at least one byte. After it,
+    /// `nodes` more nodes may begin.
+    fn hear(
+        &mut self,
+        place: u64,
+        bytes: &[u8],
+        trail: &Trail<'_, '_, '_>,
+        meaning: Meaning<'_>,
+        nodes: u32,
+    )
         requires filled { 0 < length bytes.now }
         requires room { place + length bytes.now < 2 ^ 64 }
         ensures { (before : List ℕ) → length before ≡ place → heard self.old before false → heard self.new (before ++ bytes.now) false };

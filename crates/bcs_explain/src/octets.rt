@@ -7,7 +7,7 @@ ghost use Rattle.bcs_decode_spec.specs.Reading.{items_here, skipping};
 ghost use Rattle.bcs_decode_slice.specs.Passing.{Passes, Onward, whole_here};
 ghost use Rattle.bcs_explain.specs.Covering.{Covers};
 
-use crate::listener::{Expected, Listener, Meaning};
+use crate::listener::{Counted, Expected, Listener, Meaning};
 use crate::reporting::report_piece;
 use crate::trail::Trail;
 use bcs_decode_slice::cursor::Cursor;
@@ -20,6 +20,14 @@ pub fn is_octet(format: &Format) -> bool
     ensures { result ≡ true → shape_of format.now ≡ shape.unsigned w8 }
 {
     matches!(format, Format::U8)
+}
+
+/// What the length of a list with this element counts.
+pub fn counted_in(element: &Format) -> Counted {
+    match element {
+        Format::U8 => Counted::Octets,
+        _ => Counted::List,
+    }
 }
 
 /// Reports `count` elements of format `U8`.

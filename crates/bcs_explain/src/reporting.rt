@@ -25,7 +25,7 @@ pub fn report_piece<T: Listener>(
 {
     let (piece, _) = from.split_at((cursor.place - start) as usize);
     if !piece.is_empty() {
-        out.hear(start, piece, trail, meaning);
+        out.hear(start, piece, trail, meaning, cursor.nodes);
     }
 }
 

@@ -8,8 +8,8 @@ ghost use Rattle.bcs_explain.specs.Covering.{Covers};
 
 use crate::checks::node;
 use crate::empty_elements::skip_empty_elements;
-use crate::listener::{Counted, Listener};
-use crate::octets::{is_octet, report_octets};
+use crate::listener::Listener;
+use crate::octets::{counted_in, is_octet, report_octets};
 use crate::prefixes::report_length;
 use crate::trail::{Step, Trail, below};
 use crate::walking::value;
@@ -48,7 +48,7 @@ pub(crate) fn list<'r, 'a, T: Listener>(
     ensures onward { Onward cursor.old cursor.new }
     ensures covers { Covers T.heard result cursor.old out.old cursor.new out.new }
 {
-    let count = report_length(cursor, Counted::List, trail, out)?;
+    let count = report_length(cursor, counted_in(element), trail, out)?;
     let run = Run {
         element,
         count: u64::from(count),

@@ -1,4 +1,4 @@
--- The JSON that a tree is printed as: the column "Printed" in docs/FORMAT.md.
+-- The JSON that a tree is printed as: the normal JSON of docs/JSON.md.
 use Rattle.std.specs.Prelude.{ℕ, List, ◌∷◌, codes, decimal, Option, Some, None, Bool, nat_lt, if◌then◌else◌}
 use Rattle.std.specs.Fmt.{signed_decimal}
 use Rattle.std.specs.Int.{Width, byte_len}

@@ -1,4 +1,4 @@
--- Which JSON spells which tree: the column "Read" in docs/FORMAT.md. The pairs of a map are in the order given.
+-- Which JSON spells which tree: the column "Read" in docs/JSON.md. The pairs of a map are in the order given.
 use Rattle.std.specs.Prelude.{◌≡◌, ◌≤◌, IsTrue, ℕ, pos, List, [], ◌∷◌, codes}
 use Rattle.std.specs.Str.{is_utf8}
 use Rattle.serde_json.specs.Data.{Data, boolean, Items, no_items, item, Members, no_members, member}

@@ -12,7 +12,7 @@ use bcs_value::{Limits, Value};
 use json::{Reader, Scratch};
 use std::alloc::Global;
 
-/// Reads the value that `text` spells, which is UTF-8 JSON (RFC 8259) as defined in docs/FORMAT.md, from its tokens. If
+/// Reads the value that `text` spells, which is UTF-8 JSON (RFC 8259) as defined in docs/JSON.md, from its tokens. If
 /// this gives up, the JSON may still be valid; `bcs_json_reader` decides.
 pub fn value_of_text(
     alloc: Global,

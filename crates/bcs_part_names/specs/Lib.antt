@@ -3,3 +3,4 @@ pub mod NameSteps
 pub mod NameLaws
 pub mod Labels
 pub mod Pointers
+pub mod Contents

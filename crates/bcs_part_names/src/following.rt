@@ -1,5 +1,8 @@
 //! Follows steps through a value, and collects them.
 ghost use Rattle.std.specs.Prelude.{◌≡◌};
+ghost use Rattle.bcs_registry_model.specs.Container.{of};
+ghost use Rattle.bcs_registry_model.specs.View.{shape_of};
+ghost use Rattle.bcs_decode_parts.specs.Here.{content_of};
 
 use crate::led::{DeadEnd, Led};
 use bcs_decode_parts::ahead::Ahead;
@@ -109,6 +112,7 @@ pub fn value_at_start<'r, 'a>(
     bytes: &'a [u8],
 ) -> Reached<'r, 'a>
     ensures bytes { result.ahead.bytes.now ≡ bytes.now }
+    ensures here { content_of result.here ≡ of (shape_of format.now) }
     ensures depth { result.ahead.depth ≡ limits.now.depth }
     ensures nodes { result.ahead.nodes ≡ limits.now.nodes }
 {

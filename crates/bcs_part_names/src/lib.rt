@@ -3,6 +3,7 @@
 
 mod by_name;
 mod by_pointer;
+mod contents;
 mod entries;
 mod finding;
 pub mod following;
@@ -18,6 +19,7 @@ mod reading;
 
 pub use by_name::{LONGEST_KEY, path_of_name};
 pub use by_pointer::path_of_pointer;
+pub use contents::{NoContent, content_of_scanned};
 pub use led::{DeadEnd, Led};
 pub use name_step::NameStep;
 pub use parts::part_of_scanned;

@@ -47,7 +47,7 @@ pub use Rattle.bcs_tool_answers.specs.declared.validating.Asked.{Asked}
 pub use Rattle.bcs_tool_command_line.proofs.LineFaultLemmas.{fault_of_misuse, memory_alone, takes_words}
 pub use Rattle.bcs_tool_command_line.specs.CommandLine.{texts_of}
 pub use Rattle.bcs_tool_command_line.specs.FaultPlaces.{file_place, file_text, ReportsPlace}
-pub use Rattle.bcs_tool_command_line.specs.Files.{file_note, is_registry_text, IsContent, IsTextOfWord, size_limit}
+pub use Rattle.bcs_tool_command_line.specs.Files.{file_note, is_registry_text, IsContent, IsFirstOf, IsTextOfWord, size_limit}
 pub use Rattle.bcs_tool_command_line.specs.Jobs.{coding_of, is_raw}
 pub use Rattle.bcs_tool_command_line.specs.LineFaults.{IsFaultOf}
 pub use Rattle.bcs_tool_command_line.specs.declared.coding.Coding.{Coding}

@@ -71,6 +71,7 @@ scan_raw command.Grows raw is = cc
 scan_raw command.Show raw is = cc
 scan_raw command.Example raw is = cc
 scan_raw command.Schema raw is = cc
+scan_raw command.FromMove raw is = cc
 scan_raw command.Encode raw is = cc
 scan_raw command.Decode raw is = cc
 scan_raw command.Explain raw is = cc

@@ -3,7 +3,7 @@ ghost use Rattle.std.specs.Prelude.{◌≡◌, ◌≢◌, ◌⊎◌, ◌≤◌, 
 ghost use Rattle.std.specs.Io.KnownBytes.{IsAtEnd};
 ghost use Rattle.bcs_io.specs.Giving.{Gave, GaveThenFailed};
 ghost use Rattle.bcs_tool_command_line.specs.Files.{size_limit};
-ghost use Rattle.bcs_tool_command_line.specs.Files.{IsFaultOfFiles, IsFileText, IsRefusalOf, IsSecondOf, IsTextOfWord, IsWorkOf, NamesNoFile, file_fault_of, is_registry_text};
+ghost use Rattle.bcs_tool_command_line.specs.Files.{IsFaultOfFiles, IsFileText, IsFirstOf, IsRefusalOf, IsSecondOf, IsTextOfWord, IsWorkOf, NamesNoFile, file_fault_of, is_first_text, is_registry_text};
 
 use crate::input_files::InputFiles;
 use bcs_io::{ByteSource, ReadSource, TakeFault, take_all};
@@ -83,7 +83,7 @@ pub fn read_work<R: InputFiles + AllocGlobal>(
     ensures fault { IfErr result (IsRefusalOf R.File.remaining job) }
     ensures good { NamesNoFile job → IfErr result (λ e. e.reason ≡ UnreadFile.ReadFailed TakeFault.OutOfMemory) }
 {
-    let registry = match read_registry(rt, job.registry.as_str()) {
+    let registry = match read_first_word(rt, job.command, job.registry.as_str()) {
         Ok(text) => text,
         Err(reason) => {
             return Err(FileRefusal {
@@ -138,12 +138,40 @@ fn read_second<R: InputFiles + AllocGlobal>(
         | Command::Show
         | Command::Example
         | Command::Schema
+        | Command::FromMove
         | Command::Encode
         | Command::Decode
         | Command::Explain
         | Command::Normalise
         | Command::Part
         | Command::Scan => Ok(Vec::new(rt.alloc())),
+    }
+}
+
+// What a command reads for its first argument: a registry, or modules.
+fn read_first_word<R: InputFiles + AllocGlobal>(
+    rt: &R,
+    command: Command,
+    word: &str,
+) -> Result<Vec<u8>, UnreadFile>
+    ensures text { IfOk result (λ v. IsFirstOf R.File.remaining command word.now v.items) }
+    ensures fault { IfErr result (λ e. IsFaultOfFiles R.File.remaining (file_fault_of e)) }
+    ensures good { is_first_text command word.now ≡ true → IsOkUnless result (UnreadFile.ReadFailed TakeFault.OutOfMemory) }
+    ensures named { IfErr result (λ e. e ≢ UnreadFile.ReadFailed TakeFault.OutOfMemory → is_first_text command word.now ≡ false) }
+{
+    if is_first_text(command, word) {
+        copy(rt.alloc(), word)
+    } else {
+        read_file(rt, word)
+    }
+}
+
+fn is_first_text(command: Command, word: &str) -> bool
+    ensures { result ≡ is_first_text command word.now }
+{
+    match command {
+        Command::FromMove => matches!(word.as_bytes().first(), Some(b'{' | b'[')),
+        _ => is_registry_text(word),
     }
 }
 

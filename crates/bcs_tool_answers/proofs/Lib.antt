@@ -2,6 +2,7 @@ pub mod Prelude
 pub mod AnswerLemmas
 pub mod NotationLemmas
 pub mod PartAnswers
+pub mod PrintedParts
 pub mod ScanAnswers
 pub mod ValidatingLemmas
 pub mod OneRefusal

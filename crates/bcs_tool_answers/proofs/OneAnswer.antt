@@ -1,5 +1,5 @@
 -- A job has at most one answer to an input.
-use Rattle.bcs_tool_answers.proofs.Prelude.{◌≡◌, ◌∙◌, ◌⊎◌, ◌++◌, inl, inr, ℕ, List, codes, length, string_bytes, ap, refl, sym, subst, Entries, Grows, IsOrderly, Shape, plain, Step, same_registry, SpellsPath, SpellsSteps, one_path, coding_of, Notation, Work, Command, Check, Encode, Decode, Normalise, IsExact, OneAnswer, json_fault_name, Answers, AnswersTexts, IsAsked, Lists, count_line, line_of, lists, printed, printed_none, refusal_line, stop_line, IsFormatWord, IsPathOf, IsRegistry, RefusesJobOf, RefusesFormatted, job_fault_name, JobFault}
+use Rattle.bcs_tool_answers.proofs.Prelude.{◌≡◌, ◌∙◌, ◌⊎◌, ◌++◌, inl, inr, ℕ, List, codes, length, string_bytes, ap, refl, sym, subst, Entries, Grows, IsOrderly, Shape, Step, same_registry, SpellsPath, SpellsSteps, one_path, coding_of, Notation, Work, Command, Check, Encode, Decode, Normalise, IsExact, OneAnswer, json_fault_name, Answers, AnswersTexts, IsAsked, Lists, count_line, line_of, lists, printed, printed_none, printed_part, printed_place, refusal_line, stop_line, IsFormatWord, IsPathOf, IsRegistry, RefusesJobOf, RefusesFormatted, job_fault_name, JobFault}
 use Rattle.bcs_tool_command_line.specs.declared.command.Command.TheVariants as command
 use Rattle.bcs_tool_answers.specs.Answers as answer
 use Rattle.bcs_tool_answers.specs.Input as given
@@ -23,6 +23,7 @@ module _ (work : Work) (input : List ℕ) where
   Late command.Show s p = Unit {0}
   Late command.Example s p = Unit {0}
   Late command.Schema s p = Unit {0}
+  Late command.FromMove s p = Unit {0}
   Late Encode s p = Valued (Encoded work input) s p
   Late Decode s p = Valued (Decoded work input) s p
   Late command.Explain s p = Unit {0}
@@ -58,6 +59,8 @@ module _ (work : Work) (input : List ℕ) where
   told (answer.shown r t c h k) = by command.Show 0 t c tt
   told (answer.exampled r f z t a h) = by command.Example z t a.is_command tt
   told (answer.described r f t a) = by command.Schema 0 t a.is_command tt
+  told (answer.made r t is a) = by command.FromMove 0 (line_of t) is tt
+  told (answer.unmade n is) = by command.FromMove 2 (refusal_line n) is tt
   told (answer.encoded r f b a h) = by Encode 0 (printed (coding_of work) b) a.is_command (valued (Encoded work input) Encode r f 0 (printed (coding_of work) b) a (inl (b, h, refl, refl)))
   told (answer.normalised r f t a h) = by Normalise 0 (line_of t) a.is_command (valued (Normalised work input) Normalise r f 0 (line_of t) a (inl (t, h, refl, refl)))
   told (answer.refused c r f e (inl is) a h) = by Encode 2 (refusal_line (json_fault_name e)) (a.is_command ∙ is) (valued (Encoded work input) c r f 2 (refusal_line (json_fault_name e)) a (inr (e, h, refl, refl)))
@@ -76,9 +79,14 @@ module _ (work : Work) (input : List ℕ) where
       let path = spelled c r f is a in
       let own = subst (λ (k : Command). IsAsked work input k r f) is a in
       by command.Part 2 (refusal_line (given.input_fault_name (coding_of work))) own.is_command (parted r f path.0 2 (refusal_line (given.input_fault_name (coding_of work))) own path.1 (inr (h, refl, refl)))
-  told (answer.found r f path b n c x a spells g h at) =
-      by command.Part 0 (printed (coding_of work) (plain r x.value x.content)) a.is_command
-      (parted r f path 0 (printed (coding_of work) (plain r x.value x.content)) a spells (inl (b, g, inl (n, c, h, inl (x, at, refl, refl)))))
+  told (answer.unopened r f b t a g looks) = by command.Explain 2 t a.is_command tt
+  told (answer.found r f path b n c x w a spells g h at has) =
+      let own = printed_part work.options.range (coding_of work) (printed_place work.options.content x) w in
+      by command.Part 0 own a.is_command
+      (parted r f path 0 own a spells (inl (b, g, inl (n, c, h, inl (x, at, inl (w, has, refl, refl))))))
+  told (answer.no_content r f path b n c x a spells g h at has) =
+      by command.Part 2 (refusal_line (codes "NoContent")) a.is_command
+      (parted r f path 2 (refusal_line (codes "NoContent")) a spells (inl (b, g, inl (n, c, h, inl (x, at, inr (has, refl, refl))))))
   told (answer.nowhere r f path b n c a spells g h at) =
       by command.Part 1 (printed_none (coding_of work)) a.is_command
       (parted r f path 1 (printed_none (coding_of work)) a spells (inl (b, g, inl (n, c, h, inr (at, refl, refl)))))
@@ -109,6 +117,7 @@ module _ (work : Work) (input : List ℕ) where
   one_late command.Show exact s z p q h k = absurd exact
   one_late command.Example exact s z p q h k = absurd exact
   one_late command.Schema exact s z p q h k = absurd exact
+  one_late command.FromMove exact s z p q h k = absurd exact
   one_late Encode exact s z p q h k = one_valued (Encoded work input) (one_encoded work input) s z p q h k
   one_late Decode exact s z p q h k = one_valued (Decoded work input) (one_decoded work input) s z p q h k
   one_late command.Explain exact s z p q h k = absurd exact
@@ -132,6 +141,7 @@ module _ (work : Work) (input : List ℕ) where
   not_late command.Show fault s p exact h k = absurd exact
   not_late command.Example fault s p exact h k = absurd exact
   not_late command.Schema fault s p exact h k = absurd exact
+  not_late command.FromMove fault s p exact h k = absurd exact
   not_late Encode fault s p exact h k = of_valued (Encoded work input) fault s p h k
   not_late Decode fault s p exact h k = of_valued (Decoded work input) fault s p h k
   not_late command.Explain fault s p exact h k = absurd exact

@@ -1,5 +1,5 @@
 -- For a registry and a format there is at most one answer of each kind.
-use Rattle.bcs_tool_answers.proofs.Prelude.{◌≡◌, ◌<◌, ◌∙◌, ◌⊎◌, inl, inr, ℕ, List, Some, None, Ok, codes, length, ap, ap₂, arith, sym, subst, depth, compact_text, Entries, IsOrderly, Shape, same-refl, Tree, bytes_decide_same, forms_same, Encodes, IsForm, plain, Accepts, Stops, StopsAll, accepts_once_is, no_two_verdicts_are, no_two_verdicts_of_all_are, stops_all_once_is, stops_once_is, Step, Part, part_at, Reason, HasBytes, Normalises, ShowsBytes, of, shown, nesting_limit, shown_is_lowest, denotes_once, coding_of, Coding, Hexadecimal, Base64, Raw, Work, ScanStops, count_line, line_of, printed, printed_none, refusal_line, stop_line}
+use Rattle.bcs_tool_answers.proofs.Prelude.{◌≡◌, ◌<◌, ◌∙◌, ◌⊎◌, inl, inr, ℕ, List, Some, None, Ok, codes, length, ap, ap₂, arith, sym, subst, depth, compact_text, Entries, IsOrderly, Shape, same-refl, Tree, bytes_decide_same, forms_same, Encodes, IsForm, Accepts, Stops, StopsAll, accepts_once_is, no_two_verdicts_are, no_two_verdicts_of_all_are, stops_all_once_is, stops_once_is, Step, Part, part_at, Reason, HasBytes, Normalises, ShowsBytes, of, shown, nesting_limit, shown_is_lowest, denotes_once, coding_of, Coding, Hexadecimal, Base64, Raw, Work, ScanStops, count_line, line_of, printed, printed_bytes, printed_none, printed_part, printed_place, refusal_line, stop_line}
 use Rattle.bcs_registry_model.specs.Container as container
 use Rattle.bcs_tool_answers.proofs.Base64Lemmas.{one_base64}
 use Rattle.bcs_tool_answers.proofs.OnePair.{Agrees, Refused, not_both, one_refused}
@@ -35,9 +35,14 @@ module _ (work : Work) (input : List ℕ) where
     abbrev pub Decoded : ℕ → List ℕ → Type 0
     Decoded s p = Given Shown s p
 
+    -- what is printed of a part
+    abbrev pub OfPart : Part → ℕ → List ℕ → Type 0
+    OfPart x s p = ((b : List ℕ) × (printed_bytes work.options.content r x ≡ Some b) × (s ≡ 0) × (p ≡ printed_part work.options.range (coding_of work) (printed_place work.options.content x) b))
+        ⊎ ((printed_bytes work.options.content r x ≡ None) × (s ≡ 2) × (p ≡ refusal_line (codes "NoContent")))
+
     -- what is printed of the value at the front of the bytes
     abbrev pub Led : List Step → Tree → ℕ → List ℕ → Type 0
-    Led path c s p = ((x : Part) × (part_at r path (container.of f) c ≡ Some x) × (s ≡ 0) × (p ≡ printed (coding_of work) (plain r x.value x.content)))
+    Led path c s p = ((x : Part) × (part_at r path (container.of f) c ≡ Some x) × OfPart x s p)
         ⊎ ((part_at r path (container.of f) c ≡ None) × (s ≡ 1) × (p ≡ printed_none (coding_of work)))
 
     abbrev pub Fronted : List Step → List ℕ → ℕ → List ℕ → Type 0
@@ -127,13 +132,22 @@ module _ (work : Work) (input : List ℕ) where
 
     -- ---- of a part
 
+    one_of_part : (x : Part) (s z : ℕ) (p q : List ℕ) → OfPart r f x s p → OfPart r f x z q → Agrees s p z q
+    one_of_part x s z p q (inl (b, h, hs, hp)) (inl (c, k, ks, kq)) =
+        let both : Some b ≡ Some c = sym h ∙ k in
+        let same : b ≡ c = cc in
+        (hs ∙ sym ks, hp ∙ ap (printed_part work.options.range (coding_of work) (printed_place work.options.content x)) same ∙ sym kq)
+    one_of_part x s z p q (inl (b, h, hs, hp)) (inr (k, ks, kq)) = let both : Some b ≡ None = sym h ∙ k in absurd cc
+    one_of_part x s z p q (inr (h, hs, hp)) (inl (c, k, ks, kq)) = let both : None ≡ Some c = sym h ∙ k in absurd cc
+    one_of_part x s z p q (inr (h, hs, hp)) (inr (k, ks, kq)) = (hs ∙ sym ks, hp ∙ sym kq)
+
     one_led : (path : List Step) (c : Tree) (s z : ℕ) (p q : List ℕ) → Led r f path c s p → Led r f path c z q → Agrees s p z q
-    one_led path c s z p q (inl (x, h, hs, hp)) (inl (y, k, ks, kq)) =
-        let both : Some x ≡ Some y = sym h ∙ k in
-        let same : x ≡ y = cc in
-        (hs ∙ sym ks, hp ∙ ap (λ (t : Part). printed (coding_of work) (plain r t.value t.content)) same ∙ sym kq)
-    one_led path c s z p q (inl (x, h, hs, hp)) (inr (k, ks, kq)) = let both : Some x ≡ None = sym h ∙ k in absurd cc
-    one_led path c s z p q (inr (h, hs, hp)) (inl (y, k, ks, kq)) = let both : None ≡ Some y = sym h ∙ k in absurd cc
+    one_led path c s z p q (inl (x, h, w)) (inl (y, k, v)) =
+        let both : Some y ≡ Some x = sym k ∙ h in
+        let same : y ≡ x = cc in
+        one_of_part x s z p q w (subst (λ (t : Part). OfPart r f t z q) same v)
+    one_led path c s z p q (inl (x, h, w)) (inr (k, ks, kq)) = let both : Some x ≡ None = sym h ∙ k in absurd cc
+    one_led path c s z p q (inr (h, hs, hp)) (inl (y, k, v)) = let both : None ≡ Some y = sym h ∙ k in absurd cc
     one_led path c s z p q (inr (h, hs, hp)) (inr (k, ks, kq)) = (hs ∙ sym ks, hp ∙ sym kq)
 
     one_fronted : (path : List Step) (bytes : List ℕ) (s z : ℕ) (p q : List ℕ) → Fronted r f path bytes s p → Fronted r f path bytes z q → Agrees s p z q

@@ -146,6 +146,7 @@ one_refusal command.Grows work e g exact h k = one_growth work e g h k
 one_refusal command.Show work e g exact h k = absurd exact
 one_refusal command.Example work e g exact h k = absurd exact
 one_refusal command.Schema work e g exact h k = absurd exact
+one_refusal command.FromMove work e g exact h k = absurd exact
 one_refusal command.Encode work e g exact h k = one_formatted work e g h k
 one_refusal command.Decode work e g exact h k = one_formatted work e g h k
 one_refusal command.Explain work e g exact h k = absurd exact
@@ -163,6 +164,7 @@ unlisted command.Check work (Growth e) exact h = absurd h
 unlisted command.Show work (Growth e) exact h = absurd exact
 unlisted command.Example work (Growth e) exact h = absurd exact
 unlisted command.Schema work (Growth e) exact h = absurd exact
+unlisted command.FromMove work (Growth e) exact h = absurd exact
 unlisted command.Encode work (Growth e) exact h = absurd h
 unlisted command.Decode work (Growth e) exact h = absurd h
 unlisted command.Explain work (Growth e) exact h = absurd exact
@@ -190,6 +192,9 @@ module _ (work : Work) where
   pub schema_reads_nothing : work.command ≡ command.Schema → ReadsInput work → ⊥
   schema_reads_nothing is reads = no_values command.Schema is refl reads
 
+  pub modules_read_nothing : work.command ≡ command.FromMove → ReadsInput work → ⊥
+  modules_read_nothing is reads = no_values command.FromMove is refl reads
+
   pub growth_reads_nothing : work.command ≡ command.Grows → ReadsInput work → ⊥
   growth_reads_nothing is reads = no_values command.Grows is refl reads
 
@@ -203,6 +208,7 @@ module _ (work : Work) where
   refused_reads_nothing command.Show fault is h reads = show_reads_nothing is reads
   refused_reads_nothing command.Example fault is h reads = example_reads_nothing is reads
   refused_reads_nothing command.Schema fault is h reads = schema_reads_nothing is reads
+  refused_reads_nothing command.FromMove fault is h reads = absurd h
   refused_reads_nothing command.Encode fault is h reads = not_valued fault h reads
   refused_reads_nothing command.Decode fault is h reads = not_valued fault h reads
   refused_reads_nothing command.Explain fault is h reads = not_valued fault h reads

@@ -1,5 +1,5 @@
 -- Each job has an answer to each input within the size limit, with a lemma for each command.
-use Rattle.bcs_tool_answers.proofs.Prelude.{◌≡◌, inl, inr, ℕ, List, true, refl, string_bytes, subst, sym, [], Option, Some, None, cases_lt, depth, Entries, Shape, UnknownName, Tree, some_verdict_is, some_verdict_of_all_is, Accepts, AreBytes, Part, Step, part_at, of, nesting_limit, some_bytes, some_normal_text, some_shown_text, SomeAnswer, Answers, IsAsked, IsWithin, checked, compared, damaged, decoded, described, encoded, exampled, explained, found, front_stopped, grown, no_bytes, normalised, nowhere, refused, refused_early, scan_stopped, scanned, stop_line, stopped, too_nested, GivesBytes, IsFormatWord, IsPathOf, IsRegistry, RefusesJobOf, name_of, works_on_values, JobFault, BadPath, Growth, Registry, coding_of, Work, SpellsSteps, Command}
+use Rattle.bcs_tool_answers.proofs.Prelude.{◌≡◌, inl, inr, ℕ, List, true, refl, string_bytes, subst, sym, [], Option, Some, None, cases_lt, depth, Entries, Shape, UnknownName, Tree, some_verdict_is, some_verdict_of_all_is, Accepts, AreBytes, Part, Step, part_at, of, nesting_limit, some_bytes, some_normal_text, some_shown_text, SomeAnswer, Answers, IsAsked, IsWithin, checked, compared, damaged, decoded, described, unmade, encoded, exampled, explained, found, front_stopped, grown, no_bytes, no_content, normalised, nowhere, printed_bytes, refused, refused_early, scan_stopped, scanned, stop_line, stopped, too_nested, GivesBytes, IsFormatWord, IsPathOf, IsRegistry, RefusesJobOf, name_of, works_on_values, JobFault, BadPath, Growth, Registry, coding_of, Work, SpellsSteps, Command}
 use Rattle.bcs_registry_model.specs.Container as container
 use Rattle.bcs_json_spec.specs.Shown as value
 use Rattle.bcs_tool_answers.specs.Answers.{shown}
@@ -58,6 +58,9 @@ module _ (work : Work) (input : List ℕ) where
     | inr h ↦ refused_words command.Schema is h.0 h.1
     | inl h ↦ (_, _, described h.0 h.1 [] (record { is_command = is; is_registry = h.2; is_format = h.3 }))
   ]
+
+  some_from_move : work.command ≡ command.FromMove → Answered
+  some_from_move is = (_, _, unmade [] is)
 
   -- ---- an input, for a format of a registry
 
@@ -119,9 +122,14 @@ module _ (work : Work) (input : List ℕ) where
       | inl h ↦ at h.0 h.1 h.2 (part_at r path (container.of s) h.1) refl
     ]
       where
+        of_part : (n : ℕ) (c : Tree) → Accepts r work.limits s bytes n c → (x : Part) → part_at r path (container.of s) c ≡ Some x
+            → (o : Option (List ℕ)) → printed_bytes work.options.content r x ≡ o → Answered
+        of_part n c accepted x is (Some wanted) has = (_, _, found r s path bytes n c x wanted asked spells given accepted is has)
+        of_part n c accepted x is None has = (_, _, no_content r s path bytes n c x asked spells given accepted is has)
+
         at : (n : ℕ) (c : Tree) → Accepts r work.limits s bytes n c → (o : Option Part) → part_at r path (container.of s) c ≡ o → Answered
         at n c accepted None is = (_, _, nowhere r s path bytes n c asked spells given accepted is)
-        at n c accepted (Some x) is = (_, _, found r s path bytes n c x asked spells given accepted is)
+        at n c accepted (Some x) is = of_part n c accepted x is (printed_bytes work.options.content r x) refl
 
     some_part : AreBytes input → (path : List Step) → SpellsSteps work.options.notation (string_bytes work.path) path → IsAsked work input command.Part r s → Answered
     some_part are path spells asked = elim (some_given input (coding_of work) are) [
@@ -176,6 +184,7 @@ module _ (work : Work) (input : List ℕ) where
   of_command are within command.Show is = some_show is
   of_command are within command.Example is = some_example is
   of_command are within command.Schema is = some_schema is
+  of_command are within command.FromMove is = some_from_move is
   of_command are within command.Encode is = valued command.Encode refl refl within some_encode is
   of_command are within command.Decode is = valued command.Decode refl refl within (λ r s registry asked. some_decode r s registry are asked) is
   of_command are within command.Explain is = valued command.Explain refl refl within (λ r s registry asked. some_explain r s registry are asked) is

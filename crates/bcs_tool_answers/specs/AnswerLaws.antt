@@ -19,6 +19,7 @@ IsExact command.Grows notation listed = listed ≡ false
 IsExact command.Show notation listed = ⊥
 IsExact command.Example notation listed = ⊥
 IsExact command.Schema notation listed = ⊥
+IsExact command.FromMove notation listed = ⊥
 IsExact command.Explain notation listed = ⊥
 IsExact command.Part notation listed = notation ≡ Path
 IsExact other notation listed = Unit {0}

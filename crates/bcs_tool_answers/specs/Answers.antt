@@ -9,7 +9,6 @@ use Rattle.bcs_registry_model.specs.Grows.{Grows}
 use Rattle.bcs_registry_model.specs.Shape.{Shape}
 use Rattle.bcs_value_model.specs.Tree.{Tree}
 use Rattle.bcs_value_model.specs.Limits.{Bounds}
-use Rattle.bcs_encode_spec.specs.Plain.{plain}
 use Rattle.bcs_decode_spec.specs.Stop.{reason_name}
 use Rattle.bcs_decode_spec.specs.declared.reason.Reason.{Reason}
 use Rattle.bcs_decode_spec.specs.Accepting.{Accepts}
@@ -22,10 +21,11 @@ use Rattle.bcs_json_spec.specs.Shown as value
 use Rattle.bcs_json_spec.specs.Texts.{Denotes, RefusesText, nesting_limit}
 use Rattle.bcs_json_spec.specs.declared.json_fault.JsonFault.{JsonFault}
 use Rattle.bcs_tool_answers.specs.Notations.{SpellsSteps}
+use Rattle.bcs_tool_answers.specs.PartBytes.{printed_bytes, printed_place}
 use Rattle.bcs_tool_command_line.specs.Files.{size_limit}
 use Rattle.bcs_tool_answers.specs.Input as given
 use Rattle.bcs_tool_answers.specs.Validating.{Asks, IsFormatWord, IsRegistry, NamesNone, RefusesEarly, is_unlimited, job_fault_name, name_of}
-use Rattle.bcs_tool_command_line.specs.Jobs.{coding_of}
+use Rattle.bcs_tool_command_line.specs.Jobs.{coding_of, has_views}
 use Rattle.bcs_tool_command_line.specs.declared.coding.Coding.{Coding}
 use Rattle.bcs_tool_command_line.specs.declared.coding.Coding.TheVariants as coding
 use Rattle.bcs_tool_command_line.specs.declared.command.Command.{Command}
@@ -51,6 +51,15 @@ abbrev pub printed : Coding → List ℕ → List ℕ
 printed coding.Hexadecimal bytes = line_of (encode_lower bytes)
 printed coding.Base64 bytes = line_of (given.base64_text bytes)
 printed coding.Raw bytes = bytes
+
+-- where bytes are, and how many
+abbrev pub range_line : ℕ → ℕ → List ℕ
+range_line place count = line_of (decimal place ++ codes " " ++ decimal count)
+
+-- the bytes at a place; or with `--range`, only where they are
+abbrev pub printed_part : Bool → Coding → ℕ → List ℕ → List ℕ
+printed_part false coded place bytes = printed coded bytes
+printed_part true coded place bytes = range_line place (length bytes)
 
 -- what is printed if steps lead nowhere
 abbrev pub printed_none : Coding → List ℕ
@@ -126,6 +135,9 @@ pub data Answers (work : Work) (input : List ℕ) : ℕ → List ℕ → Type 0 
   exampled : (registry : Entries) (s : Shape) (status : ℕ) (output : List ℕ) → AsksOfFormat work command.Example registry s → (status ≡ 0) ⊎ (status ≡ 2) → Answers work input status output
   -- `schema`: a text for display, if the arguments are valid
   described : (registry : Entries) (s : Shape) (text : List ℕ) → AsksOfFormat work command.Schema registry s → Answers work input 0 text
+  -- `from-move`: the JSON of a well-formed registry; or a refusal. Which one is only tested
+  made : (registry : Entries) (text : List ℕ) → work.command ≡ command.FromMove → IsRegistry text registry → Answers work input 0 (line_of text)
+  unmade : (name : List ℕ) → work.command ≡ command.FromMove → Answers work input 2 (refusal_line name)
   -- `encode`: the bytes of the value that the text denotes
   encoded : (registry : Entries) (s : Shape) (bytes : List ℕ) → IsAsked work input command.Encode registry s → HasBytes registry work.limits s input bytes → Answers work input 0 (printed (coding_of work) bytes)
   -- `normalise`: the normal text of that value
@@ -146,8 +158,12 @@ pub data Answers (work : Work) (input : List ℕ) : ℕ → List ℕ → Type 0 
   damaged : (registry : Entries) (s : Shape) (bytes text : List ℕ) (reason : Reason) (place : ℕ) → IsAsked work input command.Explain registry s → given.GivesBytes (coding_of work) input bytes → StopsAll registry work.limits s bytes reason place → (work.options.json_refusals ≡ true → text ≡ stop_line reason place) → Answers work input 2 text
   -- `decode`, `explain`, `part` and `scan`: the input gives no bytes
   no_bytes : (asked : Command) (registry : Entries) (s : Shape) → TakesBytes asked → IsAsked work input asked registry s → ((bytes : List ℕ) → given.GivesBytes (coding_of work) input bytes → ⊥) → Answers work input 2 (refusal_line (given.input_fault_name (coding_of work)))
-  -- `part`: a value is at the front of the bytes, and the steps of PATH lead to a part of it: the bytes of that part
-  found : (registry : Entries) (s : Shape) (path : List Step) (bytes : List ℕ) (n : ℕ) (c : Tree) (x : Part) → IsAsked work input command.Part registry s → SpellsSteps work.options.notation (string_bytes work.path) path → given.GivesBytes (coding_of work) input bytes → Accepts registry work.limits s bytes n c → part_at registry path (container.of s) c ≡ Some x → Answers work input 0 (printed (coding_of work) (plain registry x.value x.content))
+  -- `explain --inside`: the bytes of a byte string aren't a value of its format, or such an option is invalid: a text for display
+  unopened : (registry : Entries) (s : Shape) (bytes text : List ℕ) → IsAsked work input command.Explain registry s → given.GivesBytes (coding_of work) input bytes → has_views work.options.views ≡ true → Answers work input 2 text
+  -- `part`: a value is at the front of the bytes, and the steps of PATH lead to a part of it: the bytes of that part, or of its content
+  found : (registry : Entries) (s : Shape) (path : List Step) (bytes : List ℕ) (n : ℕ) (c : Tree) (x : Part) (wanted : List ℕ) → IsAsked work input command.Part registry s → SpellsSteps work.options.notation (string_bytes work.path) path → given.GivesBytes (coding_of work) input bytes → Accepts registry work.limits s bytes n c → part_at registry path (container.of s) c ≡ Some x → printed_bytes work.options.content registry x ≡ Some wanted → Answers work input 0 (printed_part work.options.range (coding_of work) (printed_place work.options.content x) wanted)
+  -- `part --content`: that part has no content
+  no_content : (registry : Entries) (s : Shape) (path : List Step) (bytes : List ℕ) (n : ℕ) (c : Tree) (x : Part) → IsAsked work input command.Part registry s → SpellsSteps work.options.notation (string_bytes work.path) path → given.GivesBytes (coding_of work) input bytes → Accepts registry work.limits s bytes n c → part_at registry path (container.of s) c ≡ Some x → printed_bytes work.options.content registry x ≡ None → Answers work input 2 (refusal_line (codes "NoContent"))
   -- `part`: the steps lead nowhere in it
   nowhere : (registry : Entries) (s : Shape) (path : List Step) (bytes : List ℕ) (n : ℕ) (c : Tree) → IsAsked work input command.Part registry s → SpellsSteps work.options.notation (string_bytes work.path) path → given.GivesBytes (coding_of work) input bytes → Accepts registry work.limits s bytes n c → part_at registry path (container.of s) c ≡ None → Answers work input 1 (printed_none (coding_of work))
   -- `part`: there is no value at the front of the bytes, since they stop being one at a place

@@ -1,4 +1,5 @@
 pub mod Notations
+pub mod PartBytes
 pub mod Validating
 pub mod Input
 pub mod Answers

@@ -83,6 +83,7 @@ works_on_values command.Grows = false
 works_on_values command.Show = false
 works_on_values command.Example = false
 works_on_values command.Schema = false
+works_on_values command.FromMove = false
 works_on_values other = true
 
 -- the command only validates bytes
@@ -144,6 +145,7 @@ RefusesJobOf command.Check = RefusesCheck
 RefusesJobOf command.Grows = RefusesGrowth
 RefusesJobOf command.Show = RefusesShow
 RefusesJobOf command.Part = RefusesPart
+RefusesJobOf command.FromMove = λ work fault. ⊥
 RefusesJobOf other = RefusesFormatted
 
 -- the job is refused before any input is read

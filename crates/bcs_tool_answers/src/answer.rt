@@ -2,7 +2,7 @@
 ghost use Rattle.std.specs.Prelude.{◌≡◌, ◌≢◌, IfOk, string_bytes};
 ghost use Rattle.hex.specs.Hex.{encode_lower};
 ghost use Rattle.bcs_json_spec.specs.FaultNames.{json_fault_name};
-ghost use Rattle.bcs_tool_answers.specs.Answers.{count_line, line_of, printed, printed_none, refusal_line, stop_line};
+ghost use Rattle.bcs_tool_answers.specs.Answers.{count_line, line_of, printed, printed_none, range_line, refusal_line, stop_line};
 ghost use Rattle.bcs_tool_answers.specs.Input.{base64_text};
 ghost use Rattle.bcs_tool_answers.specs.Places.{PrintsWithoutPlace};
 
@@ -95,6 +95,14 @@ pub fn found(alloc: Global, bytes: &[u8], coding: Coding) -> Result<Answer, Allo
         Coding::Raw => Vec::from_slice(alloc, bytes)?,
     };
     Ok(unplaced(alloc, 0, output))
+}
+
+/// Where the bytes of a part are, and how many.
+pub fn ranged(alloc: Global, place: usize, count: usize) -> Result<Answer, AllocError>
+    ensures { IfOk result (λ a. PrintsWithoutPlace a 0 (range_line place count)) }
+{
+    let text = format!(in alloc; "{place} {count}")?;
+    Ok(unplaced(alloc, 0, with_line_end(text)?))
 }
 
 /// What is printed if there is no part: `none`, or nothing if bytes are written raw.

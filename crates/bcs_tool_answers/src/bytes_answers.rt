@@ -139,6 +139,7 @@ fn answer_bytes(
         | Command::Show
         | Command::Example
         | Command::Schema
+        | Command::FromMove
         | Command::Encode
         | Command::Normalise
         | Command::Same => unreachable!(),

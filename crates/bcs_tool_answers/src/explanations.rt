@@ -1,13 +1,19 @@
 //! The answers of `explain`: the pieces of a value.
-ghost use Rattle.std.specs.Prelude.{◌≡◌, IfOk};
-ghost use Rattle.bcs_tool_answers.specs.Places.{AnswersBytes, PrintsWithoutPlace};
+ghost use Rattle.std.specs.Prelude.{◌≡◌, IfErr, IfOk, false, true};
+ghost use Rattle.bcs_registry_model.specs.View.{shape_of};
+ghost use Rattle.bcs_display_pieces.specs.EndsAt.{EndsAt};
+ghost use Rattle.bcs_display_pieces.specs.IsPlain.{IsPlain};
+ghost use Rattle.bcs_tool_command_line.specs.Jobs.{has_views};
+ghost use Rattle.bcs_tool_answers.specs.Places.{AnswersBytes, MayReport, PrintsWithoutPlace};
 ghost use Rattle.bcs_tool_answers.specs.Preparing.{IsAskedBy};
 
-use crate::answer::{Answer, stopped, unplaced};
+use crate::answer::{Answer, placed, refused, stopped, unplaced};
+use crate::places::{place_in_input, place_of_line, reports_place};
 use crate::stop_answers::answer_stop;
 use crate::validating::Asked;
 use bcs_decode::Stop;
-use bcs_display_pieces::{Explanation, explain_text};
+use bcs_display_pieces::{Explanation, RefusedView, ViewTexts, Views, explain_text};
+use bcs_display_refusal::Refusal;
 use bcs_display_text::style::Form;
 use bcs_tool_command_line::{Command, Work};
 use std::alloc::{AllocError, Global};
@@ -24,22 +30,113 @@ pub fn answer_explain(
     requires asked { IsAskedBy work.now asked.now }
     ensures { IfOk result (λ a. AnswersBytes work.now bytes.now a) }
 {
+    match views_of(alloc, work, asked)? {
+        Ok(views) => answer_pieces(alloc, work, asked, &views, bytes),
+        Err(refused) => answer_refused_view(alloc, work, refused),
+    }
+}
+
+// What the job looks into.
+fn views_of(
+    alloc: Global,
+    work: &Work,
+    asked: &Asked,
+) -> Result<Result<Views, RefusedView>, AllocError>
+    ensures plain { IfOk result (λ r. IfOk r (λ views. has_views work.now.options.views ≡ false → IsPlain views)) }
+    ensures given { IfOk result (λ r. IfErr r (λ _. has_views work.now.options.views ≡ true)) }
+{
+    let views = &work.options.views;
+    if !views.are_given() {
+        return Ok(Ok(Views::none(alloc)));
+    }
+    let texts = ViewTexts {
+        inside: texts_of(&views.inside),
+        call: texts_of(&views.calls),
+        address: texts_of(&views.addresses),
+        u256: texts_of(&views.u256s),
+        i256: texts_of(&views.i256s),
+    };
+    Views::read(alloc, &asked.registry, &texts)
+}
+
+fn texts_of(texts: &Option<Vec<String>>) -> &[String] {
+    match texts {
+        Some(texts) => texts.as_slice(),
+        None => &[],
+    }
+}
+
+// An invalid option.
+fn answer_refused_view(
+    alloc: Global,
+    work: &Work,
+    refused_view: RefusedView,
+) -> Result<Answer, AllocError>
+    ensures { IfOk result (λ a. (a.status ≡ 2) × MayReport work.now a.place.items) }
+{
+    let RefusedView { refusal, .. } = refused_view;
+    let name = refusal.fault.unwrap_or("BadPath");
+    Ok(placed(refused(alloc, name)?, place_of_view(alloc, work, refusal)))
+}
+
+// Which option is invalid, or where the bytes in a byte string stop. Empty for a job that reports no places, or if an
+// allocation fails.
+fn place_of_view(alloc: Global, work: &Work, refusal: Refusal) -> Vec<u8>
+    ensures { MayReport work.now result.items }
+{
+    if !reports_place(work) {
+        return Vec::new(alloc);
+    }
+    place_in_input(alloc, work, Some(refusal))
+}
+
+// The pieces, if the options are valid.
+fn answer_pieces(
+    alloc: Global,
+    work: &Work,
+    asked: &Asked,
+    views: &Views,
+    bytes: &[u8],
+) -> Result<Answer, AllocError>
+    requires command { work.now.command ≡ Command.Explain }
+    requires asked { IsAskedBy work.now asked.now }
+    requires plain { has_views work.now.options.views ≡ false → IsPlain views.now }
+    ensures { IfOk result (λ a. AnswersBytes work.now bytes.now a) }
+{
     let Asked {
         registry,
         format,
         ..
     } = asked;
-    let explained = explain_text(
-        alloc,
-        registry,
-        format,
-        &work.limits,
-        work.options.display.style(),
-        bytes,
-    )?;
-    let Explanation { text, stop } = explained;
+    let style = work.options.display.style();
+    let explained = explain_text(alloc, registry, format, &work.limits, style, views, bytes)?;
+    match &explained.inner {
+        None => answer_ended(alloc, work, asked, bytes, explained),
+        Some(_) => answer_unopened(alloc, work, explained),
+    }
+}
+
+// The pieces of bytes that are a value, or stop being one.
+fn answer_ended(
+    alloc: Global,
+    work: &Work,
+    asked: &Asked,
+    bytes: &[u8],
+    explained: Explanation,
+) -> Result<Answer, AllocError>
+    requires command { work.now.command ≡ Command.Explain }
+    requires asked { IsAskedBy work.now asked.now }
+    requires ends { EndsAt asked.now.registry work.now.limits (shape_of asked.now.format) bytes.now explained.stop }
+    ensures { IfOk result (λ a. AnswersBytes work.now bytes.now a) }
+{
+    let Explanation {
+        text,
+        stop,
+        unmatched,
+        ..
+    } = explained;
     match stop {
-        None => with_pieces(alloc, work, 0, text),
+        None => with_notes(alloc, work, text, unmatched),
         Some(stop) => {
             if work.options.json_refusals {
                 answer_stop(alloc, work, asked, bytes, stop)
@@ -48,6 +145,76 @@ pub fn answer_explain(
             }
         }
     }
+}
+
+// The pieces up to a stop inside a byte string.
+fn answer_unopened(alloc: Global, work: &Work, explained: Explanation) -> Result<Answer, AllocError>
+    ensures { IfOk result (λ a. (a.status ≡ 2) × MayReport work.now a.place.items) }
+{
+    let Explanation {
+        text,
+        stop,
+        inner,
+        ..
+    } = explained;
+    let Some(stop) = stop else {
+        return with_pieces(alloc, work, 2, text);
+    };
+    match inner {
+        Some(refusal) => answer_inner_stop(alloc, work, text, stop, refusal),
+        None => with_pieces(alloc, work, 2, damaged(alloc, work, text, stop)?),
+    }
+}
+
+fn answer_inner_stop(
+    alloc: Global,
+    work: &Work,
+    text: Vec<u8>,
+    stop: Stop,
+    refusal: Refusal,
+) -> Result<Answer, AllocError>
+    ensures { IfOk result (λ a. (a.status ≡ 2) × MayReport work.now a.place.items) }
+{
+    if work.options.json_refusals {
+        let place = place_of_view(alloc, work, refusal);
+        Ok(placed(stopped(alloc, stop)?, place))
+    } else {
+        with_pieces(alloc, work, 2, damaged(alloc, work, text, stop)?)
+    }
+}
+
+// The pieces, and which byte strings weren't there.
+fn with_notes(
+    alloc: Global,
+    work: &Work,
+    text: Vec<u8>,
+    unmatched: Vec<Refusal>,
+) -> Result<Answer, AllocError>
+    ensures { IfOk result (λ a. (a.status ≡ 0) × MayReport work.now a.place.items) }
+{
+    let place = place_of_unmatched(alloc, work, unmatched);
+    Ok(placed(with_pieces(alloc, work, 0, text)?, place))
+}
+
+// Which byte strings weren't there. Empty for a quiet job, for a line of an input, or if an allocation fails.
+fn place_of_unmatched(alloc: Global, work: &Work, unmatched: Vec<Refusal>) -> Vec<u8>
+    ensures { MayReport work.now result.items }
+{
+    if work.options.quiet || work.options.lines {
+        return Vec::new(alloc);
+    }
+    place_of_line(alloc, lines_of(alloc, &unmatched).ok())
+}
+
+fn lines_of(alloc: Global, unmatched: &[Refusal]) -> Result<Vec<u8>, AllocError> {
+    let mut lines = Vec::new(alloc);
+    for refusal in unmatched {
+        if !lines.is_empty() {
+            lines.extend_from_slice(b"; ")?;
+        }
+        lines.extend_from_slice(refusal.line(alloc)?.as_slice())?;
+    }
+    Ok(lines)
 }
 
 // The pieces of an input, or of one of its lines.

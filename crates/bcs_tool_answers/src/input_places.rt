@@ -4,7 +4,7 @@ ghost use Rattle.bcs_tool_answers.specs.Places.{MayReport};
 use crate::blanks::{blanks_before, without_blanks};
 use crate::places::{place_in_input, reports_place};
 use base64::DecodeError;
-use bcs_display_errors::{WrongText, input_refusal, wrong_input_digits};
+use bcs_display_mistakes::{WrongText, input_refusal, wrong_input_digits};
 use bcs_tool_command_line::Work;
 use std::alloc::Global;
 

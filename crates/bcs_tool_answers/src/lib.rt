@@ -7,6 +7,7 @@ mod blanks;
 mod bytes_answers;
 mod examples;
 mod explanations;
+mod from_move;
 mod growing;
 mod input_places;
 mod job_fault;

@@ -1,10 +1,10 @@
-//! Where steps lead nowhere.
+//! Where steps lead nowhere, or to a part without a content.
 ghost use Rattle.bcs_tool_answers.specs.Places.{MayReport};
 
-use crate::places::place_of;
+use crate::places::{place_in_input, place_of, reports_place};
 use crate::validating::Asked;
 use bcs_display_pieces::{nowhere_on_name, nowhere_on_path, nowhere_on_pointer};
-use bcs_display_refusal::Refusal;
+use bcs_display_refusal::{Location, Refusal};
 use bcs_part_names::DeadEnd;
 use bcs_tool_command_line::{Notation, Work};
 use std::alloc::{AllocError, Global};
@@ -27,6 +27,34 @@ pub fn place_of_nowhere(
         Ok(step) => place_of(alloc, step),
         Err(AllocError) => Vec::new(alloc),
     }
+}
+
+/// The part that has no content, by the argument that leads to it. Empty for a quiet job, for a line of an input unless
+/// refusals are JSON, or if an allocation fails.
+pub fn place_of_no_content(alloc: Global, work: &Work) -> Vec<u8>
+    ensures { MayReport work.now result.items }
+{
+    if !reports_place(work) {
+        return Vec::new(alloc);
+    }
+    place_in_input(alloc, work, no_content(alloc, work).ok())
+}
+
+fn no_content(alloc: Global, work: &Work) -> Result<Refusal, AllocError> {
+    Ok(Refusal {
+        input: None,
+        argument: Some(match work.options.notation {
+            Notation::Path => "PATH",
+            Notation::Names => "--name",
+            Notation::Pointer => "--pointer",
+        }),
+        location: Location::Name(String::from_str(alloc, work.path.as_str())?),
+        fault: Some("NoContent"),
+        message: Vec::from_slice(
+            alloc,
+            b"only STR, BYTES, and lists and arrays of U8 have a content; leave out --content",
+        )?,
+    })
 }
 
 // The first step that leads nowhere.

@@ -6,6 +6,7 @@ ghost use Rattle.bcs_tool_answers.specs.Preparing.{IsPrepared};
 
 use crate::answer::{Answer, counted};
 use crate::examples::answer_example;
+use crate::from_move::answer_from_move;
 use crate::growing::answer_growth;
 use crate::refusing::refused_words;
 use crate::schemas::answer_schema;
@@ -25,6 +26,7 @@ pub fn prepare(alloc: Global, work: &Work) -> Result<Result<Asked, Answer>, Allo
         Command::Show => Ok(Err(answer_show(alloc, work)?)),
         Command::Example => Ok(Err(answer_example(alloc, work)?)),
         Command::Schema => Ok(Err(answer_schema(alloc, work)?)),
+        Command::FromMove => Ok(Err(answer_from_move(alloc, work)?)),
         Command::Encode
         | Command::Decode
         | Command::Explain

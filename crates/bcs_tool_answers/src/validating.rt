@@ -86,6 +86,7 @@ fn validate_path(alloc: Global, work: &Work) -> Result<Vec<PathStep>, PathFault>
         | Command::Show
         | Command::Example
         | Command::Schema
+        | Command::FromMove
         | Command::Encode
         | Command::Decode
         | Command::Explain

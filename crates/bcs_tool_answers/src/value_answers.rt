@@ -31,8 +31,12 @@ pub fn answer_values(
         Command::Decode | Command::Explain | Command::Part | Command::Scan => {
             answer_given(alloc, work, asked, input)
         }
-        Command::Check | Command::Grows | Command::Show | Command::Example | Command::Schema =>
-            unreachable!(),
+        Command::Check
+        | Command::Grows
+        | Command::Show
+        | Command::Example
+        | Command::Schema
+        | Command::FromMove => unreachable!(),
     }
 }
 

@@ -3,13 +3,13 @@ ghost use Rattle.bcs_tool_answers.specs.Places.{MayReport};
 
 use crate::job_fault::JobFault;
 use crate::places::place_of;
-use bcs_display_errors::{
-    container_refusal, format_refusal, growth_refusal, path_refusal, registry_refusal,
-    variant_refusal,
-};
+use bcs_display_errors::{path_refusal, variant_refusal};
 use bcs_display_example::{ExampleOptionsFault, ExampleTextFault};
 use bcs_display_pieces::{wrong_name, wrong_pointer};
 use bcs_display_refusal::Refusal;
+use bcs_display_registry_errors::{
+    container_refusal, format_refusal, growth_refusal, registry_refusal,
+};
 use bcs_registry::{Format, Registry, RegistryFault};
 use bcs_tool_command_line::{Command, Notation, Work};
 use std::alloc::{AllocError, Global};
@@ -115,6 +115,7 @@ fn registries_refusal(
         Command::Show => name_refusal(alloc, work),
         Command::Example
         | Command::Schema
+        | Command::FromMove
         | Command::Encode
         | Command::Decode
         | Command::Explain

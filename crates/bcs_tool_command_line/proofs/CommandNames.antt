@@ -44,16 +44,17 @@ entered_is_command name rest h = go h.among
     go (inr (inr (inl e))) = at (codes "show") e refl
     go (inr (inr (inr (inl e)))) = at (codes "example") e refl
     go (inr (inr (inr (inr (inl e))))) = at (codes "schema") e refl
-    go (inr (inr (inr (inr (inr (inl e)))))) = at (codes "encode") e refl
-    go (inr (inr (inr (inr (inr (inr (inl e))))))) = at (codes "decode") e refl
-    go (inr (inr (inr (inr (inr (inr (inr (inl e)))))))) = at (codes "explain") e refl
-    go (inr (inr (inr (inr (inr (inr (inr (inr (inl e))))))))) = at (codes "normalise") e refl
-    go (inr (inr (inr (inr (inr (inr (inr (inr (inr (inl e)))))))))) = at (codes "same") e refl
-    go (inr (inr (inr (inr (inr (inr (inr (inr (inr (inr (inl e))))))))))) = at (codes "part") e refl
-    go (inr (inr (inr (inr (inr (inr (inr (inr (inr (inr (inr (inl e)))))))))))) = at (codes "scan") e refl
-    go (inr (inr (inr (inr (inr (inr (inr (inr (inr (inr (inr (inr (inl e))))))))))))) =
+    go (inr (inr (inr (inr (inr (inl e)))))) = at (codes "from-move") e refl
+    go (inr (inr (inr (inr (inr (inr (inl e))))))) = at (codes "encode") e refl
+    go (inr (inr (inr (inr (inr (inr (inr (inl e)))))))) = at (codes "decode") e refl
+    go (inr (inr (inr (inr (inr (inr (inr (inr (inl e))))))))) = at (codes "explain") e refl
+    go (inr (inr (inr (inr (inr (inr (inr (inr (inr (inl e)))))))))) = at (codes "normalise") e refl
+    go (inr (inr (inr (inr (inr (inr (inr (inr (inr (inr (inl e))))))))))) = at (codes "same") e refl
+    go (inr (inr (inr (inr (inr (inr (inr (inr (inr (inr (inr (inl e)))))))))))) = at (codes "part") e refl
+    go (inr (inr (inr (inr (inr (inr (inr (inr (inr (inr (inr (inr (inl e))))))))))))) = at (codes "scan") e refl
+    go (inr (inr (inr (inr (inr (inr (inr (inr (inr (inr (inr (inr (inr (inl e)))))))))))))) =
         let bad : true ≡ false = subst (λ x. bytes_eq x (codes "help") ≡ false) (sym e) h.not_help in absurd cc
-    go (inr (inr (inr (inr (inr (inr (inr (inr (inr (inr (inr (inr (inr e))))))))))))) = absurd e
+    go (inr (inr (inr (inr (inr (inr (inr (inr (inr (inr (inr (inr (inr (inr e)))))))))))))) = absurd e
 
 stop_is_command : (words : List Text) → built_fault (built bcs_app) nothing_held words ≡ []
     → (stop : Option (Text × List Text)) → stop_after (built bcs_app).top.rules (names_of (built bcs_app)) words ≡ stop → command_at stop ≡ true

@@ -67,14 +67,14 @@ depths =
     let others : (place : ℕ) → list_all (λ a. not (bytes_eq a.id id)) (rules_at place) ≡ true → AreRules id q (rules_at place) =
     λ place e. none id q (rules_at place) e in
     let example : AreRules id q (rules_at 3) = (no id q _ refl, (no id q _ refl, (λ is. record { action = refl; parser = refl; exact = refl; defaults = refl }, none id q (drop 3 (rules_at 3)) refl))) in
-    let encode : AreRules id q (rules_at 5) = (no id q _ refl, (no id q _ refl, (λ is. record { action = refl; parser = refl; exact = refl; defaults = refl }, none id q (drop 3 (rules_at 5)) refl))) in
-    let decode : AreRules id q (rules_at 6) = (no id q _ refl, (no id q _ refl, (λ is. record { action = refl; parser = refl; exact = refl; defaults = refl }, none id q (drop 3 (rules_at 6)) refl))) in
-    let explain : AreRules id q (rules_at 7) = (no id q _ refl, (no id q _ refl, (λ is. record { action = refl; parser = refl; exact = refl; defaults = refl }, none id q (drop 3 (rules_at 7)) refl))) in
-    let normalise : AreRules id q (rules_at 8) = (no id q _ refl, (no id q _ refl, (λ is. record { action = refl; parser = refl; exact = refl; defaults = refl }, none id q (drop 3 (rules_at 8)) refl))) in
-    let same : AreRules id q (rules_at 9) = (no id q _ refl, (no id q _ refl, (λ is. record { action = refl; parser = refl; exact = refl; defaults = refl }, none id q (drop 3 (rules_at 9)) refl))) in
-    let part : AreRules id q (rules_at 10) = (no id q _ refl, (no id q _ refl, (λ is. record { action = refl; parser = refl; exact = refl; defaults = refl }, none id q (drop 3 (rules_at 10)) refl))) in
-    let scan : AreRules id q (rules_at 11) = (no id q _ refl, (no id q _ refl, (λ is. record { action = refl; parser = refl; exact = refl; defaults = refl }, none id q (drop 3 (rules_at 11)) refl))) in
-    (others 0 refl, (others 1 refl, (others 2 refl, (example, (others 4 refl, (encode, (decode, (explain, (normalise, (same, (part, (scan, (others 12 refl, tt)))))))))))))
+    let encode : AreRules id q (rules_at 6) = (no id q _ refl, (no id q _ refl, (λ is. record { action = refl; parser = refl; exact = refl; defaults = refl }, none id q (drop 3 (rules_at 6)) refl))) in
+    let decode : AreRules id q (rules_at 7) = (no id q _ refl, (no id q _ refl, (λ is. record { action = refl; parser = refl; exact = refl; defaults = refl }, none id q (drop 3 (rules_at 7)) refl))) in
+    let explain : AreRules id q (rules_at 8) = (no id q _ refl, (no id q _ refl, (λ is. record { action = refl; parser = refl; exact = refl; defaults = refl }, none id q (drop 3 (rules_at 8)) refl))) in
+    let normalise : AreRules id q (rules_at 9) = (no id q _ refl, (no id q _ refl, (λ is. record { action = refl; parser = refl; exact = refl; defaults = refl }, none id q (drop 3 (rules_at 9)) refl))) in
+    let same : AreRules id q (rules_at 10) = (no id q _ refl, (no id q _ refl, (λ is. record { action = refl; parser = refl; exact = refl; defaults = refl }, none id q (drop 3 (rules_at 10)) refl))) in
+    let part : AreRules id q (rules_at 11) = (no id q _ refl, (no id q _ refl, (λ is. record { action = refl; parser = refl; exact = refl; defaults = refl }, none id q (drop 3 (rules_at 11)) refl))) in
+    let scan : AreRules id q (rules_at 12) = (no id q _ refl, (no id q _ refl, (λ is. record { action = refl; parser = refl; exact = refl; defaults = refl }, none id q (drop 3 (rules_at 12)) refl))) in
+    (others 0 refl, (others 1 refl, (others 2 refl, (example, (others 4 refl, (others 5 refl, (encode, (decode, (explain, (normalise, (same, (part, (scan, (others 13 refl, tt))))))))))))))
 
 nodes : AreShapes (codes "nodes") 4294967295 (built bcs_app).subs
 nodes =
@@ -83,14 +83,14 @@ nodes =
     let others : (place : ℕ) → list_all (λ a. not (bytes_eq a.id id)) (rules_at place) ≡ true → AreRules id q (rules_at place) =
     λ place e. none id q (rules_at place) e in
     let example : AreRules id q (rules_at 3) = (no id q _ refl, (no id q _ refl, (no id q _ refl, (λ is. record { action = refl; parser = refl; exact = refl; defaults = refl }, none id q (drop 4 (rules_at 3)) refl)))) in
-    let encode : AreRules id q (rules_at 5) = (no id q _ refl, (no id q _ refl, (no id q _ refl, (λ is. record { action = refl; parser = refl; exact = refl; defaults = refl }, none id q (drop 4 (rules_at 5)) refl)))) in
-    let decode : AreRules id q (rules_at 6) = (no id q _ refl, (no id q _ refl, (no id q _ refl, (λ is. record { action = refl; parser = refl; exact = refl; defaults = refl }, none id q (drop 4 (rules_at 6)) refl)))) in
-    let explain : AreRules id q (rules_at 7) = (no id q _ refl, (no id q _ refl, (no id q _ refl, (λ is. record { action = refl; parser = refl; exact = refl; defaults = refl }, none id q (drop 4 (rules_at 7)) refl)))) in
-    let normalise : AreRules id q (rules_at 8) = (no id q _ refl, (no id q _ refl, (no id q _ refl, (λ is. record { action = refl; parser = refl; exact = refl; defaults = refl }, none id q (drop 4 (rules_at 8)) refl)))) in
-    let same : AreRules id q (rules_at 9) = (no id q _ refl, (no id q _ refl, (no id q _ refl, (λ is. record { action = refl; parser = refl; exact = refl; defaults = refl }, none id q (drop 4 (rules_at 9)) refl)))) in
-    let part : AreRules id q (rules_at 10) = (no id q _ refl, (no id q _ refl, (no id q _ refl, (λ is. record { action = refl; parser = refl; exact = refl; defaults = refl }, none id q (drop 4 (rules_at 10)) refl)))) in
-    let scan : AreRules id q (rules_at 11) = (no id q _ refl, (no id q _ refl, (no id q _ refl, (λ is. record { action = refl; parser = refl; exact = refl; defaults = refl }, none id q (drop 4 (rules_at 11)) refl)))) in
-    (others 0 refl, (others 1 refl, (others 2 refl, (example, (others 4 refl, (encode, (decode, (explain, (normalise, (same, (part, (scan, (others 12 refl, tt)))))))))))))
+    let encode : AreRules id q (rules_at 6) = (no id q _ refl, (no id q _ refl, (no id q _ refl, (λ is. record { action = refl; parser = refl; exact = refl; defaults = refl }, none id q (drop 4 (rules_at 6)) refl)))) in
+    let decode : AreRules id q (rules_at 7) = (no id q _ refl, (no id q _ refl, (no id q _ refl, (λ is. record { action = refl; parser = refl; exact = refl; defaults = refl }, none id q (drop 4 (rules_at 7)) refl)))) in
+    let explain : AreRules id q (rules_at 8) = (no id q _ refl, (no id q _ refl, (no id q _ refl, (λ is. record { action = refl; parser = refl; exact = refl; defaults = refl }, none id q (drop 4 (rules_at 8)) refl)))) in
+    let normalise : AreRules id q (rules_at 9) = (no id q _ refl, (no id q _ refl, (no id q _ refl, (λ is. record { action = refl; parser = refl; exact = refl; defaults = refl }, none id q (drop 4 (rules_at 9)) refl)))) in
+    let same : AreRules id q (rules_at 10) = (no id q _ refl, (no id q _ refl, (no id q _ refl, (λ is. record { action = refl; parser = refl; exact = refl; defaults = refl }, none id q (drop 4 (rules_at 10)) refl)))) in
+    let part : AreRules id q (rules_at 11) = (no id q _ refl, (no id q _ refl, (no id q _ refl, (λ is. record { action = refl; parser = refl; exact = refl; defaults = refl }, none id q (drop 4 (rules_at 11)) refl)))) in
+    let scan : AreRules id q (rules_at 12) = (no id q _ refl, (no id q _ refl, (no id q _ refl, (λ is. record { action = refl; parser = refl; exact = refl; defaults = refl }, none id q (drop 4 (rules_at 12)) refl)))) in
+    (others 0 refl, (others 1 refl, (others 2 refl, (example, (others 4 refl, (others 5 refl, (encode, (decode, (explain, (normalise, (same, (part, (scan, (others 13 refl, tt))))))))))))))
 
 -- ---- of a parse
 

@@ -19,7 +19,7 @@ pub use Rattle.std.specs.declared.alloc.AllocError.{AllocError}
 pub use Rattle.bcs_value_model.specs.Limits.{Bounds}
 unfoldable pub use Rattle.clap.proofs.OnLiterals.{clap_on_literals}
 pub use Rattle.clap.proofs.ValueTestLemmas.{accepts-Accepts}
-pub use Rattle.clap.proofs.WalkLemmas.{both, first_value-rows, one_text-rows}
+pub use Rattle.clap.proofs.WalkLemmas.{both, first_value-rows, one_text-rows, raw_values-rows}
 pub use Rattle.clap.specs.Facts.{explicit_source, parser_of_value, unwrap_or_range}
 pub use Rattle.clap.specs.Faults.{action_fault, built_fault, bundle_fault, bundle_step_fault, check_fault, defaults_fault, entered_fault, fault_of, flag_word_fault, level_fault, long_fault, option_fault, other_fault, react_fault, repeat_fault, set_fault, settle_fault, short_fault, step_fault, stray_fault, turn_fault, use_fault, values_fault, word_fault}
 unfoldable pub use Rattle.clap.specs.Faults.{flags_fault, walk_fault}

@@ -3,7 +3,8 @@ use Rattle.std.specs.Prelude.{ℕ, List, [], ◌∷◌, Some, true, codes, map, 
 use Rattle.std.specs.declared.alloc.Global.{Global}
 use Rattle.clap.specs.Words.{App, Rule, Text, new_app, new_rule, with_rule, with_subcommand}
 use Rattle.clap.specs.Simple.{on_top}
-use Rattle.clap.specs.declared.builder.action.ArgAction.TheVariants.{SetTrue}
+use Rattle.clap.specs.Lexer.{usize_max}
+use Rattle.clap.specs.declared.builder.action.ArgAction.TheVariants.{Append, SetTrue}
 use Rattle.clap.specs.declared.builder.value_parser.ValueParser.TheVariants.{Signed}
 
 -- a word that has to be there, known by its place
@@ -13,6 +14,10 @@ required name = record (new_rule name) { required = true }
 -- a word that may be left out, known by its place
 abbrev pub optional : Text → Rule
 optional name = new_rule name
+
+-- the last words, of which at least one has to be there
+abbrev pub several : Text → Rule
+several name = record (new_rule name) { required = true; action = Some Append; range = Some (record { start_inclusive = 1; end_inclusive = usize_max }) }
 
 -- an option of this name, which takes no value
 abbrev pub flag_option : Text → Rule
@@ -26,6 +31,10 @@ number_option name most =
 -- an option of this name with a value, which is any text
 abbrev pub text_option : Text → Rule
 text_option name = record (new_rule name) { long = Some name; value_names = 1 }
+
+-- the same, which may be given several times
+abbrev pub repeated_option : Text → Rule
+repeated_option name = record (text_option name) { action = Some Append }
 
 -- the file to write instead of the standard output: `--output FILE`, or `-o FILE`
 abbrev pub output_option : Rule
@@ -75,6 +84,10 @@ example_app = fold with_rule (value_app (codes "example")) (variant_option ∷ f
 abbrev pub schema_app : App
 schema_app = command_with (codes "schema") (required (codes "REG") ∷ required (codes "FORMAT") ∷ common_options)
 
+-- modules, and at least one type or function
+abbrev pub from_move_app : App
+from_move_app = command_with (codes "from-move") (required (codes "MODULES") ∷ several (codes "TYPE") ∷ common_options)
+
 -- whether each line of the input is an input of its own, and how the lines that are refused are answered
 abbrev pub lines_options : List Rule
 lines_options = flag_option (codes "lines") ∷ text_option (codes "refusals") ∷ []
@@ -97,8 +110,13 @@ form_options = flag_option (codes "paths") ∷ flag_option (codes "tree") ∷ fl
 abbrev pub color_options : List Rule
 color_options = text_option (codes "color") ∷ flag_option (codes "no-color") ∷ []
 
+-- what is looked into, and which containers have values that Move shows in another way
+abbrev pub view_options : List Rule
+view_options = repeated_option (codes "inside") ∷ repeated_option (codes "call")
+    ∷ repeated_option (codes "address") ∷ repeated_option (codes "u256") ∷ repeated_option (codes "i256") ∷ []
+
 abbrev pub explain_app : App
-explain_app = fold with_rule (fold with_rule (fold with_rule (value_app (codes "explain")) input_options) form_options) color_options
+explain_app = fold with_rule (fold with_rule (fold with_rule (fold with_rule (value_app (codes "explain")) input_options) form_options) color_options) view_options
 
 abbrev pub normalise_app : App
 normalise_app = on_top (λ s. record s { aliases = codes "normalize" ∷ [] }) (fold with_rule (value_app (codes "normalise")) (optional (codes "FILE") ∷ lines_options))
@@ -110,8 +128,12 @@ same_app = fold with_rule (value_app (codes "same")) (required (codes "A") ∷ o
 abbrev pub notation_options : List Rule
 notation_options = text_option (codes "name") ∷ text_option (codes "pointer") ∷ []
 
+-- whether a byte string's length is left out, and whether it is said where the bytes are
+abbrev pub part_options : List Rule
+part_options = flag_option (codes "content") ∷ flag_option (codes "range") ∷ []
+
 abbrev pub part_app : App
-part_app = fold with_rule (fold with_rule (fold with_rule (value_app (codes "part")) (optional (codes "PATH") ∷ [])) input_options) notation_options
+part_app = fold with_rule (fold with_rule (fold with_rule (fold with_rule (value_app (codes "part")) (optional (codes "PATH") ∷ [])) input_options) notation_options) part_options
 
 abbrev pub scan_app : App
 scan_app = fold with_rule (fold with_rule (value_app (codes "scan")) input_options) (flag_option (codes "front") ∷ [])
@@ -126,7 +148,7 @@ reports_version = on_top (λ s. record s { has_version = true })
 
 abbrev pub bcs_app : App
 bcs_app = fold (λ program command. with_subcommand program command.top) (wants_command (reports_version (new_app (codes "bcs"))))
-    (check_app ∷ grows_app ∷ show_app ∷ example_app ∷ schema_app ∷ encode_app ∷ decode_app ∷ explain_app ∷ normalise_app ∷ same_app ∷ part_app ∷ scan_app ∷ [])
+    (check_app ∷ grows_app ∷ show_app ∷ example_app ∷ schema_app ∷ from_move_app ∷ encode_app ∷ decode_app ∷ explain_app ∷ normalise_app ∷ same_app ∷ part_app ∷ scan_app ∷ [])
 
 -- the words as texts
 abbrev pub texts_of : List (String Global) → List Text

@@ -1,8 +1,8 @@
 -- The files that a job names.
-use Rattle.std.specs.Prelude.{◌≡◌, ◌≢◌, ◌⊎◌, ◌≤◌, ◌<◌, ◌==◌, ℕ, List, [], ◌∷◌, Bool, true, false, codes, length, IfSome, Option, Some, None, string_bytes}
+use Rattle.std.specs.Prelude.{◌≡◌, ◌≢◌, ◌⊎◌, ◌≤◌, ◌<◌, ◌==◌, ◌||◌, ℕ, List, [], ◌∷◌, Bool, true, false, codes, length, IfSome, Option, Some, None, string_bytes}
 use Rattle.bcs_io.specs.Notes.{take_note}
 use Rattle.bcs_tool_command_line.specs.declared.command.Command.{Command}
-use Rattle.bcs_tool_command_line.specs.declared.command.Command.TheVariants.{Check, Grows, Show, Example, Schema, Encode, Decode, Explain, Normalise, Same, Part, Scan}
+use Rattle.bcs_tool_command_line.specs.declared.command.Command.TheVariants.{Check, Grows, Show, Example, Schema, FromMove, Encode, Decode, Explain, Normalise, Same, Part, Scan}
 use Rattle.bcs_tool_command_line.specs.declared.file_fault.FileFault.{FileFault}
 use Rattle.bcs_tool_command_line.specs.declared.file_fault.FileFault.TheVariants as fault
 use Rattle.bcs_tool_command_line.specs.declared.file_refusal.FileRefusal.{FileRefusal}
@@ -35,14 +35,24 @@ abbrev pub is_registry_text : List ℕ → Bool
 is_registry_text [] = false
 is_registry_text (c ∷ cs) = c == 123
 
+-- a word for modules that begins with a brace or a bracket is their text, and any other names a file
+abbrev pub is_modules_text : List ℕ → Bool
+is_modules_text [] = false
+is_modules_text (c ∷ cs) = (c == 123) || (c == 91)
+
+-- whether the first word of a command is a text itself
+abbrev pub is_first_text : Command → List ℕ → Bool
+is_first_text FromMove word = is_modules_text word
+is_first_text other word = is_registry_text word
+
 -- these bytes may be the content: they are it, where it is known
 abbrev pub IsContent : Option (List ℕ) → List ℕ → Type 0
 IsContent None bytes = Unit {0}
 IsContent (Some content) bytes = bytes ≡ content
 
--- the job's registries are texts themselves, and it has no A, so that no file is read for its work
+-- the job's registries, or its modules, are texts themselves, and it has no A, so that no file is read for its work
 abbrev pub NamesNoFile : Job → Type 0
-NamesNoFile job = (is_registry_text (string_bytes job.registry) ≡ true) × (job.command ≢ Same)
+NamesNoFile job = (is_first_text job.command (string_bytes job.registry) ≡ true) × (job.command ≢ Same)
     × (job.command ≡ Grows → is_registry_text (string_bytes job.second) ≡ true)
 
 -- the job's second word names the file that its work needs: that of NEW, or of A
@@ -72,10 +82,14 @@ module _ {F : Type 0} (remaining : F → Option (List ℕ)) where
   abbrev pub IsTextOfWord : List ℕ → List ℕ → Type 0
   IsTextOfWord word text = (is_registry_text word ≡ true → text ≡ word) × (is_registry_text word ≡ false → IsFileText text)
 
-  -- the job's work needs the file of this name: that of REG or OLD, or, once a text was read for these, that of NEW or of A
+  -- the same for the first word of a command: REG, OLD or MODULES
+  abbrev pub IsFirstOf : Command → List ℕ → List ℕ → Type 0
+  IsFirstOf command word text = (is_first_text command word ≡ true → text ≡ word) × (is_first_text command word ≡ false → IsFileText text)
+
+  -- the job's work needs the file of this name: that of REG, OLD or MODULES, or, once a text was read for these, that of NEW or of A
   abbrev pub NamesForWork : Job → List ℕ → Type 0
-  NamesForWork job name = ((is_registry_text name ≡ false) × (name ≡ string_bytes job.registry))
-      ⊎ (((text : List ℕ) × IsTextOfWord (string_bytes job.registry) text) × NamesSecond job name)
+  NamesForWork job name = ((is_first_text job.command name ≡ false) × (name ≡ string_bytes job.registry))
+      ⊎ (((text : List ℕ) × IsFirstOf job.command (string_bytes job.registry) text) × NamesSecond job name)
 
   -- a fault of the job's files, and whose it is, unless memory ran out
   abbrev pub IsRefusalOf : Job → FileRefusal → Type 0
@@ -88,6 +102,7 @@ module _ {F : Type 0} (remaining : F → Option (List ℕ)) where
   IsSecondOf Show word text = text ≡ []
   IsSecondOf Example word text = text ≡ []
   IsSecondOf Schema word text = text ≡ []
+  IsSecondOf FromMove word text = text ≡ []
   IsSecondOf Encode word text = text ≡ []
   IsSecondOf Decode word text = text ≡ []
   IsSecondOf Explain word text = text ≡ []
@@ -99,7 +114,7 @@ module _ {F : Type 0} (remaining : F → Option (List ℕ)) where
   -- the job's work. Its options are the job's, except for those of output that people read
   pub record IsWorkOf (job : Job) (work : Work) : Type 0 where
     pub command : work.command ≡ job.command
-    pub registry : IsTextOfWord (string_bytes job.registry) work.registry.items
+    pub registry : IsFirstOf job.command (string_bytes job.registry) work.registry.items
     pub second : IsSecondOf job.command (string_bytes job.second) work.second.items
     pub format : work.format ≡ job.format
     pub path : work.path ≡ job.path

@@ -1,19 +1,21 @@
 -- The job that a command line asks for.
-use Rattle.std.specs.Prelude.{◌≡◌, ◌≤◌, IsSomeAnd, ℕ, List, [], Option, Some, None, Bool, true, false, codes, is_some, option_map, unwrap_or, if◌then◌else◌, string_bytes}
+use Rattle.std.specs.Prelude.{◌≡◌, ◌≤◌, IsSomeAnd, ℕ, List, [], String, Vec, Option, Some, None, Bool, true, false, ◌||◌, codes, is_some, map, option_map, unwrap_or, if◌then◌else◌, string_bytes}
+use Rattle.std.specs.declared.alloc.Global.{Global}
 use Rattle.std.specs.Str.{bytes_eq}
 use Rattle.std.specs.Str.Parse.{IsNumeral, digits_value, without_leading_plus}
 use Rattle.std.specs.Option.{option_or}
-use Rattle.clap.specs.Words.{Row, Text, first_of, one_of, subcommand_of}
+use Rattle.clap.specs.Words.{Row, Text, all_of, first_of, one_of, subcommand_of}
 use Rattle.bcs_value_model.specs.Limits.{Bounds}
 use Rattle.bcs_tool_command_line.specs.CommandLine.{bcs_app}
 use Rattle.bcs_tool_command_line.specs.declared.coding.Coding.{Coding}
 use Rattle.bcs_tool_command_line.specs.declared.coding.Coding.TheVariants.{Hexadecimal, Base64, Raw}
 use Rattle.bcs_tool_command_line.specs.declared.command.Command.{Command}
-use Rattle.bcs_tool_command_line.specs.declared.command.Command.TheVariants.{Check, Grows, Show, Example, Schema, Encode, Decode, Explain, Normalise, Same, Part, Scan}
+use Rattle.bcs_tool_command_line.specs.declared.command.Command.TheVariants.{Check, Grows, Show, Example, Schema, FromMove, Encode, Decode, Explain, Normalise, Same, Part, Scan}
 use Rattle.bcs_tool_command_line.specs.declared.job.Job.{Job}
 use Rattle.bcs_tool_command_line.specs.declared.job.JobOptions.{JobOptions}
 use Rattle.bcs_tool_command_line.specs.declared.notation.Notation.{Notation}
 use Rattle.bcs_tool_command_line.specs.declared.notation.Notation.TheVariants.{Path, Names, Pointer}
+use Rattle.bcs_tool_command_line.specs.declared.views.ViewOptions.{ViewOptions}
 use Rattle.bcs_tool_command_line.specs.declared.work.Work.{Work}
 use Rattle.bcs_tool_command_line.specs.Spelling.{spelled}
 
@@ -24,13 +26,14 @@ command_named name = if bytes_eq name (codes "check") then Some Check
     else (if bytes_eq name (codes "show") then Some Show
     else (if bytes_eq name (codes "example") then Some Example
     else (if bytes_eq name (codes "schema") then Some Schema
+    else (if bytes_eq name (codes "from-move") then Some FromMove
     else (if bytes_eq name (codes "encode") then Some Encode
     else (if bytes_eq name (codes "decode") then Some Decode
     else (if bytes_eq name (codes "explain") then Some Explain
     else (if bytes_eq name (codes "normalise") then Some Normalise
     else (if bytes_eq name (codes "same") then Some Same
     else (if bytes_eq name (codes "part") then Some Part
-    else (if bytes_eq name (codes "scan") then Some Scan else None)))))))))))
+    else (if bytes_eq name (codes "scan") then Some Scan else None))))))))))))
 
 -- the text of a word, which is empty where there is none
 abbrev pub text_or_empty : Option Text → Text
@@ -47,6 +50,10 @@ has_value name found = is_some (first_of name found)
 -- how PATH is written. `--name` comes first, though it isn't accepted together with `--pointer`
 abbrev pub notation_found : List Row → Notation
 notation_found found = if has_value (codes "name") found then Names else (if has_value (codes "pointer") found then Pointer else Path)
+
+-- the first argument: REG, OLD or MODULES
+abbrev pub registry_found : List Row → Option Text
+registry_found found = option_or (first_of (codes "REG") found) (option_or (first_of (codes "OLD") found) (first_of (codes "MODULES") found))
 
 -- PATH, or the value of the option in its place
 abbrev pub path_found : List Row → Option Text
@@ -89,35 +96,66 @@ abbrev pub WritesLimits : List Row → Bounds → Type 0
 WritesLimits found limits = WritesLimit 500 (one_of (codes "depth") found) limits.depth
     × WritesLimit 4294967295 (one_of (codes "nodes") found) limits.nodes
 
+-- the values of an option that may be given several times, or of an argument that may have several
+abbrev pub IsGiven : List Row → Text → Option (Vec (String Global) Global) → Type 0
+IsGiven found name values = option_map (λ v. map string_bytes v.items) values ≡ all_of name found
+
+-- what `explain` looks into, where clap found these arguments
+pub record HasViews (found : List Row) (views : ViewOptions) : Type 0 where
+  pub inside : IsGiven found (codes "inside") views.inside
+  pub calls : IsGiven found (codes "call") views.calls
+  pub addresses : IsGiven found (codes "address") views.addresses
+  pub u256s : IsGiven found (codes "u256") views.u256s
+  pub i256s : IsGiven found (codes "i256") views.i256s
+
+-- one of these options was given
+abbrev pub has_views : ViewOptions → Bool
+has_views views = is_some views.inside || is_some views.calls || is_some views.addresses || is_some views.u256s || is_some views.i256s
+
 -- the options, where clap found these arguments. Nothing is said of those for output that people read
 pub record HasOptions (found : List Row) (options : JobOptions) : Type 0 where
   pub name : option_map string_bytes options.name ≡ option_or (first_of (codes "NAME") found) (first_of (codes "variant") found)
+  pub types : IsGiven found (codes "TYPE") options.types
   pub base64 : options.base64 ≡ is_set (codes "base64") found
   pub lines : options.lines ≡ is_set (codes "lines") found
   pub front : options.front ≡ is_set (codes "front") found
   pub list : options.list ≡ is_set (codes "list") found
   pub quiet : options.quiet ≡ is_set (codes "quiet") found
   pub notation : options.notation ≡ notation_found found
+  pub content : options.content ≡ is_set (codes "content") found
+  pub range : options.range ≡ is_set (codes "range") found
   pub output : option_map string_bytes options.output ≡ first_of (codes "output") found
   pub json_refusals : options.json_refusals ≡ has_value (codes "refusals") found
+  pub views : HasViews found options.views
+
+-- nothing is looked into
+pub record HasNoViews (views : ViewOptions) : Type 0 where
+  pub inside : views.inside ≡ None
+  pub calls : views.calls ≡ None
+  pub addresses : views.addresses ≡ None
+  pub u256s : views.u256s ≡ None
+  pub i256s : views.i256s ≡ None
 
 -- no option is set
 pub record HasNoOptions (options : JobOptions) : Type 0 where
   pub name : options.name ≡ None
+  pub types : options.types ≡ None
   pub base64 : options.base64 ≡ false
   pub lines : options.lines ≡ false
   pub front : options.front ≡ false
   pub list : options.list ≡ false
   pub quiet : options.quiet ≡ false
   pub notation : options.notation ≡ Path
+  pub content : options.content ≡ false
+  pub range : options.range ≡ false
   pub output : options.output ≡ None
   pub json_refusals : options.json_refusals ≡ false
+  pub views : HasNoViews options.views
 
 -- the job of a command, where clap found these arguments
 pub record IsJob (command : Command) (found : List Row) (job : Job) : Type 0 where
   pub same_command : job.command ≡ command
-  pub registry : string_bytes job.registry
-      ≡ text_or_empty (option_or (first_of (codes "REG") found) (first_of (codes "OLD") found))
+  pub registry : string_bytes job.registry ≡ text_or_empty (registry_found found)
   pub second : string_bytes job.second ≡ text_or_empty (option_or (first_of (codes "NEW") found) (first_of (codes "A") found))
   pub format : string_bytes job.format ≡ text_or_empty (first_of (codes "FORMAT") found)
   pub path : string_bytes job.path ≡ text_or_empty (path_found found)

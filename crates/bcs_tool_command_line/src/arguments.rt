@@ -1,14 +1,15 @@
 //! The job of a command, from the arguments that clap found.
-ghost use Rattle.std.specs.Prelude.{◌≡◌, ℕ, IfOk, option_map, string_bytes};
+ghost use Rattle.std.specs.Prelude.{◌≡◌, ℕ, IfOk, map, option_map, string_bytes};
 ghost use Rattle.clap.specs.Words.{found_of, one_of, rows_of};
 ghost use Rattle.bcs_value_model.specs.Limits.{Bounds};
-ghost use Rattle.bcs_tool_command_line.specs.Jobs.{HasOptions, IsJob, WritesLimit, WritesLimits, coding_found, file_found, has_value as has_value_in, is_set as is_set_in, notation_found, path_found, text_or_empty};
+ghost use Rattle.bcs_tool_command_line.specs.Jobs.{HasOptions, IsJob, WritesLimit, WritesLimits, coding_found, file_found, has_value as has_value_in, is_set as is_set_in, notation_found, path_found, registry_found, text_or_empty};
 
 use crate::coding::Coding;
 use crate::command::Command;
 use crate::display::Display;
 use crate::job::{Job, JobOptions};
 use crate::notation::Notation;
+use crate::views::ViewOptions;
 use bcs_value::Limits;
 use clap::ArgMatches;
 use std::alloc::{AllocError, Global};
@@ -20,7 +21,7 @@ pub fn job_of(alloc: Global, command: Command, given: &ArgMatches<'_>) -> Result
 {
     Ok(Job {
         command,
-        registry: text_of(alloc, given.get_str("REG").or(given.get_str("OLD")))?,
+        registry: text_of(alloc, registry_of(given))?,
         second: text_of(alloc, given.get_str("NEW").or(given.get_str("A")))?,
         format: text_of(alloc, given.get_str("FORMAT"))?,
         path: text_of(alloc, path_of(given))?,
@@ -37,14 +38,18 @@ fn options_of(alloc: Global, given: &ArgMatches<'_>) -> Result<JobOptions, Alloc
 {
     Ok(JobOptions {
         name: given_name(alloc, given.get_str("NAME").or(given.get_str("variant")))?,
+        types: given_names(alloc, given.get_strs("TYPE"))?,
         base64: is_set(given, "base64"),
         lines: is_set(given, "lines"),
         front: is_set(given, "front"),
         list: is_set(given, "list"),
         quiet: is_set(given, "quiet"),
         notation: notation_of(given),
+        content: is_set(given, "content"),
+        range: is_set(given, "range"),
         output: given_name(alloc, given.get_str("output"))?,
         json_refusals: has_value(given, "refusals"),
+        views: ViewOptions::given(alloc, given)?,
         display: Display::given(given),
     })
 }
@@ -83,6 +88,15 @@ pub(crate) fn notation_of(given: &ArgMatches<'_>) -> Notation
     }
 }
 
+// The first argument: REG, OLD or MODULES.
+fn registry_of<'a>(given: &ArgMatches<'a>) -> Option<&'a str>
+    ensures { option_map (λ t. t.now) result ≡ registry_found (rows_of (found_of given.now)) }
+{
+    given
+        .get_str("REG")
+        .or(given.get_str("OLD").or(given.get_str("MODULES")))
+}
+
 // PATH, or the value of the option in its place.
 fn path_of<'a>(given: &ArgMatches<'a>) -> Option<&'a str>
     ensures { option_map (λ t. t.now) result ≡ path_found (rows_of (found_of given.now)) }
@@ -117,6 +131,30 @@ fn given_name(alloc: Global, word: Option<&str>) -> Result<Option<String>, Alloc
         Some(name) => Ok(Some(String::from_str(alloc, name)?)),
         None => Ok(None),
     }
+}
+
+/// The values of an argument that may have several.
+pub(crate) fn given_names(
+    alloc: Global,
+    words: Option<&[&str]>,
+) -> Result<Option<Vec<String>>, AllocError>
+    ensures { IfOk result (λ o. option_map (λ v. map string_bytes v.items) o
+        ≡ option_map (λ s. map (λ t. t.now) s.now) words.entry) }
+{
+    match words {
+        Some(words) => Ok(Some(copies(alloc, words)?)),
+        None => Ok(None),
+    }
+}
+
+fn copies(alloc: Global, words: &[&str]) -> Result<Vec<String>, AllocError>
+    ensures { IfOk result (λ v. map string_bytes v.items ≡ map (λ t. t.now) words.now) }
+{
+    let mut copies = Vec::new(alloc);
+    for word in words {
+        copies.push(String::from_str(alloc, *word)?)?;
+    }
+    Ok(copies)
 }
 
 // The limits of the options, or the standard ones. clap has validated the numbers.

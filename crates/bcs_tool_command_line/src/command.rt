@@ -15,6 +15,8 @@ pub enum Command {
     Example,
     /// `schema`: prints the JSON Schema of the JSON texts of a format.
     Schema,
+    /// `from-move`: makes a registry from the modules of a Move chain.
+    FromMove,
     /// `encode`: turns a value's JSON text into its bytes.
     Encode,
     /// `decode`: turns a value's bytes into its JSON text.
@@ -42,6 +44,7 @@ impl Command {
             "show" => Some(Command::Show),
             "example" => Some(Command::Example),
             "schema" => Some(Command::Schema),
+            "from-move" => Some(Command::FromMove),
             "encode" => Some(Command::Encode),
             "decode" => Some(Command::Decode),
             "explain" => Some(Command::Explain),

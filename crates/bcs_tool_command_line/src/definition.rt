@@ -2,7 +2,7 @@
 ghost use Rattle.std.specs.Prelude.{◌≡◌, IfOk, IsOkAnd, false, fold, map};
 ghost use Rattle.clap.specs.Words.{app_of, with_rule};
 ghost use Rattle.clap.specs.declared.builder.command.Command.TheViews.{out-Command};
-ghost use Rattle.bcs_tool_command_line.specs.CommandLine.{bcs_app, check_app, command_with, decode_app, encode_app, example_app, explain_app, grows_app, normalise_app, part_app, same_app, scan_app, schema_app, show_app, value_app};
+ghost use Rattle.bcs_tool_command_line.specs.CommandLine.{bcs_app, check_app, command_with, decode_app, encode_app, example_app, explain_app, from_move_app, grows_app, normalise_app, part_app, same_app, scan_app, schema_app, show_app, value_app};
 ghost use Rattle.bcs_tool_command_line.specs.Words.{input_apps, registry_apps, rule_of_word, with_command};
 
 use crate::texts;
@@ -48,7 +48,8 @@ fn with_registry_commands<'a>(
     let program = with_made(program, grows_command(alloc))?;
     let program = with_made(program, show_command(alloc))?;
     let program = with_made(program, example_command(alloc))?;
-    with_made(program, schema_command(alloc))
+    let program = with_made(program, schema_command(alloc))?;
+    with_made(program, from_move_command(alloc))
 }
 
 // The commands that read a value.
@@ -155,6 +156,24 @@ fn schema_command<'a>(alloc: Global) -> Result<Command<'a>, AllocError>
     )
 }
 
+fn from_move_command<'a>(alloc: Global) -> Result<Command<'a>, AllocError>
+    ensures app { IfOk result (λ c. app_of c ≡ from_move_app) }
+    ensures global { IfOk result (λ c. (out-Command c).has_globals ≡ false) }
+{
+    command_of(
+        alloc,
+        "from-move",
+        "Prints the registry for types of a Move chain, from its modules",
+        texts::FROM_MOVE_EXAMPLES,
+        &[
+            Word::Required("MODULES", texts::MODULES),
+            Word::Several("TYPE", texts::TYPE),
+            QUIET,
+            Word::Output,
+        ],
+    )
+}
+
 fn encode_command<'a>(alloc: Global) -> Result<Command<'a>, AllocError>
     ensures app { IfOk result (λ c. app_of c ≡ encode_app) }
     ensures global { IfOk result (λ c. (out-Command c).has_globals ≡ false) }
@@ -213,6 +232,11 @@ fn explain_command<'a>(alloc: Global) -> Result<Command<'a>, AllocError>
             Word::Flag("json", texts::JSON),
             Word::Text("color", "WHEN", texts::COLOR),
             Word::Flag("no-color", texts::NO_COLOR),
+            Word::Repeated("inside", "NAME=FORMAT", texts::INSIDE),
+            Word::Repeated("call", "NAME=FUNCTION", texts::CALL),
+            Word::Repeated("address", "NAME", texts::ADDRESS),
+            Word::Repeated("u256", "NAME", texts::U256),
+            Word::Repeated("i256", "NAME", texts::I256),
         ],
     )
 }
@@ -265,6 +289,8 @@ fn part_command<'a>(alloc: Global) -> Result<Command<'a>, AllocError>
             REFUSALS,
             Word::Text("name", "NAME", texts::NAME),
             Word::Text("pointer", "POINTER", texts::POINTER),
+            Word::Flag("content", texts::CONTENT),
+            Word::Flag("range", texts::RANGE),
         ],
     )
 }

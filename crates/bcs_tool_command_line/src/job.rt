@@ -6,6 +6,7 @@ use crate::coding::Coding;
 use crate::command::Command;
 use crate::display::Display;
 use crate::notation::Notation;
+use crate::views::ViewOptions;
 use bcs_value::Limits;
 
 /// What a command line asks for: the command and its arguments as they are. An argument that the command doesn't have is
@@ -13,7 +14,8 @@ use bcs_value::Limits;
 #[derive(Debug, Drop)]
 pub struct Job {
     pub command: Command,
-    /// REG, or OLD of `grows`: a registry's JSON, or the name of its file.
+    /// REG, or OLD of `grows`: a registry's JSON, or the name of its file. MODULES of `from-move`: the JSON of modules, or the
+    /// name of its file.
     pub registry: String,
     /// NEW of `grows`: a registry's JSON, or the name of its file. A of `same`: the name of a file.
     pub second: String,
@@ -36,6 +38,8 @@ pub struct Job {
 pub struct JobOptions {
     /// NAME of `show`: a container's name; or that of `--variant`: a variant's name.
     pub name: Option<String>,
+    /// TYPE of `from-move`: types and functions.
+    pub types: Option<Vec<String>>,
     /// `--base64`: bytes are read and written as base64. It overrides `--raw`.
     pub base64: bool,
     /// `--lines`: each line of the input is an input of its own.
@@ -48,10 +52,16 @@ pub struct JobOptions {
     pub quiet: bool,
     /// `--name`, `--pointer`: how PATH is written.
     pub notation: Notation,
+    /// `--content`: the content of a byte string, without its length.
+    pub content: bool,
+    /// `--range`: the place and the length of a part, in place of its bytes.
+    pub range: bool,
     /// `--output`: the name of the file to write instead of standard output.
     pub output: Option<String>,
     /// `--refusals json`: a line that is refused is answered by a JSON object.
     pub json_refusals: bool,
+    /// The options of `explain` that say what it looks into.
+    pub views: ViewOptions,
     /// The options of output that people read.
     pub display: Display,
 }
@@ -101,14 +111,18 @@ impl JobOptions {
     {
         JobOptions {
             name: None,
+            types: None,
             base64: false,
             lines: false,
             front: false,
             list: false,
             quiet: false,
             notation: Notation::Path,
+            content: false,
+            range: false,
             output: None,
             json_refusals: false,
+            views: ViewOptions::none(),
             display: Display::none(),
         }
     }

@@ -24,6 +24,7 @@ mod texts;
 mod tips;
 mod unread_file;
 pub mod version;
+mod views;
 mod word;
 mod work;
 
@@ -43,4 +44,5 @@ pub use origin::Origin;
 pub use parsing::parsed_job;
 pub use styling::with_color;
 pub use unread_file::UnreadFile;
+pub use views::ViewOptions;
 pub use work::{Outcome, Work};

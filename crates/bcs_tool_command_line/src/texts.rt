@@ -13,6 +13,14 @@ pub const FORMAT: &str =
     "The format: its JSON if it begins with { or \", otherwise a container's name. JSON keeps its \
     quotes, so in a shell write '\"I16\"'";
 
+pub const MODULES: &str =
+    "The modules: their JSON if it begins with { or [, otherwise the name of its file. It is what a node of \
+    Aptos or Sui returns for a module or a package, or an array of such answers";
+
+pub const TYPE: &str =
+    "A type, such as 0x1::coin::Coin<0x1::aptos_coin::AptosCoin>, or a function, whose arguments have \
+    containers of their own, such as 0x1::coin::transfer::arg0";
+
 pub const CONTAINER: &str =
     "The container to print, with everything it depends on, instead of the whole registry";
 
@@ -66,6 +74,12 @@ pub const NAME: &str =
 pub const POINTER: &str =
     "Finds the part by a JSON pointer into the JSON of the value, such as /a/0, instead of PATH";
 
+pub const CONTENT: &str =
+    "Prints the content of a string, a byte string, or a list or array of U8, without its length";
+
+pub const RANGE: &str =
+    "Prints where the bytes are, in place of them: the offset, and how many they are";
+
 // ---- the option of `grows`
 
 pub const LIST: &str = "Prints all differences first, one on each line";
@@ -114,6 +128,23 @@ pub const COLOR: &str =
 
 pub const NO_COLOR: &str = "Prints without color. Overrides --color";
 
+pub const INSIDE: &str =
+    "Explains the byte string at NAME by FORMAT. NAME is one that explain prints, and [*] in it stands for each \
+    index. May be given several times";
+
+pub const CALL: &str =
+    "Explains the byte strings of the list at NAME as the arguments of FUNCTION: those with containers in REG, \
+    such as FUNCTION::arg0. May be given several times";
+
+pub const ADDRESS: &str =
+    "Shows the 32 bytes of this container as an address, as it does for one named address";
+
+pub const U256: &str =
+    "Shows the 32 bytes of this container as a number, as it does for one named u256";
+
+pub const I256: &str =
+    "Shows the 32 bytes of this container as a signed number, as it does for one named i256";
+
 // ---- the ends of the helps
 
 pub const PROGRAM_EXAMPLES: &str = "Input:
@@ -159,6 +190,12 @@ Status: 0 done, 2 refused, 3 usage, 4 file or memory";
 pub const SCHEMA_EXAMPLES: &str = "Example:
   bcs schema '{}' '\"BOOL\"' | grep boolean | xargs  # type: boolean
   bcs schema '{}' '{\"SEQ\":\"BOOL\"}' | grep '\"array\"' | xargs  # type: array
+
+Status: 0 done, 2 refused, 3 usage, 4 file or memory";
+
+pub const FROM_MOVE_EXAMPLES: &str = "Example:
+  bcs from-move '[]' '0x1::option::Option<u64>'  # {\"0x1::option::Option<u64>\":{\"NEWTYPESTRUCT\":{\"OPTION\":\"U64\"}}}
+  bcs from-move '{\"address\":\"0x1\",\"name\":\"m\",\"structs\":[],\"exposed_functions\":[{\"name\":\"f\",\"generic_type_params\":[],\"params\":[\"u8\"]}]}' 0x1::m::f  # {\"0x1::m::f\":{\"STRUCT\":[{\"arg0\":\"U8\"}]},\"0x1::m::f::arg0\":{\"NEWTYPESTRUCT\":\"U8\"}}
 
 Status: 0 done, 2 refused, 3 usage, 4 file or memory";
 

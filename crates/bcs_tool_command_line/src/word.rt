@@ -12,12 +12,16 @@ use std::alloc::Global;
 pub enum Word<'a> {
     /// A required argument, identified by its position.
     Required(&'a str, &'a str),
+    /// The last arguments: at least one.
+    Several(&'a str, &'a str),
     /// An optional argument, identified by its position.
     Optional(&'a str, &'a str),
     /// An option without a value.
     Flag(&'a str, &'a str),
     /// An option with a value, and the value's name.
     Text(&'a str, &'a str, &'a str),
+    /// The same for an option that may be given several times.
+    Repeated(&'a str, &'a str, &'a str),
     /// `--output`: the file to write.
     Output,
     /// `--depth`: the number of containers that may be open.
@@ -34,6 +38,11 @@ impl<'a> Word<'a> {
     {
         match self {
             Word::Required(name, help) => Arg::new(alloc, name).help(help).required(true),
+            Word::Several(name, help) => Arg::new(alloc, name)
+                .help(help)
+                .required(true)
+                .num_args(1..)
+                .action(ArgAction::Append),
             Word::Optional(name, help) => Arg::new(alloc, name).help(help),
             Word::Flag(name, help) => Arg::new(alloc, name)
                 .long(name)
@@ -42,6 +51,11 @@ impl<'a> Word<'a> {
             Word::Text(name, value_name, help) => Arg::new(alloc, name)
                 .long(name)
                 .value_name(value_name)
+                .help(help),
+            Word::Repeated(name, value_name, help) => Arg::new(alloc, name)
+                .long(name)
+                .value_name(value_name)
+                .action(ArgAction::Append)
                 .help(help),
             Word::Output => Arg::new(alloc, "output")
                 .long("output")

@@ -9,7 +9,7 @@ use bcs_value::Limits;
 #[derive(Debug, Drop)]
 pub struct Work {
     pub command: Command,
-    /// The JSON of REG, or of OLD.
+    /// The JSON of REG, of OLD or of MODULES.
     pub registry: Vec<u8>,
     /// The JSON of NEW, or of A; empty if the command has neither.
     pub second: Vec<u8>,

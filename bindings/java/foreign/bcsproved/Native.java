@@ -55,7 +55,8 @@ final class Native {
             case CHECK -> "a";
             case SCAN -> "a1";
             case COMPARE, PART -> "a12";
-            case PART_NAMED -> "an21";
+            case PART_NAMED, CONTENT -> "an21";
+            case EXPLAIN_WITH -> "an21o";
             case TO_BCS, FROM_BCS, NORMALISE -> "a1o";
             case TEXT_REFUSAL, STOP_REFUSAL -> "a1o";
             case EXPLAIN, EXAMPLE -> "an1o";
@@ -63,7 +64,7 @@ final class Native {
             case SHOW -> "hn1o";
             case FORMAT_PLACE -> "hfo";
             case PATH_PLACE, REGISTRY_REFUSAL -> "1o";
-            case GROWTH_LIST, GROWTH_PLACE -> "12o";
+            case GROWTH_LIST, GROWTH_PLACE, REGISTRY_OF_MODULES, MODULES_PLACE -> "12o";
             case GROWS -> "12";
             case FAULT_NAME -> "no";
         };

@@ -7,10 +7,13 @@ record Answer(int status, int fault, long place, long length, byte[] output) {
     static final int STACK = 11;
 
     /** enum bcs_notation. */
-    static final int NAME = 1, POINTER = 2;
+    static final int STEPS = 0, NAME = 1, POINTER = 2;
 
     /** BCS_SHOWN_TOO_NESTED, the only refusal of bytes without a place. */
     static final int SHOWN_TOO_NESTED = 501;
+
+    /** BCS_PATH_NO_CONTENT: the part isn't a byte string. */
+    static final int NO_CONTENT = 602;
 
     /** The room of a call without output. */
     static final long NO_OUTPUT = -1;

@@ -21,6 +21,8 @@ public final class BcsException extends Exception {
         PATH,
         /** The format has no such example. */
         EXAMPLE,
+        /** The modules of a Move chain, or a type that is requested of them. */
+        MODULES,
         /** A Java value isn't one of the format, or its class can't be. */
         VALUE,
         /** The thread has too little stack left: use one with more, or a lower depth. */
@@ -76,7 +78,8 @@ public final class BcsException extends Exception {
      * Where the fault is; null if that isn't known. Of JSON and of values it is a JSON Pointer (RFC 6901) such as /payload/args/1,
      * which is empty if the whole is refused; of a type the same, with "-" for each element of a list; of bytes the names that lead
      * there, such as .payload.args[1]; of a format a JSON Pointer; of a registry or growth a definition, such as Shape, field side;
-     * of a path a step, such as step 2 x. Names are as they are, never escaped or cut.
+     * of a path a step, such as step 2 x; of modules a JSON Pointer, or the type that was requested. Names are as they are, never
+     * escaped or cut.
      */
     public String at() {
         return at;

@@ -12,7 +12,9 @@ enum Call {
     SCAN(Kind.BYTES),
     PART(Kind.BYTES),
     PART_NAMED(Kind.BYTES),
+    CONTENT(Kind.BYTES),
     EXPLAIN(Kind.BYTES),
+    EXPLAIN_WITH(Kind.BYTES),
     TEXT_REFUSAL(null),
     STOP_REFUSAL(null),
     SCHEMA(Kind.FORMAT),
@@ -24,6 +26,8 @@ enum Call {
     GROWTH_PLACE(null),
     GROWS(Kind.GROWTH),
     REGISTRY_REFUSAL(null),
+    REGISTRY_OF_MODULES(Kind.MODULES),
+    MODULES_PLACE(null),
     FAULT_NAME(null);
 
     final Kind refused;

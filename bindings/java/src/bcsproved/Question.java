@@ -11,11 +11,12 @@ record Question(byte[] format, Limits limits) {
     static final Question NONE = new Question(new byte[0], Limits.STANDARD);
 
     static Question of(String format, Limits limits) {
-        return new Question(utf8(json(Objects.requireNonNull(format, "format"))), limits);
+        return new Question(utf8(json(format)), limits);
     }
 
     /** A word that begins with { or " is JSON, and any other is the name of a container. */
-    private static String json(String format) {
+    static String json(String format) {
+        Objects.requireNonNull(format, "format");
         if (format.startsWith("{") || format.startsWith("\"")) {
             return format;
         }

@@ -15,11 +15,12 @@ final class Refusals {
             return of(kind, answer, Place.UNKNOWN);
         }
         Call call = kind == Kind.BYTES ? Call.STOP_REFUSAL : Call.TEXT_REFUSAL;
-        byte[] output = Answer.of(call, handle, question, input, null, 0, ROOM).output();
-        if (output == null && other != null) {
+        Answer told = Answer.of(call, handle, question, input, null, 0, ROOM);
+        if (told.output() == null && other != null) {
             return ofInput(handle, kind, question, answer, other, null);
         }
-        return of(kind, answer, Place.of(output));
+        // (of bytes inside of a byte string, C reports nothing)
+        return of(kind, answer, told.place() == answer.place() ? Place.of(told.output()) : Place.UNKNOWN);
     }
 
     static BcsException ofFormat(long handle, Question question, Answer answer) throws BcsException {
@@ -30,14 +31,25 @@ final class Refusals {
         return of(Kind.PATH, answer, Place.of(Answer.of(Call.PATH_PLACE, path, null, 0, ROOM).output()));
     }
 
-    /** Of the name or the pointer of a part. No call says what is wrong with it. */
-    static BcsException ofName(Answer answer, int notation) throws BcsException {
-        String expected = notation == Answer.NAME ? "a name such as .payload.args[1]" : "a JSON Pointer such as /payload/args/1";
+    /** Of the path, the name or the pointer of a part. Only of a path a call says what is wrong with it. */
+    static BcsException ofName(Answer answer, byte[] name, int notation) throws BcsException {
+        return switch (notation) {
+            case Answer.NAME -> ofPath(answer, "a name such as .payload.args[1]");
+            case Answer.POINTER -> ofPath(answer, "a JSON Pointer such as /payload/args/1");
+            default -> ofPath(answer, name);
+        };
+    }
+
+    static BcsException ofPath(Answer answer, String expected) throws BcsException {
         return of(Kind.PATH, answer, new Place(null, "expected " + expected));
     }
 
     static BcsException ofGrowth(Answer answer, byte[] older, byte[] newer) throws BcsException {
         return of(Kind.GROWTH, answer, Place.of(Answer.of(Call.GROWTH_PLACE, older, newer, 0, ROOM).output()));
+    }
+
+    static BcsException ofModules(Answer answer, byte[] modules, byte[] types) throws BcsException {
+        return of(Kind.MODULES, answer, Place.of(Answer.of(Call.MODULES_PLACE, modules, types, 0, ROOM).output()));
     }
 
     static BcsException ofRegistry(Kind kind, Answer answer, byte[] registry) throws BcsException {

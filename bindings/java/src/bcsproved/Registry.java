@@ -251,7 +251,7 @@ public final class Registry implements AutoCloseable {
      * hexadecimal digits.
      */
     public Optional<Part> part(String format, byte[] data, String path) throws BcsException {
-        return part(Call.PART, format, data, path, 0);
+        return part(Call.PART, format, data, path, Answer.STEPS);
     }
 
     /** Like {@link #part}, with the name of the part, as {@link #explain} prints it: .payload::EntryFunction.args[0]. */
@@ -262,6 +262,24 @@ public final class Registry implements AutoCloseable {
     /** Like {@link #part}, with a JSON Pointer into the value's JSON document, such as /payload/EntryFunction/args/0. */
     public Optional<Part> partByPointer(String format, byte[] data, String pointer) throws BcsException {
         return part(Call.PART_NAMED, format, data, pointer, Answer.POINTER);
+    }
+
+    /**
+     * The content of the byte string to which a path leads: its bytes without the length before them. The part has to be of the
+     * format BYTES, STR, or a list or an array of U8; for any other the reason of the exception is NoContent.
+     */
+    public Optional<Part> content(String format, byte[] data, String path) throws BcsException {
+        return part(Call.CONTENT, format, data, path, Answer.STEPS);
+    }
+
+    /** Like {@link #content}, with the name of the part, as {@link #explain} prints it. */
+    public Optional<Part> contentByName(String format, byte[] data, String name) throws BcsException {
+        return part(Call.CONTENT, format, data, name, Answer.NAME);
+    }
+
+    /** Like {@link #content}, with a JSON Pointer into the value's JSON document. */
+    public Optional<Part> contentByPointer(String format, byte[] data, String pointer) throws BcsException {
+        return part(Call.CONTENT, format, data, pointer, Answer.POINTER);
     }
 
     private Optional<Part> part(Call call, String format, byte[] data, String where, int notation) throws BcsException {
@@ -289,11 +307,39 @@ public final class Registry implements AutoCloseable {
     }
 
     /**
+     * The same with views. Bytes in a byte string that aren't exactly one value are damage, at their place in the data. A view that
+     * can't be one is refused with the kind PATH, and one with a format or a container that the registry lacks with FORMAT.
+     */
+    public Explanation explain(String format, byte[] data, Form form, Views views) throws BcsException {
+        Objects.requireNonNull(data, "data");
+        Objects.requireNonNull(views, "views");
+        try (Session session = begin()) {
+            Question question = session.question(format, data.length);
+            Answer answer = session.explain(question, data, form, views);
+            return new Explanation(Question.text(answer.output()), session.damage(question, answer, data));
+        }
+    }
+
+    /**
      * Throws an exception unless the newer registry keeps everything that the older one has, so that every old value stays valid.
      * Its kind is GROWTH; or REGISTRY or NEWER if one of them isn't a registry.
      */
     public static void grows(byte[] older, byte[] newer) throws BcsException {
         Growth.check(Objects.requireNonNull(older, "older"), Objects.requireNonNull(newer, "newer"));
+    }
+
+    /**
+     * The registry for types of a Move chain, as {@code bcs from-move} prints it. The modules are the JSON in UTF-8 that a node of
+     * Aptos or Sui returns for a module, or an array of such answers. Each text of {@code types} is a type, or a function, whose
+     * arguments have containers of their own: 0x1::coin::transfer&lt;..&gt;::arg0 and so on. The kind of an exception is MODULES.
+     */
+    public static MadeRegistry registryOfModules(byte[] modules, List<String> types) throws BcsException {
+        return Modules.registry(Objects.requireNonNull(modules, "modules"), Objects.requireNonNull(types, "types"));
+    }
+
+    /** The registry for types of a Move chain, from the JSON of its modules. */
+    public static MadeRegistry registryOfModules(String modules, List<String> types) throws BcsException {
+        return registryOfModules(Question.utf8(modules), types);
     }
 
     /** All differences between two registries, as {@code bcs grows --list} prints them. */

@@ -86,11 +86,35 @@ final class Session implements AutoCloseable {
                     ? Refusals.of(Kind.FORMAT, answer, new Place("", "no container is called " + Question.text(first)))
                     : Refusals.ofFormat(handle, question, answer);
             case Answer.LIMITS -> new BcsException(Kind.LIMITS, null, -1, null, "the depth is above 500");
-            case Answer.PATH -> call == Call.PART ? Refusals.ofPath(answer, second) : Refusals.ofName(answer, number);
-            case Answer.REFUSED ->
-                    Refusals.ofInput(handle, call.refused, question, answer, first, call == Call.COMPARE ? second : null);
+            case Answer.PATH -> call == Call.EXPLAIN_WITH
+                    ? Refusals.ofPath(answer, "views with names such as .payload.args[1]")
+                    : Refusals.ofName(answer, second, number);
+            case Answer.REFUSED -> answer.fault() == Answer.NO_CONTENT
+                    ? Refusals.ofPath(answer, "a part that is BYTES, STR, or a list or an array of U8")
+                    : Refusals.ofInput(handle, call.refused, question, answer, first, call == Call.COMPARE ? second : null);
             default -> throw new AssertionError("unknown status " + answer.status());
         };
+    }
+
+    /** Explains bytes with views. A format that is refused is that of the value, or the first one of the views. */
+    Answer explain(Question question, byte[] data, Form form, Views views) throws BcsException {
+        byte[] lines = Question.utf8(views.lines());
+        try {
+            return ask(Call.EXPLAIN_WITH, question, data, lines, form.ordinal(), Answer.guess(data, 64));
+        } catch (BcsException e) {
+            throw e.kind() == Kind.FORMAT && e.message() == null ? ofFormats(e, views) : e;
+        }
+    }
+
+    private BcsException ofFormats(BcsException unknown, Views views) throws BcsException {
+        for (String format : views.formats()) {
+            Question question = new Question(Question.utf8(format), ANY);
+            Place place = Place.of(Answer.of(Call.FORMAT_PLACE, handle, question, null, null, 0, 256).output());
+            if (place.message() != null) {
+                return new BcsException(Kind.FORMAT, unknown.reason(), -1, place.at(), place.message());
+            }
+        }
+        return unknown;
     }
 
     /** What the explanation of bytes reports beside its text, or null. */

@@ -1,6 +1,6 @@
 //! The declarations beside the library's header and its names of faults.
 use super::{Answer, Open};
-use crate::faults::{ExampleFault, GrowthFault, Reason, RegistryFault, TextFault};
+use crate::faults::{ExampleFault, GrowthFault, ModulesFault, Reason, RegistryFault, TextFault};
 use crate::sys;
 use std::collections::BTreeMap;
 use std::mem::{offset_of, size_of};
@@ -44,8 +44,8 @@ fn declarations_are_those_of_the_header() {
     let block = source.split_once("unsafe extern \"C\" {").unwrap().1.split_once("\n}").unwrap().0;
     let calls = block.split(';').filter_map(|call| call.split_once("fn ").map(|(_, call)| c_declaration(call)));
     let calls: Vec<String> = calls.collect();
-    // Those that open, close and grow a registry, sixteen on a handle, and those of places, lists and names.
-    assert_eq!(calls.len(), 24);
+    // Those that open, close and grow a registry, eighteen on a handle, those of places, lists and names, and two of modules.
+    assert_eq!(calls.len(), 28);
     assert_eq!(calls[1], "void bcs_close(bcs_handle *);");
     run_c(&calls.concat(), "");
 }
@@ -146,10 +146,12 @@ fn numbers_are_those_of_the_header() {
             ("WANTED", 1),
             ("LEAST", sys::LEAST),
             ("FULL", sys::FULL),
+            ("STEPS", sys::STEPS),
             ("NAME", sys::NAME),
             ("POINTER", sys::POINTER),
             ("FAULT_NONE", 0),
             ("PATH_BAD_PATH", 601),
+            ("PATH_NO_CONTENT", sys::NO_CONTENT),
             ("SHOWN_TOO_NESTED", sys::SHOWN_TOO_NESTED),
         ]
         .map(|(name, number)| (name.to_owned(), number)),
@@ -158,6 +160,7 @@ fn numbers_are_those_of_the_header() {
     here.extend(names_with("GROWTH", GrowthFault::ALL.iter().map(|it| (it.name(), *it as u32))));
     here.extend(names_with("TEXT", TextFault::ALL.iter().map(|it| (it.name(), *it as u32))));
     here.extend(names_with("EXAMPLE", ExampleFault::ALL.iter().map(|it| (it.name(), *it as u32))));
+    here.extend(names_with("MOVE", ModulesFault::ALL.iter().map(|it| (it.name(), *it as u32))));
     here.extend(names_with("STOP", Reason::ALL.iter().map(|it| (it.name(), *it as u32))));
     assert_eq!(here, header_constants());
 }
@@ -181,12 +184,14 @@ fn name_here(number: u32) -> Option<&'static str> {
     match number {
         sys::SHOWN_TOO_NESTED => Some("TooNested"),
         601 => Some("BadPath"),
+        sys::NO_CONTENT => Some("NoContent"),
         _ => RegistryFault::of(number)
             .map(RegistryFault::name)
             .or_else(|| GrowthFault::of(number).map(GrowthFault::name))
             .or_else(|| TextFault::of(number).map(TextFault::name))
             .or_else(|| Reason::of(number).map(Reason::name))
-            .or_else(|| ExampleFault::of(number).map(ExampleFault::name)),
+            .or_else(|| ExampleFault::of(number).map(ExampleFault::name))
+            .or_else(|| ModulesFault::of(number).map(ModulesFault::name)),
     }
 }
 
@@ -205,6 +210,6 @@ fn names_are_those_of_the_library() {
             None => assert_eq!(answer.status, sys::NO, "{number}"),
         }
     }
-    // 6 of registries, 4 of growth, 13 of texts, 14 of bytes, 4 of examples, and those of a shown text and of a path.
-    assert_eq!(named, 43);
+    // 6 of registries, 4 of growth, 13 of texts, 14 of bytes, 4 of examples, 14 of modules, that of a shown text, and two of paths.
+    assert_eq!(named, 58);
 }

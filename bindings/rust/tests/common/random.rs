@@ -218,7 +218,7 @@ fn uleb(mut number: u32) -> Vec<u8> {
     bytes
 }
 
-/// The encoding as docs/FORMAT.md has it. The entries of a map are in the order of their keys' bytes already.
+/// The encoding as docs/ENCODING.md has it. The entries of a map are in the order of their keys' bytes already.
 pub fn bytes_of(format: &Format, value: &Value) -> Vec<u8> {
     let all = |parts: &[Format], values: &[Value]| {
         parts.iter().zip(values).flat_map(|(part, value)| bytes_of(part, value)).collect()

@@ -1,12 +1,9 @@
-use Rattle.bcs_c.proofs.Prelude.{List, subst, ℕ, Puts}
-use Rattle.bcs_c.specs.Explained.{no_memory, put}
+use Rattle.bcs_c.proofs.Prelude.{shape_of}
+use Rattle.bcs_display_pieces.specs.IsPlain.{IsPlain}
+use Rattle.bcs_c.proofs.Explanations.{explained_is}
 use Rattle.bcs_c.proofs.explaining.explanation.Goals as goal
 
-pub returns-in-Ok-clause-answers : goal.returns-in-Ok-clause-answers
-returns-in-Ok-clause-answers c =
-    let x = c.in-Ok.explained in
-    let puts = subst (λ (b : List ℕ). Puts b c.args.out.now c.put.new.out c.put.result) c.deref.ensures.value c.put.ensures.puts in
-    put x.text.items x.stop c.put.result c.in-Ok.ensures puts c.with_stop.ensures
-
-pub returns-in-Err-clause-answers : goal.returns-in-Err-clause-answers
-returns-in-Err-clause-answers c = no_memory c.plain.ensures
+pub returns-clause-answers : goal.returns-clause-answers
+returns-clause-answers c =
+    let asked = c.args.asked.now in
+    explained_is asked.registry.now asked.limits (shape_of asked.format.now) c.args.bytes.now c.args.out.now c.explained.new.out c.explained.result (IsPlain c.none.result) c.none.ensures c.explained.ensures.answers

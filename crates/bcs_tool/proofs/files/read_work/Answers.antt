@@ -1,10 +1,10 @@
-use Rattle.bcs_tool.proofs.Prelude.{◌≡◌, List, false, inl, inr, refl, rules, subst, ℕ, IsTextOfWord, is_registry_text}
+use Rattle.bcs_tool.proofs.Prelude.{◌≡◌, List, false, inl, inr, refl, rules, subst, ℕ, IsFirstOf, is_registry_text}
 use Rattle.bcs_tool.proofs.files.read_work.Goals as goal
 
--- the text for REG or OLD was read before
+-- the text for REG, OLD or MODULES was read before
 pub returns-in-Err-read_second-clause-fault : goal.returns-in-Err-read_second-clause-fault
 returns-in-Err-read_second-clause-fault g c =
-    let first = subst (λ (word : List ℕ). IsTextOfWord g.R.File.Read.remaining word c.in-Ok.text.items) c.as_str.ensures.value c.in-Ok.ensures.text in
+    let first = subst (λ (word : List ℕ). IsFirstOf g.R.File.Read.remaining c.args.job.command word c.in-Ok.text.items) c.as_str.ensures.value c.in-Ok.ensures.text in
     let second = c.in-Err-read_second.ensures in (
       second.fault,
       λ other. inr (

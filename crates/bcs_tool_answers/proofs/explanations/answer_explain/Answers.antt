@@ -1,30 +1,11 @@
-use Rattle.bcs_tool_answers.proofs.Prelude.{◌∙◌, Option, refl, subst, sym, true≢false, IfOk-weaker, shape_of, Stop, EndsAt, damaged, explained, Explain}
-use Rattle.bcs_tool_answers.proofs.AnswerLemmas.{is_asked, placed_answer, same_answer}
+use Rattle.bcs_tool_answers.proofs.Prelude.{◌≡◌, true, IfErr, IfOk-weaker, Result, refl, subst, has_views, unopened, Explain}
+use Rattle.bcs_display_pieces.specs.declared.refused_view.RefusedView.{RefusedView}
+use Rattle.bcs_display_pieces.specs.declared.views.Views.{Views}
+use Rattle.bcs_tool_answers.proofs.AnswerLemmas.{is_asked, placed_answer}
 use Rattle.bcs_tool_answers.proofs.explanations.answer_explain.Goals as goal
 
-pub returns-in-None : goal.returns-in-None
-returns-in-None c =
-    let asked = c.args.asked.now in
-    let P : Option Stop → Type 0 = EndsAt asked.registry c.args.work.now.limits (shape_of asked.format) c.args.bytes.now in
-    let ends = subst P c.in-None.is c.in_ok-explained.ensures in
-    IfOk-weaker c.with_pieces.result _ _ (λ a is input within gives. same_answer _ input a 0 a.output.items is
-    (explained _ _ c.args.bytes.now a.output.items ends.0 (is_asked input Explain c.requires.command c.requires.asked within) gives ends.1)) c.with_pieces.ensures
-
-pub returns-then-work : goal.returns-then-work
-returns-then-work c =
-    let asked = c.args.asked.now in
-    let stop = c.in-Some.stop in
-    let P : Option Stop → Type 0 = EndsAt asked.registry c.args.work.now.limits (shape_of asked.format) c.args.bytes.now in
-    let stops = subst P c.in-Some.is c.in_ok-explained.ensures in
-    IfOk-weaker c.answer_stop.result _ _ (λ a is input within gives. placed_answer _ input 2 _ a is.0 is.1 is.2
-    (damaged _ _ c.args.bytes.now _ stop.reason stop.place (is_asked input Explain c.requires.command c.requires.asked within) gives stops (λ _. refl))) c.answer_stop.ensures
-
-pub returns-in_ok-damaged-in-Some : goal.returns-in_ok-damaged-in-Some
-returns-in_ok-damaged-in-Some c =
-    let asked = c.args.asked.now in
-    let stop = c.in-Some.stop in
-    let P : Option Stop → Type 0 = EndsAt asked.registry c.args.work.now.limits (shape_of asked.format) c.args.bytes.now in
-    let stops = subst P c.in-Some.is c.in_ok-explained.ensures in
-    IfOk-weaker c.with_pieces-else-work.result _ _ (λ a is input within gives. same_answer _ input a 2 a.output.items is
-    (damaged _ _ c.args.bytes.now a.output.items stop.reason stop.place (is_asked input Explain c.requires.command c.requires.asked within) gives stops
-    (λ json. absurd (true≢false (sym json ∙ c.if-work.false))))) c.with_pieces-else-work.ensures
+pub returns-in-Err : goal.returns-in-Err
+returns-in-Err c =
+    let given = subst (λ (r : Result Views RefusedView). IfErr r (λ _. has_views c.args.work.now.options.views ≡ true)) c.in-Err.is c.in_ok-views.ensures.given in
+    IfOk-weaker c.answer_refused_view.result _ _ (λ a is input within gives. placed_answer _ input 2 _ a is.0 refl is.1
+    (unopened _ _ c.args.bytes.now a.output.items (is_asked input Explain c.requires.command c.requires.asked within) gives given)) c.answer_refused_view.ensures

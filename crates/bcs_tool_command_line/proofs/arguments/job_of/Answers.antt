@@ -7,11 +7,10 @@ returns c =
     let f = found_of c.args.given.now in
     record {
       same_command = refl;
-      registry = c.in_ok-text_of.ensures ∙ ap text_or_empty (either c.get_str.result c.get_str-2.result c.or.result _ _ c.or.ensures (c.get_str.ensures ∙ first_value-rows f (codes "REG"))
-          (c.get_str-2.ensures ∙ first_value-rows f (codes "OLD")));
-      second = c.in_ok-text_of-2.ensures ∙ ap text_or_empty (either c.get_str-3.result c.get_str-4.result c.or-2.result _ _ c.or-2.ensures (c.get_str-3.ensures ∙ first_value-rows f (codes "NEW"))
-          (c.get_str-4.ensures ∙ first_value-rows f (codes "A")));
-      format = c.in_ok-text_of-3.ensures ∙ ap text_or_empty (c.get_str-5.ensures ∙ first_value-rows f (codes "FORMAT"));
+      registry = c.in_ok-text_of.ensures ∙ ap text_or_empty c.registry_of.ensures;
+      second = c.in_ok-text_of-2.ensures ∙ ap text_or_empty (either c.get_str.result c.get_str-2.result c.or.result _ _ c.or.ensures (c.get_str.ensures ∙ first_value-rows f (codes "NEW"))
+          (c.get_str-2.ensures ∙ first_value-rows f (codes "A")));
+      format = c.in_ok-text_of-3.ensures ∙ ap text_or_empty (c.get_str-3.ensures ∙ first_value-rows f (codes "FORMAT"));
       path = c.in_ok-text_of-4.ensures ∙ ap text_or_empty c.path_of.ensures;
       file = c.in_ok-given_name.ensures ∙ c.file_of.ensures;
       raw = c.is_set.ensures;

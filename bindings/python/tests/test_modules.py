@@ -1,0 +1,155 @@
+"""Registries that are made from modules: what Python adds to the call. tests/rows/modules.py has the rest."""
+
+import doctest
+import json
+import threading
+import unittest
+from typing import Any, Iterator
+
+import bcs_proved
+from bcs_proved import BcsError, Library, MadeRegistry, ModulesError, Registry, modules, registry_of_modules
+from bcs_proved.library import standard_library
+
+MODULE = json.dumps(
+    {
+        "address": "0x1",
+        "name": "m",
+        "structs": [
+            {
+                "name": "S",
+                "is_native": False,
+                "generic_type_params": [{}],
+                "fields": [{"name": "a", "type": "vector<T0>"}],
+            }
+        ],
+    }
+)
+MADE = MadeRegistry('{"0x1::m::S<u8>":{"STRUCT":[{"a":"BYTES"}]}}', "")
+
+
+class OwnText(str):
+    """A str whose class says something else about it."""
+
+    def __str__(self) -> str:
+        return "0x1::n::S"
+
+    def __eq__(self, other: object) -> bool:
+        return True
+
+    __hash__ = str.__hash__
+
+
+class Modules(unittest.TestCase):
+    def test_what_modules_and_types_may_be(self) -> None:
+        def generated() -> Iterator[str]:
+            yield "0x1::m::S<u8>"
+
+        for types in (
+            ["0x1::m::S<u8>"],
+            ("0x1::m::S<u8>",),
+            {"0x1::m::S<u8>"},
+            generated(),
+            [OwnText("0x1::m::S<u8>")],
+        ):
+            self.assertEqual(registry_of_modules(MODULE, types), MADE)
+        data = MODULE.encode()
+        texts: list[Any] = [data, bytearray(data), memoryview(data), OwnText(MODULE)]
+        for text in texts:
+            self.assertEqual(registry_of_modules(text, ["0x1::m::S<u8>"]), MADE)
+        for library in (None, standard_library().path, standard_library(), Library()):
+            self.assertEqual(registry_of_modules(MODULE, ["0x1::m::S<u8>"], library), MADE)
+        self.assertEqual(Registry(MADE.json).encode("0x1::m::S<u8>", {"a": b"\xc0\xde"}), b"\2\xc0\xde")
+
+    def test_wrong_types(self) -> None:
+        wrong: list[tuple[Any, Any, str]] = [
+            (json.loads(MODULE), [], "bytes are needed here, not dict"),
+            ([], [], "bytes are needed here, not list"),
+            (None, [], "bytes are needed here, not NoneType"),
+            (7, [], "bytes are needed here, not int"),
+            (MODULE, "u8", "types are a list of str, not str"),
+            (MODULE, b"u8", "types are a list of str, not bytes"),
+            (
+                MODULE,
+                OwnText("u8"),
+                "types are a list of str, not .*OwnText",
+            ),
+            (MODULE, [b"u8"], "a type is a str, not bytes"),
+            (MODULE, ["u8", None], "a type is a str, not NoneType"),
+            (MODULE, [["u8"]], "a type is a str, not list"),
+            (MODULE, None, "not iterable"),
+            (MODULE, 7, "not iterable"),
+        ]
+        for text, types, message in wrong:
+            with self.assertRaisesRegex(TypeError, message):
+                registry_of_modules(text, types)
+
+    def test_types_that_no_line_can_have(self) -> None:
+        for types, at, message in [
+            ([""], "", '"" isn\'t a type'),
+            (["u8", ""], "", '"" isn\'t a type'),
+            (["u8\nu16"], "u8\nu16", "a type has no line feed"),
+            (["u8\n"], "u8\n", "a type has no line feed"),
+            (["\n"], "\n", "a type has no line feed"),
+        ]:
+            with self.assertRaises(ModulesError) as raised:
+                registry_of_modules(MODULE, types)
+            self.assertEqual(raised.exception.args, ("BadType", None, at, message))
+
+    def test_refusals(self) -> None:
+        """Their reason, location and message are apart, also if the location has a NUL."""
+        rows: list[tuple[bcs_proved.Text, list[str], str, str, str]] = [
+            (MODULE, ["0x1::n::S"], "MissingModule", "0x1::n::S", "add these modules: 0x1::n"),
+            ("[7]", ["u8"], "NotModules", "/0", "this isn't the JSON of a module"),
+            (b"\xff", ["u8"], "NotJson", "", "this isn't JSON"),
+            ("\ud800", ["u8"], "NotJson", "", "this isn't JSON"),
+            (MODULE, ["u8", "\ud800"], "BadType", "", "the types aren't UTF-8"),
+            (MODULE, ["\0"], "BadType", "\0", '"\\u0000" isn\'t a type'),
+            (MODULE, ["a\0b\0"], "BadType", "a\0b\0", '"a\\u0000b\\u0000" isn\'t a type'),
+            (MODULE, ["é🦀"], "BadType", "é🦀", '"\\u00e9'),
+            (MODULE, ["signer"], "NoBytes", "signer", "a signer has no bytes"),
+            (MODULE, ["vector<" * 40 + "u8" + ">" * 40], "TooLarge", "vector<" * 40 + "u8" + ">" * 40, ""),
+        ]
+        for text, types, reason, at, start in rows:
+            with self.assertRaises(ModulesError) as raised:
+                registry_of_modules(text, types)
+            fault = raised.exception
+            self.assertEqual((fault.kind, fault.reason, fault.place, fault.at), ("modules", reason, None, at))
+            self.assertTrue(fault.message.startswith(start), fault.message)
+            self.assertIsInstance(fault, BcsError)
+            self.assertTrue(str(fault).startswith(f"refused: {reason}"))
+
+    def test_notes(self) -> None:
+        made = registry_of_modules("[]", ["0x01::string::String", "u8"])
+        self.assertEqual(made.json, '{"0x1::string::String":{"NEWTYPESTRUCT":"STR"},"u8":{"NEWTYPESTRUCT":"U8"}}')
+        self.assertEqual(made.notes, '"0x01::string::String": the container is called 0x1::string::String')
+        self.assertEqual(registry_of_modules("[]", []), MadeRegistry("{}", ""))
+
+    def test_large_registries(self) -> None:
+        """They are longer than the first output."""
+        types = [
+            f"{'vector<' * depth}{inner}{'>' * depth}" for depth in range(1, 30) for inner in ("u8", "u64", "address")
+        ]
+        made = registry_of_modules("[]", types)
+        self.assertGreater(len(made.json), 4096)
+        self.assertEqual({*json.loads(made.json)}, {*types, "address"})
+
+    def test_threads(self) -> None:
+        found: list[MadeRegistry] = []
+        threads = [
+            threading.Thread(target=lambda: found.append(registry_of_modules(MODULE, ["0x1::m::S<u8>"])))
+            for _ in range(8)
+        ]
+        for thread in threads:
+            thread.start()
+        for thread in threads:
+            thread.join()
+        self.assertEqual(found, [MADE] * 8)
+
+    def test_the_example(self) -> None:
+        tested = doctest.testmod(modules)
+        self.assertEqual((tested.failed, tested.attempted), (0, 4))
+        self.assertIs(bcs_proved.registry_of_modules, modules.registry_of_modules)
+
+
+if __name__ == "__main__":
+    unittest.main()

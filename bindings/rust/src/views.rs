@@ -1,0 +1,163 @@
+use crate::error::{Error, ErrorKind};
+use crate::format::Format;
+
+/// What [`Registry::explain_with`](crate::Registry::explain_with) shows of a value in addition: the pieces inside of byte strings, and
+/// Move's numbers.
+///
+/// A name is one that [`Registry::explain`](crate::Registry::explain) prints. `[*]` in it stands for each index, such as `[0]`.
+///
+/// ```
+/// use bcs_proved::Views;
+///
+/// let views = Views::new()
+///     .call(".payload::EntryFunction.args", "0x1::aptos_account::transfer")
+///     .inside(".signatures[*]", "Signature")
+///     .address("AccountAddress");
+/// ```
+///
+/// Containers called `address`, `u256` and `i256` are shown as Move's without views.
+#[derive(Clone, Debug, Default)]
+pub struct Views {
+    views: Vec<View>,
+}
+
+#[derive(Clone, Debug)]
+enum View {
+    Inside(String, Format),
+    Call(String, String),
+    /// How Move shows a container, and the container's name.
+    Shown(&'static str, String),
+}
+
+impl Views {
+    /// No views.
+    pub fn new() -> Views {
+        Views::default()
+    }
+
+    /// Explains the byte string of this name piece by piece, as a value of this format. It has to be of the format `BYTES`, `STR`,
+    /// or a list or an array of `U8`.
+    #[must_use]
+    pub fn inside(self, name: impl Into<String>, format: impl Into<Format>) -> Views {
+        self.with(View::Inside(name.into(), format.into()))
+    }
+
+    /// Explains the elements of the list of this name as the arguments of a function, in a registry that
+    /// [`registry_of_modules`](crate::registry_of_modules) made for it.
+    #[must_use]
+    pub fn call(self, name: impl Into<String>, function: impl Into<String>) -> Views {
+        self.with(View::Call(name.into(), function.into()))
+    }
+
+    /// Shows values of this container, a newtype of 32 `U8`, as an address: `0x..`.
+    #[must_use]
+    pub fn address(self, container: impl Into<String>) -> Views {
+        self.with(View::Shown("address", container.into()))
+    }
+
+    /// Shows values of this container, a newtype of 32 `U8`, as an unsigned number.
+    #[must_use]
+    pub fn u256(self, container: impl Into<String>) -> Views {
+        self.with(View::Shown("u256", container.into()))
+    }
+
+    /// Shows values of this container, a newtype of 32 `U8`, as a signed number.
+    #[must_use]
+    pub fn i256(self, container: impl Into<String>) -> Views {
+        self.with(View::Shown("i256", container.into()))
+    }
+
+    fn with(mut self, view: View) -> Views {
+        self.views.push(view);
+        self
+    }
+
+    /// The formats inside of byte strings.
+    pub(crate) fn formats(&self) -> impl Iterator<Item = &Format> {
+        self.views.iter().filter_map(|view| match view {
+            View::Inside(_, format) => Some(format),
+            _ => None,
+        })
+    }
+
+    /// The views, a line for each, as the library takes them.
+    pub(crate) fn lines(&self) -> Result<Vec<u8>, Error> {
+        let mut lines = Vec::new();
+        for view in &self.views {
+            let (word, name, rest): (_, _, &[u8]) = match view {
+                View::Inside(name, format) => ("inside", name, format.as_json()),
+                View::Call(name, function) => ("call", name, function.as_bytes()),
+                View::Shown(word, container) => (*word, container, b""),
+            };
+            let is_shown = matches!(view, View::Shown(..));
+            if !is_shown && !ends_outside_quotes(name) {
+                return Err(refused(name, "expected a name such as .payload.args[1]"));
+            }
+            let line = [word.as_bytes(), b" ", name.as_bytes(), if is_shown { b"" } else { b"=" }, rest].concat();
+            if line.contains(&b'\n') {
+                return Err(refused(name, "a line feed, which no view may have"));
+            }
+            lines.extend([line.as_slice(), b"\n"].concat());
+        }
+        lines.pop();
+        Ok(lines)
+    }
+}
+
+/// Whether a `=` behind the name ends it, since the name has none outside quotes.
+fn ends_outside_quotes(name: &str) -> bool {
+    let (mut is_quoted, mut is_escaped) = (false, false);
+    for sign in name.chars() {
+        match sign {
+            _ if is_escaped => is_escaped = false,
+            '\\' if is_quoted => is_escaped = true,
+            '"' => is_quoted = !is_quoted,
+            '=' if !is_quoted => return false,
+            _ => {}
+        }
+    }
+    !is_quoted
+}
+
+fn refused(name: &str, message: &str) -> Error {
+    Error::from(ErrorKind::Path).found(Some((name.to_owned(), message.to_owned())))
+}
+
+#[cfg(test)]
+mod tests {
+    use super::Views;
+    use crate::{ErrorKind, Format};
+
+    #[test]
+    fn views_are_lines() {
+        let views = Views::new()
+            .inside(".a[*]", "x=y")
+            .inside(r#"."=\\".b"#, r#"{"SEQ":"U8"}"#)
+            .call(".args", "0x1::m::f<u8, u8>")
+            .address("A")
+            .u256("B = 7")
+            .i256("C");
+        let lines = r#"inside .a[*]={"TYPENAME":"x=y"}
+inside ."=\\".b={"SEQ":"U8"}
+call .args=0x1::m::f<u8, u8>
+address A
+u256 B = 7
+i256 C"#;
+        assert_eq!(String::from_utf8(views.lines().unwrap()).unwrap(), lines);
+        assert!(Views::new().lines().unwrap().is_empty());
+    }
+
+    #[test]
+    fn names_that_would_end_elsewhere_are_refused() {
+        for name in [".a=", "=", r#"."a"#, r#"."a\""#, r#".a""#, ".a\n"] {
+            for views in [Views::new().inside(name, "A"), Views::new().call(name, "A")] {
+                let error = views.lines().unwrap_err();
+                assert_eq!((error.kind(), error.at()), (ErrorKind::Path, Some(name)));
+            }
+        }
+        for views in [Views::new().call(".a", "A\nB"), Views::new().inside(".a", Format::json("\"U8\"\n"))] {
+            assert_eq!(views.lines().unwrap_err().at(), Some(".a"));
+        }
+        assert_eq!(Views::new().address("A\n").lines().unwrap_err().at(), Some("A\n"));
+    }
+}

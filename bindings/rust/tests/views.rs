@@ -1,0 +1,98 @@
+//! Pieces inside of byte strings. The rows of tests/rows/explain_views.rows and tests/rows/contents.py have more.
+use bcs_proved::{Error, ErrorKind, Form, Format, Reason, Registry, RegistryFault, Stop, Views};
+
+const TEXT: &str = r#"{"Note":{"STRUCT":[{"memo":"BYTES"},{"args":{"SEQ":"BYTES"}}]},
+    "f":{"STRUCT":[{"arg0":"U16"}]},"f::arg0":{"NEWTYPESTRUCT":"U16"},
+    "Account":{"NEWTYPESTRUCT":{"TUPLEARRAY":{"CONTENT":"U8","SIZE":32}}}}"#;
+
+fn note() -> Registry {
+    Registry::read(TEXT).unwrap()
+}
+
+/// The places, names and values of what is explained as `Note`.
+fn told(bytes: &[u8], views: &Views) -> Result<Vec<(usize, String, String)>, Error> {
+    let pieces = note().explain_with("Note", bytes, views)?.pieces;
+    Ok(pieces.into_iter().map(|it| (it.place, it.name, it.value)).collect())
+}
+
+fn piece(place: usize, name: &str, value: &str) -> (usize, String, String) {
+    (place, name.to_owned(), value.to_owned())
+}
+
+#[test]
+fn pieces_inside_have_names() {
+    let bytes = [1, 7, 1, 2, 1, 2];
+    let expected = |memo, arg| [piece(0, ".memo", "1"), memo, piece(2, ".args", "1"), piece(3, ".args[0]", "2"), arg];
+    let views = Views::new().inside(".memo", r#""U8""#).call(".args", "f");
+    let both = expected(piece(1, ".memo[bcs]", "7"), piece(4, ".args[0][bcs]", "513"));
+    assert_eq!(told(&bytes, &views).unwrap(), both);
+    let none = expected(piece(1, ".memo", "1"), piece(4, ".args[0]", "2"));
+    assert_eq!(told(&bytes, &Views::new()).unwrap(), none);
+    assert_eq!(note().explain("Note", bytes).unwrap(), note().explain_with("Note", bytes, &Views::new()).unwrap());
+    let paths = note().explain_with("Note", bytes, &views).unwrap().pieces;
+    assert_eq!((paths[1].path.as_deref(), paths[0].path.as_deref()), (None, Some("inner/0")));
+}
+
+/// The first view counts of those whose names match.
+#[test]
+fn views_keep_their_order() {
+    let bytes = [0, 1, 1, 7];
+    let views = Views::new().inside(".args[*]", r#""U8""#).inside(".args[0]", r#""BOOL""#);
+    assert_eq!(told(&bytes, &views).unwrap().last(), Some(&piece(3, ".args[0][bcs]", "7")));
+    let views = Views::new().inside(".args[0]", r#""BOOL""#).inside(".args[*]", r#""U8""#);
+    let stop = note().explain_with("Note", bytes, &views).unwrap().stop;
+    assert_eq!(stop, Some(Stop { reason: Reason::BadBool, place: 3 }));
+}
+
+#[test]
+fn containers_are_shown_as_those_of_move() {
+    let bytes = [vec![255; 32]].concat();
+    let shown = |views: Views| {
+        let pieces = note().explain_with("Account", &bytes, &views).unwrap().pieces;
+        (pieces[0].kind.clone(), pieces[0].value.clone())
+    };
+    assert_eq!(shown(Views::new().i256("Account")), ("i256".to_owned(), "-1".to_owned()));
+    assert_eq!(shown(Views::new().address("Account")), ("address".to_owned(), format!("0x{}", "f".repeat(64))));
+    let greatest = "115792089237316195423570985008687907853269984665640564039457584007913129639935";
+    assert_eq!(shown(Views::new().u256("Account")), ("u256".to_owned(), greatest.to_owned()));
+}
+
+#[test]
+fn views_are_refused() {
+    let unknown = ErrorKind::Format(RegistryFault::UnknownName);
+    let rows = [
+        (Views::new().inside("", "f"), ErrorKind::Path, Some("")),
+        (Views::new().inside(".a=b", "f"), ErrorKind::Path, Some(".a=b")),
+        (Views::new().call(".args\n", "f"), ErrorKind::Path, Some(".args\n")),
+        (Views::new().inside(".memo", "Nope"), unknown, Some("")),
+        (
+            Views::new().inside(".memo", Format::json(r#"{"SEQ":"U7"}"#)),
+            ErrorKind::Format(RegistryFault::BadShape),
+            Some("/SEQ"),
+        ),
+        (Views::new().call(".args", "g"), unknown, None),
+        (Views::new().address("f"), unknown, None),
+    ];
+    for (views, kind, at) in rows {
+        for form in [Form::Ways, Form::Json] {
+            let error = note().explain_text_with("Note", [0, 0], form, &views).unwrap_err();
+            assert_eq!((error.kind(), error.at()), (kind, at), "{views:?}");
+        }
+    }
+    let error = note().explain_with("Qqqqq", [0, 0], &Views::new()).unwrap_err();
+    assert_eq!(error.to_string(), "refused: UnknownName: no container is called Qqqqq");
+}
+
+#[test]
+fn content_has_no_length() {
+    let bytes = [1, 7, 0, 9];
+    let content = note().content_by_name("Note", &bytes, ".memo").unwrap().unwrap();
+    assert_eq!((content.place, content.bytes), (1, &bytes[1..2]));
+    let error = note().content("Note", &bytes, "inner/1").unwrap_err();
+    assert_eq!((error.kind(), error.kind().name(), error.reason()), (ErrorKind::NoContent, "path", Some("NoContent")));
+    assert_eq!(
+        error.to_string(),
+        "refused: NoContent: expected a part that is BYTES, STR, or a list or an array of U8"
+    );
+    assert_eq!(note().content("Note", &bytes, "inner/0/x").unwrap_err().at(), Some("step 3 x"));
+}

@@ -1,0 +1,36 @@
+//! Text that isn't JSON.
+
+use crate::json_mistakes::Mistake;
+use crate::json_scan::first_mistake;
+use bcs_display_refusal::{Location, Refusal};
+use serde_json::{Category, Value};
+use std::alloc::Global;
+
+/// The first mistake in text that isn't JSON. `None`: it is JSON, or an allocation failed.
+pub fn json_mistake(alloc: Global, text: &[u8]) -> Option<Mistake> {
+    let error = Value::from_slice(alloc, text).err()?;
+    if error.classify() == Category::Memory {
+        return None;
+    }
+    let mistake = first_mistake(alloc, text);
+    Some(mistake.unwrap_or(Mistake::at_start("this isn't JSON")))
+}
+
+impl Mistake {
+    /// The refusal of a text with this mistake, with the line and the column. `None` if an allocation fails.
+    pub fn refusal(self, alloc: Global, text: &[u8]) -> Option<Refusal> {
+        let message = Vec::from_slice(alloc, self.words.as_bytes()).ok()?;
+        Some(Refusal::of("NotJson", line_of(text, self.place), message))
+    }
+}
+
+// The line and the column of a byte, from 1.
+fn line_of(text: &[u8], place: usize) -> Location {
+    let before = text.get(..place).unwrap_or(text);
+    let lines = before.iter().filter(|byte| **byte == b'\n').count();
+    let column = match before.iter().rposition(|byte| *byte == b'\n') {
+        Some(end) => place.saturating_sub(end),
+        None => place.saturating_add(1),
+    };
+    Location::Line((lines as u64).saturating_add(1), column as u64)
+}

@@ -1,0 +1,103 @@
+//! Why a text asks for no view.
+
+use crate::move_values::MoveKind;
+use bcs_display_refusal::{Location, Refusal};
+use bcs_registry::RegistryFault;
+use std::alloc::{AllocError, Global};
+
+/// A text that was refused.
+#[derive(Debug, Drop)]
+pub struct RefusedView {
+    /// The fault of the registry's format or container. `None`: the text doesn't name a part (`BadPath`).
+    pub fault: Option<RegistryFault>,
+    pub refusal: Refusal,
+}
+
+/// A text without `=`, or with a name that names no part.
+pub(crate) fn bad_path(
+    alloc: Global,
+    argument: &'static str,
+    text: &str,
+) -> Result<RefusedView, AllocError> {
+    let expected = match argument {
+        "--call" => "expected NAME=FUNCTION, as in .args=0x1::coin::transfer",
+        _ => "expected NAME=FORMAT, as in .args[1]=\"U64\"",
+    };
+    let refusal = refused(alloc, argument, "BadPath", text, expected)?;
+    Ok(RefusedView {
+        fault: None,
+        refusal,
+    })
+}
+
+/// A format that the registry refuses. Fails if memory ran out there.
+pub(crate) fn refused_name(
+    alloc: Global,
+    argument: &'static str,
+    text: &str,
+    fault: RegistryFault,
+) -> Result<RefusedView, AllocError> {
+    let expected = match fault {
+        RegistryFault::OutOfMemory => return Err(AllocError),
+        RegistryFault::UnknownName =>
+            "expected a format whose names are containers of the registry",
+        RegistryFault::NotJson
+        | RegistryFault::BadShape
+        | RegistryFault::BadNumber
+        | RegistryFault::TooNested
+        | RegistryFault::RepeatedName => "expected the name of a container, or a format as JSON",
+    };
+    let refusal = refused(alloc, argument, fault.name(), text, expected)?;
+    Ok(RefusedView {
+        fault: Some(fault),
+        refusal,
+    })
+}
+
+/// A function without containers.
+pub(crate) fn unknown_function(alloc: Global, name: &str) -> Result<RefusedView, AllocError> {
+    let expected = "the registry has no containers for its arguments; bcs from-move makes them";
+    unknown(alloc, "--call", name, expected)
+}
+
+/// A container that has no values of Move.
+pub(crate) fn unknown_value(
+    alloc: Global,
+    kind: MoveKind,
+    name: &str,
+) -> Result<RefusedView, AllocError> {
+    let argument = match kind {
+        MoveKind::Address => "--address",
+        MoveKind::Unsigned => "--u256",
+        MoveKind::Signed => "--i256",
+    };
+    let expected =
+        "expected a container of the registry that is a NEWTYPESTRUCT of a TUPLEARRAY of 32 U8";
+    unknown(alloc, argument, name, expected)
+}
+
+fn unknown(
+    alloc: Global,
+    argument: &'static str,
+    name: &str,
+    expected: &str,
+) -> Result<RefusedView, AllocError> {
+    let fault = RegistryFault::UnknownName;
+    let refusal = refused(alloc, argument, fault.name(), name, expected)?;
+    Ok(RefusedView {
+        fault: Some(fault),
+        refusal,
+    })
+}
+
+fn refused(
+    alloc: Global,
+    argument: &'static str,
+    fault: &'static str,
+    text: &str,
+    expected: &str,
+) -> Result<Refusal, AllocError> {
+    let location = Location::Name(String::from_str(alloc, text)?);
+    let message = Vec::from_slice(alloc, expected.as_bytes())?;
+    Ok(Refusal::of(fault, location, message).in_argument(argument))
+}

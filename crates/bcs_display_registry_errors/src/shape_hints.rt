@@ -1,0 +1,235 @@
+//! What was found in the JSON of a registry or a format where something else was expected, and what to write.
+
+use crate::shape_parts::Part;
+use crate::spellings::{meant_among, meant_word};
+use bcs_display_mistakes::NearestName;
+use bcs_display_refusal::put_name;
+use bcs_display_text::columns::put_decimal;
+use bcs_registry_model::words::word_format;
+use serde_json::{Map, Value};
+use std::alloc::{AllocError, Global};
+
+const CONTAINERS: &[&str] = &["NEWTYPESTRUCT", "TUPLESTRUCT", "STRUCT", "ENUM"];
+
+const PAYLOADS: &[&str] = &["NEWTYPE", "TUPLE", "STRUCT"];
+
+const FORMATS: &[&str] = &["TYPENAME", "OPTION", "SEQ", "MAP", "TUPLE", "TUPLEARRAY"];
+
+/// Appends what was found in place of this part, and what to write.
+pub(crate) fn put_found(
+    alloc: Global,
+    part: Part,
+    found: &Value,
+    out: &mut Vec<u8>,
+) -> Result<(), AllocError> {
+    match found {
+        Value::Null | Value::Bool(_) | Value::Number(_) => {
+            let text = format!(in alloc; ", found {found}")?;
+            out.extend_from_slice(text.as_bytes())
+        }
+        Value::String(word) => put_word(alloc, part, word, out),
+        Value::Array(_) => {
+            out.extend_from_slice(b", found an array")?;
+            out.extend_from_slice(advice_for_array(part).as_bytes())
+        }
+        Value::Object(members) => put_members(alloc, part, members, out),
+    }
+}
+
+fn advice_for_array(part: Part) -> &'static str {
+    match part {
+        Part::Registry => VALUE,
+        Part::Format => "; a list is {\"SEQ\":\"U8\"}, and a tuple {\"TUPLE\":[\"U8\",\"U8\"]}",
+        Part::Variants =>
+            "; write an object, {\"0\":{\"NAME\":\"UNIT\"}}, with the number of each variant",
+        _ => "",
+    }
+}
+
+/// The advice about JSON that isn't like that of a registry.
+pub(crate) const VALUE: &str = "; this looks like a value, and not like a registry";
+
+// A string, and what to write in place of it.
+fn put_word(alloc: Global, part: Part, word: &str, out: &mut Vec<u8>) -> Result<(), AllocError> {
+    put_around(", found \"", word, "\"", out)?;
+    match part {
+        Part::Registry => out.extend_from_slice(VALUE.as_bytes()),
+        Part::Format => put_format_advice(alloc, word, out),
+        Part::Container => put_whole_advice(alloc, word, "UNITSTRUCT", "NEWTYPESTRUCT", out),
+        Part::Payload => put_whole_advice(alloc, word, "UNIT", "NEWTYPE", out),
+        Part::Variant => put_around("; write {\"", word, "\":\"UNIT\"}", out),
+        Part::Formats => put_formats_advice(word, out),
+        Part::Size => out.extend_from_slice(b"; write the number without quotes"),
+        _ => Ok(()),
+    }
+}
+
+// Appends a name between two texts.
+fn put_around(
+    before: &'static str,
+    name: &str,
+    after: &'static str,
+    out: &mut Vec<u8>,
+) -> Result<(), AllocError> {
+    out.extend_from_slice(before.as_bytes())?;
+    put_name(name, out)?;
+    out.extend_from_slice(after.as_bytes())
+}
+
+fn put_formats_advice(word: &str, out: &mut Vec<u8>) -> Result<(), AllocError> {
+    if word_format(word).is_none() {
+        return Ok(());
+    }
+    put_around("; write [\"", word, "\"]", out)
+}
+
+// What to write in place of a string that isn't the name of a format.
+fn put_format_advice(alloc: Global, word: &str, out: &mut Vec<u8>) -> Result<(), AllocError> {
+    if let Some(meant) = meant_word(alloc, word)? {
+        return put_around("; did you mean \"", meant, "\"?", out);
+    }
+    if word.eq_ignore_ascii_case("U256") || word.eq_ignore_ascii_case("I256") {
+        return put_around("; ", word, NO_256, out);
+    }
+    if FORMATS.contains(&word) {
+        return put_around("; write an object, {\"", word, "\":..}", out);
+    }
+    put_around(
+        "; for a container of that name, write {\"TYPENAME\":\"",
+        word,
+        "\"}",
+        out,
+    )
+}
+
+const NO_256: &str =
+    " isn't a format of serde-reflection: write {\"TUPLEARRAY\":{\"CONTENT\":\"U8\",\"SIZE\":32}}";
+
+// What to write in place of a string that isn't this one, the name of a container or payload without content. A format
+// belongs under the member `one`.
+fn put_whole_advice(
+    alloc: Global,
+    word: &str,
+    unit: &'static str,
+    one: &'static str,
+    out: &mut Vec<u8>,
+) -> Result<(), AllocError> {
+    if is_like(alloc, word, unit)? {
+        return put_around("; did you mean \"", unit, "\"?", out);
+    }
+    if word_format(word).is_some() {
+        put_around("; write {\"", one, "\":", out)?;
+        return put_around("\"", word, "\"}", out);
+    }
+    if CONTAINERS.contains(&word) || PAYLOADS.contains(&word) {
+        return put_around("; write an object, {\"", word, "\":..}", out);
+    }
+    Ok(())
+}
+
+// Whether the word is another spelling of this name, or near it.
+fn is_like(alloc: Global, word: &str, unit: &'static str) -> Result<bool, AllocError> {
+    if word.eq_ignore_ascii_case(unit) {
+        return Ok(true);
+    }
+    let name: &str = unit;
+    let mut search = NearestName::to(word);
+    search.consider(alloc, name)?;
+    Ok(search.found().is_some())
+}
+
+// An object, and what to write in place of it.
+fn put_members(
+    alloc: Global,
+    part: Part,
+    members: &Map<String, Value>,
+    out: &mut Vec<u8>,
+) -> Result<(), AllocError> {
+    let mut entries = members.iter();
+    match (part, members.len(), entries.next()) {
+        (Part::Fields | Part::Formats | Part::Name | Part::Size, _, _) => {
+            out.extend_from_slice(b", found an object")?;
+        }
+        (_, 1, Some((name, _))) => put_member(alloc, part, name.as_str(), out)?,
+        (_, 0, _) => out.extend_from_slice(b", found an empty object")?,
+        (_, count, _) => {
+            out.extend_from_slice(b", found an object with ")?;
+            put_decimal(count as u128, out)?;
+            out.extend_from_slice(b" members")?;
+        }
+    }
+    out.extend_from_slice(advice_for_object(part).as_bytes())
+}
+
+fn advice_for_object(part: Part) -> &'static str {
+    match part {
+        Part::Fields => "; write an array, [{\"NAME\":\"U8\"}], with an object for each field",
+        Part::Field => "; write an object for each field",
+        Part::Variant => "; write a number for each variant",
+        Part::Formats => "; write an array, [\"U8\",\"U8\"]",
+        _ => "",
+    }
+}
+
+// The only member of an object, and the name that was meant, or those that exist.
+fn put_member(alloc: Global, part: Part, name: &str, out: &mut Vec<u8>) -> Result<(), AllocError> {
+    let names = names_of(part);
+    put_around(", found the member ", name, "", out)?;
+    if part == Part::Format && name == "VARIABLE" {
+        return out.extend_from_slice(b"; the tracer left this format open: trace more values");
+    }
+    match meant_among(alloc, name, names)? {
+        Some(meant) => put_around("; did you mean ", meant, "?", out),
+        None => put_names(names, out),
+    }
+}
+
+fn put_names(names: &'static [&'static str], out: &mut Vec<u8>) -> Result<(), AllocError> {
+    for (place, name) in names.iter().enumerate() {
+        let before = if place == 0 { "; there are " } else { ", " };
+        out.extend_from_slice(before.as_bytes())?;
+        out.extend_from_slice(name.as_bytes())?;
+    }
+    Ok(())
+}
+
+// The names of members, one of which the object of this part has.
+fn names_of(part: Part) -> &'static [&'static str] {
+    match part {
+        Part::Container => CONTAINERS,
+        Part::Payload => PAYLOADS,
+        Part::Format => FORMATS,
+        _ => &[],
+    }
+}
+
+/// Whether JSON looks like a value: no member of it looks like a container.
+pub(crate) fn looks_like_value(json: &Value) -> bool {
+    match json {
+        Value::Object(members) => !members
+            .iter()
+            .any(|(_, member)| looks_like_container(member)),
+        _ => false,
+    }
+}
+
+// Whether it is the name of a container without content, of a content or of a format, or an object with such a name.
+fn looks_like_container(member: &Value) -> bool {
+    match member {
+        Value::String(word) => is_container_word(word.as_str()) || word_format(word).is_some(),
+        Value::Object(members) => members
+            .iter()
+            .any(|(name, _)| is_container_word(name.as_str())),
+        _ => false,
+    }
+}
+
+fn is_container_word(name: &str) -> bool {
+    name.eq_ignore_ascii_case("UNITSTRUCT")
+        || is_among(CONTAINERS, name)
+        || is_among(PAYLOADS, name)
+}
+
+fn is_among(words: &'static [&'static str], name: &str) -> bool {
+    words.iter().any(|word| word.eq_ignore_ascii_case(name))
+}

@@ -1,0 +1,2 @@
+-- What this crate defines for its contracts.
+pub mod Made

@@ -1,0 +1,80 @@
+//! Modules that are missing.
+
+use crate::maker::Maker;
+use bcs_move_types::chains::Chain;
+use bcs_move_types::place::{Place, place_text};
+use bcs_move_types::qualified::split_name;
+use bcs_move_types::refusal::{MoveFault, MoveRefusalName, refusal};
+use std::alloc::{AllocError, Global};
+
+/// Notes that the module is missing that declares `head`, and the place that needs it.
+pub(crate) fn note_missing(
+    alloc: Global,
+    maker: &mut Maker<'_, '_>,
+    head: &str,
+    place: &Place<'_>,
+) -> Result<(), MoveFault> {
+    let (module, _) = split_name(head);
+    if maker.missing.contains_key(module) {
+        return Ok(());
+    }
+    maker.budget.pay(alloc, module.len(), place)?;
+    let module = String::from_str(alloc, module)?;
+    drop(maker.missing.insert(module, place_text(alloc, place)?)?);
+    Ok(())
+}
+
+/// Refuses the request if modules are missing, with a list of all.
+pub(crate) fn refuse_missing(alloc: Global, maker: &Maker<'_, '_>) -> Result<(), MoveFault> {
+    let Some((_, first)) = maker.missing.first_key_value() else {
+        return Ok(());
+    };
+    let message = missing_list(alloc, maker)?;
+    let place = noted_place(first.as_str());
+    Err(refusal(
+        alloc,
+        MoveRefusalName::MissingModule,
+        &place,
+        message.as_str(),
+    ))
+}
+
+/// The place with this text: a JSON Pointer, or what was requested.
+fn noted_place(text: &str) -> Place<'_> {
+    if text.starts_with('/') {
+        Place::At(text)
+    } else {
+        Place::Requested(text)
+    }
+}
+
+fn missing_list(alloc: Global, maker: &Maker<'_, '_>) -> Result<String, AllocError> {
+    let mut list = String::from_str(alloc, "add these modules:")?;
+    for (number, (module, place)) in maker.missing.iter().enumerate() {
+        if number > 0 {
+            list.push(';')?;
+        }
+        put_missing(alloc, maker, module.as_str(), place.as_str(), &mut list)?;
+    }
+    Ok(list)
+}
+
+/// Appends which module is missing, where it is needed, and how to fetch it.
+fn put_missing(
+    alloc: Global,
+    maker: &Maker<'_, '_>,
+    full: &str,
+    place: &str,
+    message: &mut String,
+) -> Result<(), AllocError> {
+    let (address, name) = split_name(full);
+    let words = match maker.modules.chain() {
+        Some(Chain::Sui) => {
+            format!(in alloc;
+                " {full} for {place}, by sui_getNormalizedMoveModule of {address} and {name}"
+            )?
+        }
+        _ => format!(in alloc; " {full} for {place}, from /v1/accounts/{address}/module/{name}")?,
+    };
+    message.push_str(words.as_str())
+}
