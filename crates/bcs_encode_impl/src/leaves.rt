@@ -30,7 +30,7 @@ pub fn take(count: u64, from: u64) -> Option<u64>
 
 /// Charges one node for a value without parts that is valid if `good`.
 #[inline(always)]
-pub fn validate_leaf(nodes: u64, good: bool) -> Option<u64>
+pub fn charge_leaf(nodes: u64, good: bool) -> Option<u64>
     ensures { result ≡ leaf good nodes }
 {
     if good { take(1, nodes) } else { None }
@@ -38,58 +38,53 @@ pub fn validate_leaf(nodes: u64, good: bool) -> Option<u64>
 
 /// Validates and appends a string. Its length must be at most `LENGTH_LIMIT`.
 #[inline(always)]
-pub fn validate_text(nodes: u64, text: &str, out: &mut Output) -> Option<u64>
+pub fn write_text(nodes: u64, text: &str, out: &mut Output) -> Option<u64>
     ensures validated { result ≡ leaf (is_utf8 text.now && nat_le (length text.now) length_limit) nodes }
     ensures appended { Appends out.old out.new (bytes_written text.now) }
 {
     out.push_bytes(text.as_bytes());
-    validate_leaf(nodes, text.len() <= LENGTH_LIMIT)
+    charge_leaf(nodes, text.len() <= LENGTH_LIMIT)
 }
 
 /// Validates and appends a byte string. Its length must be at most `LENGTH_LIMIT`.
 #[inline(always)]
-pub fn validate_bytes(nodes: u64, bytes: &[u8], out: &mut Output) -> Option<u64>
+pub fn write_bytes(nodes: u64, bytes: &[u8], out: &mut Output) -> Option<u64>
     ensures validated { result ≡ leaf (are_bytes bytes.now && nat_le (length bytes.now) length_limit) nodes }
     ensures appended { Appends out.old out.new (bytes_written bytes.now) }
 {
     out.push_bytes(bytes);
-    validate_leaf(nodes, bytes.len() <= LENGTH_LIMIT)
+    charge_leaf(nodes, bytes.len() <= LENGTH_LIMIT)
 }
 
 /// Validates and appends an unsigned integer of a width.
 #[inline(always)]
-fn validate_unsigned_width(width: Width, nodes: u64, number: u128, out: &mut Output) -> Option<u64>
+fn write_unsigned_width(width: Width, nodes: u64, number: u128, out: &mut Output) -> Option<u64>
     ensures validated { result ≡ leaf (holds_unsigned (width_of width) number) nodes }
     ensures appended { Appends out.old out.new (unsigned_written (width_of width) number) }
 {
     out.push_unsigned(width, number);
-    validate_leaf(nodes, width.holds_unsigned(number))
+    charge_leaf(nodes, width.holds_unsigned(number))
 }
 
 /// Validates and appends a signed integer of a width.
 #[inline(always)]
-fn validate_signed_width(width: Width, nodes: u64, number: i128, out: &mut Output) -> Option<u64>
+fn write_signed_width(width: Width, nodes: u64, number: i128, out: &mut Output) -> Option<u64>
     ensures validated { result ≡ leaf (holds_signed (width_of width) number) nodes }
     ensures appended { Appends out.old out.new (signed_written (width_of width) number) }
 {
     out.push_signed(width, number);
-    validate_leaf(nodes, width.holds_signed(number))
+    charge_leaf(nodes, width.holds_signed(number))
 }
 
 /// Validates and appends an unsigned integer, whatever `format` is.
 #[inline(always)]
-pub fn validate_unsigned(
-    format: &Format,
-    nodes: u64,
-    number: &u128,
-    out: &mut Output,
-) -> Option<u64>
+pub fn write_unsigned(format: &Format, nodes: u64, number: &u128, out: &mut Output) -> Option<u64>
     ensures validated { (r : Entries) (depth : ℕ) → result ≡ validated r (unsigned number.now) (of (shape_of format.now)) depth nodes }
     ensures appended { IfSome result (λ _. (r : Entries) → Appends out.old out.new (written r (unsigned number.now) (of (shape_of format.now)))) }
 {
     match format.kind() {
         Kind::Scalar(Scalar::Whole(IntegerKind::Unsigned(width))) => {
-            validate_unsigned_width(width, nodes, *number, out)
+            write_unsigned_width(width, nodes, *number, out)
         }
         Kind::Scalar(
             Scalar::Unit
@@ -110,13 +105,13 @@ pub fn validate_unsigned(
 
 /// Validates and appends a signed integer, whatever `format` is.
 #[inline(always)]
-pub fn validate_signed(format: &Format, nodes: u64, number: &i128, out: &mut Output) -> Option<u64>
+pub fn write_signed(format: &Format, nodes: u64, number: &i128, out: &mut Output) -> Option<u64>
     ensures validated { (r : Entries) (depth : ℕ) → result ≡ validated r (signed number.now) (of (shape_of format.now)) depth nodes }
     ensures appended { IfSome result (λ _. (r : Entries) → Appends out.old out.new (written r (signed number.now) (of (shape_of format.now)))) }
 {
     match format.kind() {
         Kind::Scalar(Scalar::Whole(IntegerKind::Signed(width))) => {
-            validate_signed_width(width, nodes, *number, out)
+            write_signed_width(width, nodes, *number, out)
         }
         Kind::Scalar(
             Scalar::Unit
@@ -136,7 +131,7 @@ pub fn validate_signed(format: &Format, nodes: u64, number: &i128, out: &mut Out
 }
 
 /// Validates and appends a list of integers. An integer looks up no container, so the contract uses an empty registry.
-pub fn validate_numbers(
+pub fn write_numbers(
     format: IntegerKind,
     nodes: u64,
     items: &[Value],

@@ -10,6 +10,6 @@ pub mod output;
 mod pushing;
 mod soundness;
 mod spans;
-mod validating;
+mod writing;
 
-pub use soundness::is_sound;
+pub use soundness::write_if_sound;

@@ -8,13 +8,13 @@ ghost use Rattle.bcs_encode_impl.specs.Writing.{written};
 ghost use Rattle.bcs_encode_impl.specs.Appends.{Appends};
 
 use crate::output::Output;
-use crate::validating::validate_value;
+use crate::writing::write_value;
 use bcs_registry::{Format, Registry};
 use bcs_value::{Limits, Value};
 
 /// Whether the value fits `format` and its depth, nodes and lengths are within the limits. Visits the value once, and
 /// looks up a container once for each value, or for a whole list. Appends the encoding, as far as `out` accepts it.
-pub fn is_sound(
+pub fn write_if_sound(
     registry: &Registry,
     format: &Format,
     limits: &Limits,
@@ -26,5 +26,5 @@ pub fn is_sound(
 {
     let depth = u64::from(limits.depth());
     let nodes = u64::from(limits.nodes());
-    validate_value(value, registry, format, depth, nodes, out).is_some()
+    write_value(value, registry, format, depth, nodes, out).is_some()
 }

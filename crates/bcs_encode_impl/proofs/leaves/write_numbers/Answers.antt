@@ -1,8 +1,8 @@
 use Rattle.bcs_encode_impl.proofs.Prelude.{◌≡◌, ◌∙◌, sym, ap, rules, false, true, [], None, Bool, if◌then◌else◌, length, whole_shape, items_trees, all_fit, items_written, less}
 use Rattle.bcs_encode_impl.proofs.AppendsLaws.{whole_written}
 use Rattle.bcs_encode_impl.proofs.RowsFit.{row_fits}
-use Rattle.bcs_encode_impl.proofs.leaves.validate_numbers.Goals as goal
-use Rattle.bcs_encode_impl.proofs.leaves.validate_numbers.Goals.{then-is_complete, else-is_complete}
+use Rattle.bcs_encode_impl.proofs.leaves.write_numbers.Goals as goal
+use Rattle.bcs_encode_impl.proofs.leaves.write_numbers.Goals.{then-is_complete, else-is_complete}
 
 pub returns-then-are_numbers-clause-validated : goal.returns-then-are_numbers-clause-validated
 returns-then-are_numbers-clause-validated c =

@@ -6,183 +6,183 @@ use Rattle.bcs_encode_impl.proofs.AppendsLaws.{after, along, as_well, at_one_reg
 use Rattle.bcs_encode_impl.proofs.Options.{then_none}
 use Rattle.bcs_encode_impl.proofs.RowSteps.{content_found, item_validated, item_written, named_validated, pair_validated, pair_next}
 use Rattle.bcs_encode_impl.proofs.ValidatingViews.{array_validated, array_unlike, at_pairs, at_signed, at_unsigned, by_list, by_struct, by_struct_payload, by_tuple, by_tuple_payload, by_tuple_struct, each_unlike, list_validated, long_map_validated, map_validated, variant_validated, no_variant_validated, row_validated}
-use Rattle.bcs_encode_impl.proofs.validating.+validating.Goals as goal
+use Rattle.bcs_encode_impl.proofs.writing.+writing.Goals as goal
 
-pub validate_all-returns-in-Some-clause-validated : goal.validate_all-returns-in-Some-clause-validated
-validate_all-returns-in-Some-clause-validated t c =
-    c.validate_numbers.ensures.validated ∙ sym (row_validated c.args.registry.now c.in-Some.format (shape_of c.args.element.now) c.args.items.now c.args.depth c.args.nodes (search rules))
+pub write_all-returns-in-Some-clause-validated : goal.write_all-returns-in-Some-clause-validated
+write_all-returns-in-Some-clause-validated t c =
+    c.write_numbers.ensures.validated ∙ sym (row_validated c.args.registry.now c.in-Some.format (shape_of c.args.element.now) c.args.items.now c.args.depth c.args.nodes (search rules))
 
-pub validate_content-returns-in-TupleStruct-Items-clause-validated : goal.validate_content-returns-in-TupleStruct-Items-clause-validated
-validate_content-returns-in-TupleStruct-Items-clause-validated t c =
+pub write_content-returns-in-TupleStruct-Items-clause-validated : goal.write_content-returns-in-TupleStruct-Items-clause-validated
+write_content-returns-in-TupleStruct-Items-clause-validated t c =
     let m = c.in-TupleStruct-Items in
-    c.validate_each.ensures.validated ∙ by_tuple_struct (λ u f. validated c.args.registry.now u f c.args.depth c.args.nodes) _ _ m.items m.formats _ _ m.is-0 m.is-1 c.deref.ensures.value c.deref-in-TupleStruct-Items.ensures.value
+    c.write_each.ensures.validated ∙ by_tuple_struct (λ u f. validated c.args.registry.now u f c.args.depth c.args.nodes) _ _ m.items m.formats _ _ m.is-0 m.is-1 c.deref.ensures.value c.deref-in-TupleStruct-Items.ensures.value
 
-pub validate_content-returns-in-Struct-Items-clause-validated : goal.validate_content-returns-in-Struct-Items-clause-validated
-validate_content-returns-in-Struct-Items-clause-validated t c =
+pub write_content-returns-in-Struct-Items-clause-validated : goal.write_content-returns-in-Struct-Items-clause-validated
+write_content-returns-in-Struct-Items-clause-validated t c =
     let m = c.in-Struct-Items in
-    c.validate_fields.ensures.validated ∙ by_struct (λ u f. validated c.args.registry.now u f c.args.depth c.args.nodes) _ _ m.items m.fields _ _ m.is-0 m.is-1 c.deref-in-Struct-Items.ensures.value c.deref-in-Struct-Items-2.ensures.value
+    c.write_fields.ensures.validated ∙ by_struct (λ u f. validated c.args.registry.now u f c.args.depth c.args.nodes) _ _ m.items m.fields _ _ m.is-0 m.is-1 c.deref-in-Struct-Items.ensures.value c.deref-in-Struct-Items-2.ensures.value
 
-pub validate_content-returns-in-Some-clause-validated : goal.validate_content-returns-in-Some-clause-validated
-validate_content-returns-in-Some-clause-validated t c =
+pub write_content-returns-in-Some-clause-validated : goal.write_content-returns-in-Some-clause-validated
+write_content-returns-in-Some-clause-validated t c =
     let m = c.in-Enum-Variant in
-    c.validate_payload.ensures.validated
+    c.write_payload.ensures.validated
     ∙ ap (λ (v : Value). validated c.args.registry.now (tree_of v) (of (payload_shape (payload_of c.in-Some.variant.now.value))) c.args.depth c.in_ok-nodes-in-Enum-Variant.nodes) c.deref-in-Some.ensures
     ∙ sym (variant_validated c.args.registry.now c.args.value.now c.args.container.now m.variants m.number m.inner c.in-Some.variant c.get.result c.args.depth c.args.nodes c.in_ok-nodes-in-Enum-Variant.nodes
     (omega arith) m.is-0 m.is-1 c.get.ensures.value c.in-Some.is (sym c.take-in-Enum-Variant.ensures ∙ c.in_ok-nodes-in-Enum-Variant.was))
 
-pub validate_content-returns-in-None-clause-validated : goal.validate_content-returns-in-None-clause-validated
-validate_content-returns-in-None-clause-validated t c =
+pub write_content-returns-in-None-clause-validated : goal.write_content-returns-in-None-clause-validated
+write_content-returns-in-None-clause-validated t c =
     let m = c.in-Enum-Variant in
     sym (no_variant_validated c.args.registry.now c.args.value.now c.args.container.now m.variants m.number m.inner c.get.result c.args.depth c.args.nodes m.is-0 m.is-1 c.get.ensures.value c.in-None.is)
 
-pub validate_each-returns-then-items-formats-clause-validated : goal.validate_each-returns-then-items-formats-clause-validated
-validate_each-returns-then-items-formats-clause-validated t c =
+pub write_each-returns-then-items-formats-clause-validated : goal.write_each-returns-then-items-formats-clause-validated
+write_each-returns-then-items-formats-clause-validated t c =
     sym (then_none (each_validated c.args.registry.now (items_trees c.args.items.now) (formats_shapes c.args.formats.now) c.args.depth) (less 1 c.args.nodes)
     (λ n. each_unlike c.args.registry.now _ _ c.args.depth n (λ e. c.if-items-formats.true (sym (count_items c.args.items.now) ∙ e ∙ count_formats c.args.formats.now))))
 
-pub validate_fields-returns-then-items-fields-clause-validated : goal.validate_fields-returns-then-items-fields-clause-validated
-validate_fields-returns-then-items-fields-clause-validated t c =
+pub write_fields-returns-then-items-fields-clause-validated : goal.write_fields-returns-then-items-fields-clause-validated
+write_fields-returns-then-items-fields-clause-validated t c =
     sym (then_none (each_validated c.args.registry.now (items_trees c.args.items.now) (field_shapes (map field_of c.args.fields.now)) c.args.depth) (less 1 c.args.nodes)
     (λ n. each_unlike c.args.registry.now _ _ c.args.depth n (λ e. c.if-items-fields.true (sym (count_items c.args.items.now) ∙ e ∙ count_fields c.args.fields.now))))
 
-pub validate_list-returns-clause-validated : goal.validate_list-returns-clause-validated
-validate_list-returns-clause-validated t c =
-    c.validate_all.ensures.validated
+pub write_list-returns-clause-validated : goal.write_list-returns-clause-validated
+write_list-returns-clause-validated t c =
+    c.write_all.ensures.validated
     ∙ sym (list_validated c.args.registry.now c.args.items.now (shape_of c.args.element.now) c.args.depth c.args.nodes c.in_ok-take.field-0 (omega (arith, c.if-items-gt-LENGTH_LIMIT.false))
     (sym c.take.ensures ∙ c.in_ok-take.was))
 
-pub validate_payload-returns-in-Tuple-Items-clause-validated : goal.validate_payload-returns-in-Tuple-Items-clause-validated
-validate_payload-returns-in-Tuple-Items-clause-validated t c =
+pub write_payload-returns-in-Tuple-Items-clause-validated : goal.write_payload-returns-in-Tuple-Items-clause-validated
+write_payload-returns-in-Tuple-Items-clause-validated t c =
     let m = c.in-Tuple-Items in
-    c.validate_each.ensures.validated ∙ by_tuple_payload (λ u f. validated c.args.registry.now u f c.args.depth c.args.nodes) _ _ m.items m.formats _ _ m.is-0 m.is-1 c.deref.ensures.value c.deref-in-Tuple-Items.ensures.value
+    c.write_each.ensures.validated ∙ by_tuple_payload (λ u f. validated c.args.registry.now u f c.args.depth c.args.nodes) _ _ m.items m.formats _ _ m.is-0 m.is-1 c.deref.ensures.value c.deref-in-Tuple-Items.ensures.value
 
-pub validate_payload-returns-in-Struct-Items-clause-validated : goal.validate_payload-returns-in-Struct-Items-clause-validated
-validate_payload-returns-in-Struct-Items-clause-validated t c =
+pub write_payload-returns-in-Struct-Items-clause-validated : goal.write_payload-returns-in-Struct-Items-clause-validated
+write_payload-returns-in-Struct-Items-clause-validated t c =
     let m = c.in-Struct-Items in
-    c.validate_fields.ensures.validated ∙ by_struct_payload (λ u f. validated c.args.registry.now u f c.args.depth c.args.nodes) _ _ m.items m.fields _ _ m.is-0 m.is-1 c.deref-in-Struct-Items.ensures.value c.deref-in-Struct-Items-2.ensures.value
+    c.write_fields.ensures.validated ∙ by_struct_payload (λ u f. validated c.args.registry.now u f c.args.depth c.args.nodes) _ _ m.items m.fields _ _ m.is-0 m.is-1 c.deref-in-Struct-Items.ensures.value c.deref-in-Struct-Items-2.ensures.value
 
-pub validate_value-returns-in-Items-Seq-clause-validated : goal.validate_value-returns-in-Items-Seq-clause-validated
-validate_value-returns-in-Items-Seq-clause-validated t c =
+pub write_value-returns-in-Items-Seq-clause-validated : goal.write_value-returns-in-Items-Seq-clause-validated
+write_value-returns-in-Items-Seq-clause-validated t c =
     let m = c.in-Items-Seq in
-    c.validate_list.ensures.validated ∙ by_list (λ u f. validated c.args.registry.now u f c.args.depth c.args.nodes) _ _ m.items m.element _ _ m.is-0 m.is-1 c.deref-in-Items-Seq.ensures.value c.deref-in-Items-Seq-2.ensures
+    c.write_list.ensures.validated ∙ by_list (λ u f. validated c.args.registry.now u f c.args.depth c.args.nodes) _ _ m.items m.element _ _ m.is-0 m.is-1 c.deref-in-Items-Seq.ensures.value c.deref-in-Items-Seq-2.ensures
 
-pub validate_value-returns-in-Items-Tuple-clause-validated : goal.validate_value-returns-in-Items-Tuple-clause-validated
-validate_value-returns-in-Items-Tuple-clause-validated t c =
+pub write_value-returns-in-Items-Tuple-clause-validated : goal.write_value-returns-in-Items-Tuple-clause-validated
+write_value-returns-in-Items-Tuple-clause-validated t c =
     let m = c.in-Items-Tuple in
-    c.validate_each.ensures.validated ∙ by_tuple (λ u f. validated c.args.registry.now u f c.args.depth c.args.nodes) _ _ m.items m.formats _ _ m.is-0 m.is-1 c.deref-in-Items-Tuple.ensures.value c.deref-in-Items-Tuple-2.ensures.value
+    c.write_each.ensures.validated ∙ by_tuple (λ u f. validated c.args.registry.now u f c.args.depth c.args.nodes) _ _ m.items m.formats _ _ m.is-0 m.is-1 c.deref-in-Items-Tuple.ensures.value c.deref-in-Items-Tuple-2.ensures.value
 
-pub validate_value-returns-in-Unsigned-default-clause-validated : goal.validate_value-returns-in-Unsigned-default-clause-validated
-validate_value-returns-in-Unsigned-default-clause-validated t c =
-    c.validate_unsigned.ensures.validated c.args.registry.now c.args.depth
+pub write_value-returns-in-Unsigned-default-clause-validated : goal.write_value-returns-in-Unsigned-default-clause-validated
+write_value-returns-in-Unsigned-default-clause-validated t c =
+    c.write_unsigned.ensures.validated c.args.registry.now c.args.depth
     ∙ at_unsigned (λ u. validated c.args.registry.now u (of (shape_of c.args.format.now)) c.args.depth c.args.nodes) c.args.value.now _ c.in-Unsigned-default.is-0
 
-pub validate_value-returns-in-Signed-default-clause-validated : goal.validate_value-returns-in-Signed-default-clause-validated
-validate_value-returns-in-Signed-default-clause-validated t c =
-    c.validate_signed.ensures.validated c.args.registry.now c.args.depth
+pub write_value-returns-in-Signed-default-clause-validated : goal.write_value-returns-in-Signed-default-clause-validated
+write_value-returns-in-Signed-default-clause-validated t c =
+    c.write_signed.ensures.validated c.args.registry.now c.args.depth
     ∙ at_signed (λ u. validated c.args.registry.now u (of (shape_of c.args.format.now)) c.args.depth c.args.nodes) c.args.value.now _ c.in-Signed-default.is-0
 
-pub validate_all-returns-in-Some-clause-appended : goal.validate_all-returns-in-Some-clause-appended
-validate_all-returns-in-Some-clause-appended t c =
-    along c.validate_numbers.result c.args.out.now c.validate_numbers.new.out _ _ (λ b. numbers_anywhere c.args.registry.now [] c.in-Some.format (shape_of c.args.element.now) (items_trees c.args.items.now) b (search rules)) (some_appends c.validate_numbers.result c.args.out.now c.validate_numbers.new.out (items_written [] (items_trees c.args.items.now) (whole_shape c.in-Some.format)) c.validate_numbers.ensures.appended)
+pub write_all-returns-in-Some-clause-appended : goal.write_all-returns-in-Some-clause-appended
+write_all-returns-in-Some-clause-appended t c =
+    along c.write_numbers.result c.args.out.now c.write_numbers.new.out _ _ (λ b. numbers_anywhere c.args.registry.now [] c.in-Some.format (shape_of c.args.element.now) (items_trees c.args.items.now) b (search rules)) (some_appends c.write_numbers.result c.args.out.now c.write_numbers.new.out (items_written [] (items_trees c.args.items.now) (whole_shape c.in-Some.format)) c.write_numbers.ensures.appended)
 
-pub validate_content-returns-in-TupleStruct-Items-clause-appended : goal.validate_content-returns-in-TupleStruct-Items-clause-appended
-validate_content-returns-in-TupleStruct-Items-clause-appended t c =
+pub write_content-returns-in-TupleStruct-Items-clause-appended : goal.write_content-returns-in-TupleStruct-Items-clause-appended
+write_content-returns-in-TupleStruct-Items-clause-appended t c =
     let m = c.in-TupleStruct-Items in
-    along c.validate_each.result c.args.out.now c.validate_each.new.out _ _ (λ b. sym (by_tuple_struct (λ u f. written c.args.registry.now u f b) _ _ m.items m.formats _ _ m.is-0 m.is-1 c.deref.ensures.value c.deref-in-TupleStruct-Items.ensures.value)) c.validate_each.ensures.appended
+    along c.write_each.result c.args.out.now c.write_each.new.out _ _ (λ b. sym (by_tuple_struct (λ u f. written c.args.registry.now u f b) _ _ m.items m.formats _ _ m.is-0 m.is-1 c.deref.ensures.value c.deref-in-TupleStruct-Items.ensures.value)) c.write_each.ensures.appended
 
-pub validate_content-returns-in-Struct-Items-clause-appended : goal.validate_content-returns-in-Struct-Items-clause-appended
-validate_content-returns-in-Struct-Items-clause-appended t c =
+pub write_content-returns-in-Struct-Items-clause-appended : goal.write_content-returns-in-Struct-Items-clause-appended
+write_content-returns-in-Struct-Items-clause-appended t c =
     let m = c.in-Struct-Items in
-    along c.validate_fields.result c.args.out.now c.validate_fields.new.out _ _ (λ b. sym (by_struct (λ u f. written c.args.registry.now u f b) _ _ m.items m.fields _ _ m.is-0 m.is-1 c.deref-in-Struct-Items.ensures.value c.deref-in-Struct-Items-2.ensures.value)) c.validate_fields.ensures.appended
+    along c.write_fields.result c.args.out.now c.write_fields.new.out _ _ (λ b. sym (by_struct (λ u f. written c.args.registry.now u f b) _ _ m.items m.fields _ _ m.is-0 m.is-1 c.deref-in-Struct-Items.ensures.value c.deref-in-Struct-Items-2.ensures.value)) c.write_fields.ensures.appended
 
-pub validate_content-returns-in-Some-clause-appended : goal.validate_content-returns-in-Some-clause-appended
-validate_content-returns-in-Some-clause-appended t c =
+pub write_content-returns-in-Some-clause-appended : goal.write_content-returns-in-Some-clause-appended
+write_content-returns-in-Some-clause-appended t c =
     let m = c.in-Enum-Variant in
-    after c.validate_payload.result c.args.out.now c.push_number.new.self c.validate_payload.new.out (λ b. Ok (b ++ uleb m.number))
+    after c.write_payload.result c.args.out.now c.push_number.new.self c.write_payload.new.out (λ b. Ok (b ++ uleb m.number))
     (written c.args.registry.now (tree_of c.deref-in-Some.result.now) (of (payload_shape (payload_of c.in-Some.variant.now.value)))) _
     (λ b. variant_written c.args.registry.now c.args.value.now c.args.container.now m.variants m.number m.inner c.in-Some.variant c.get.result b m.is-0 m.is-1 c.get.ensures.value c.in-Some.is
     ∙ ap (λ (v : Value). written c.args.registry.now (tree_of v) (of (payload_shape (payload_of c.in-Some.variant.now.value))) (b ++ uleb m.number)) (sym c.deref-in-Some.ensures))
-    c.push_number.ensures.appended c.validate_payload.ensures.appended
+    c.push_number.ensures.appended c.write_payload.ensures.appended
 
-pub validate_payload-returns-in-Tuple-Items-clause-appended : goal.validate_payload-returns-in-Tuple-Items-clause-appended
-validate_payload-returns-in-Tuple-Items-clause-appended t c =
+pub write_payload-returns-in-Tuple-Items-clause-appended : goal.write_payload-returns-in-Tuple-Items-clause-appended
+write_payload-returns-in-Tuple-Items-clause-appended t c =
     let m = c.in-Tuple-Items in
-    along c.validate_each.result c.args.out.now c.validate_each.new.out _ _ (λ b. sym (by_tuple_payload (λ u f. written c.args.registry.now u f b) _ _ m.items m.formats _ _ m.is-0 m.is-1 c.deref.ensures.value c.deref-in-Tuple-Items.ensures.value)) c.validate_each.ensures.appended
+    along c.write_each.result c.args.out.now c.write_each.new.out _ _ (λ b. sym (by_tuple_payload (λ u f. written c.args.registry.now u f b) _ _ m.items m.formats _ _ m.is-0 m.is-1 c.deref.ensures.value c.deref-in-Tuple-Items.ensures.value)) c.write_each.ensures.appended
 
-pub validate_payload-returns-in-Struct-Items-clause-appended : goal.validate_payload-returns-in-Struct-Items-clause-appended
-validate_payload-returns-in-Struct-Items-clause-appended t c =
+pub write_payload-returns-in-Struct-Items-clause-appended : goal.write_payload-returns-in-Struct-Items-clause-appended
+write_payload-returns-in-Struct-Items-clause-appended t c =
     let m = c.in-Struct-Items in
-    along c.validate_fields.result c.args.out.now c.validate_fields.new.out _ _ (λ b. sym (by_struct_payload (λ u f. written c.args.registry.now u f b) _ _ m.items m.fields _ _ m.is-0 m.is-1 c.deref-in-Struct-Items.ensures.value c.deref-in-Struct-Items-2.ensures.value)) c.validate_fields.ensures.appended
+    along c.write_fields.result c.args.out.now c.write_fields.new.out _ _ (λ b. sym (by_struct_payload (λ u f. written c.args.registry.now u f b) _ _ m.items m.fields _ _ m.is-0 m.is-1 c.deref-in-Struct-Items.ensures.value c.deref-in-Struct-Items-2.ensures.value)) c.write_fields.ensures.appended
 
-pub validate_value-returns-in-Items-Tuple-clause-appended : goal.validate_value-returns-in-Items-Tuple-clause-appended
-validate_value-returns-in-Items-Tuple-clause-appended t c =
+pub write_value-returns-in-Items-Tuple-clause-appended : goal.write_value-returns-in-Items-Tuple-clause-appended
+write_value-returns-in-Items-Tuple-clause-appended t c =
     let m = c.in-Items-Tuple in
-    along c.validate_each.result c.args.out.now c.validate_each.new.out _ _ (λ b. sym (by_tuple (λ u f. written c.args.registry.now u f b) _ _ m.items m.formats _ _ m.is-0 m.is-1 c.deref-in-Items-Tuple.ensures.value c.deref-in-Items-Tuple-2.ensures.value)) c.validate_each.ensures.appended
+    along c.write_each.result c.args.out.now c.write_each.new.out _ _ (λ b. sym (by_tuple (λ u f. written c.args.registry.now u f b) _ _ m.items m.formats _ _ m.is-0 m.is-1 c.deref-in-Items-Tuple.ensures.value c.deref-in-Items-Tuple-2.ensures.value)) c.write_each.ensures.appended
 
-pub validate_value-returns-in-Unsigned-default-clause-appended : goal.validate_value-returns-in-Unsigned-default-clause-appended
-validate_value-returns-in-Unsigned-default-clause-appended t c =
-    along c.validate_unsigned.result c.args.out.now c.validate_unsigned.new.out _ _ (λ b. sym (at_unsigned (λ u. written c.args.registry.now u (of (shape_of c.args.format.now)) b) c.args.value.now _ c.in-Unsigned-default.is-0))
-    (at_one_registry c.validate_unsigned.result c.args.registry.now _ c.validate_unsigned.ensures.appended)
+pub write_value-returns-in-Unsigned-default-clause-appended : goal.write_value-returns-in-Unsigned-default-clause-appended
+write_value-returns-in-Unsigned-default-clause-appended t c =
+    along c.write_unsigned.result c.args.out.now c.write_unsigned.new.out _ _ (λ b. sym (at_unsigned (λ u. written c.args.registry.now u (of (shape_of c.args.format.now)) b) c.args.value.now _ c.in-Unsigned-default.is-0))
+    (at_one_registry c.write_unsigned.result c.args.registry.now _ c.write_unsigned.ensures.appended)
 
-pub validate_value-returns-in-Signed-default-clause-appended : goal.validate_value-returns-in-Signed-default-clause-appended
-validate_value-returns-in-Signed-default-clause-appended t c =
-    along c.validate_signed.result c.args.out.now c.validate_signed.new.out _ _ (λ b. sym (at_signed (λ u. written c.args.registry.now u (of (shape_of c.args.format.now)) b) c.args.value.now _ c.in-Signed-default.is-0))
-    (at_one_registry c.validate_signed.result c.args.registry.now _ c.validate_signed.ensures.appended)
+pub write_value-returns-in-Signed-default-clause-appended : goal.write_value-returns-in-Signed-default-clause-appended
+write_value-returns-in-Signed-default-clause-appended t c =
+    along c.write_signed.result c.args.out.now c.write_signed.new.out _ _ (λ b. sym (at_signed (λ u. written c.args.registry.now u (of (shape_of c.args.format.now)) b) c.args.value.now _ c.in-Signed-default.is-0))
+    (at_one_registry c.write_signed.result c.args.registry.now _ c.write_signed.ensures.appended)
 
-pub validate_each-loop-i-init : goal.validate_each-loop-i-init
-validate_each-loop-i-init t c = record {
+pub write_each-loop-i-init : goal.write_each-loop-i-init
+write_each-loop-i-init t c = record {
   validated = ap (option_and_then (each_validated c.args.registry.now (items_trees c.args.items.now) (formats_shapes c.args.formats.now) c.args.depth)) (sym c.take.ensures ∙ c.in_ok-left.was);
   appended = begins c.args.out.now _ _ (λ b. tuple_written c.args.registry.now c.args.items.now c.args.formats.now b (omega (arith, c.if-items-formats.false)));
 }
 
-pub validate_fields-loop-i-init : goal.validate_fields-loop-i-init
-validate_fields-loop-i-init t c = record {
+pub write_fields-loop-i-init : goal.write_fields-loop-i-init
+write_fields-loop-i-init t c = record {
   validated = ap (option_and_then (each_validated c.args.registry.now (items_trees c.args.items.now) (field_shapes (map field_of c.args.fields.now)) c.args.depth)) (sym c.take.ensures ∙ c.in_ok-left.was);
   appended = begins c.args.out.now _ _ (λ b. fields_written c.args.registry.now c.args.items.now c.args.fields.now b (omega (arith, c.if-items-fields.false)));
 }
 
-pub validate_map-returns-then-pairs-gt-LENGTH_LIMIT-clause-validated : goal.validate_map-returns-then-pairs-gt-LENGTH_LIMIT-clause-validated
-validate_map-returns-then-pairs-gt-LENGTH_LIMIT-clause-validated t c =
+pub write_map-returns-then-pairs-gt-LENGTH_LIMIT-clause-validated : goal.write_map-returns-then-pairs-gt-LENGTH_LIMIT-clause-validated
+write_map-returns-then-pairs-gt-LENGTH_LIMIT-clause-validated t c =
     sym (long_map_validated c.args.registry.now c.args.pairs.now c.args.format.now c.in-Map.key c.in-Map.value c.args.depth c.args.nodes c.in-Map.is (omega (arith, c.if-pairs-gt-LENGTH_LIMIT.true)))
 
-pub validate_map-loop-k-init : goal.validate_map-loop-k-init
-validate_map-loop-k-init t c = record {
+pub write_map-loop-k-init : goal.write_map-loop-k-init
+write_map-loop-k-init t c = record {
   validated = map_validated c.args.registry.now c.args.pairs.now c.args.format.now c.in-Map.key c.in-Map.value c.args.depth c.args.nodes c.in_ok-left.left c.in-Map.is (omega (arith, c.if-pairs-gt-LENGTH_LIMIT.false))
       (sym c.take.ensures ∙ c.in_ok-left.was);
   entered = at_first c.args.registry.now (shape_of c.in-Map.key.value) (shape_of c.in-Map.value.value) (entries_pairs c.args.pairs.now) c.push_length.new.self;
 }
 
-pub validate_value-returns-then-len-size-clause-validated : goal.validate_value-returns-then-len-size-clause-validated
-validate_value-returns-then-len-size-clause-validated t c =
+pub write_value-returns-then-len-size-clause-validated : goal.write_value-returns-then-len-size-clause-validated
+write_value-returns-then-len-size-clause-validated t c =
     let m = c.in-Items-TupleArray in
     sym (array_unlike c.args.registry.now c.args.value.now c.args.format.now m.items m.element m.size c.len.result c.args.depth c.args.nodes m.is-0 m.is-1 (search rules) c.if-len-size.true)
 
-pub validate_value-returns-in_ok-take-in-Items-TupleArray-clause-validated : goal.validate_value-returns-in_ok-take-in-Items-TupleArray-clause-validated
-validate_value-returns-in_ok-take-in-Items-TupleArray-clause-validated t c =
+pub write_value-returns-in_ok-take-in-Items-TupleArray-clause-validated : goal.write_value-returns-in_ok-take-in-Items-TupleArray-clause-validated
+write_value-returns-in_ok-take-in-Items-TupleArray-clause-validated t c =
     let m = c.in-Items-TupleArray in
     let left = c.in_ok-take-in-Items-TupleArray.field-0 in
-    c.validate_all.ensures.validated
+    c.write_all.ensures.validated
     ∙ ap₂ (λ (us : List Value) (g : Format). all_validated c.args.registry.now (items_trees us) (shape_of g) c.args.depth left) c.deref-in-Items-TupleArray.ensures.value c.deref-in-Items-TupleArray-2.ensures
     ∙ sym (array_validated c.args.registry.now c.args.value.now c.args.format.now m.items m.element m.size c.len.result c.args.depth c.args.nodes left m.is-0 m.is-1 (search rules) (search rules)
     (sym c.take-in-Items-TupleArray.ensures ∙ c.in_ok-take-in-Items-TupleArray.was))
 
-pub validate_value-returns-in_ok-take-in-Items-TupleArray-clause-appended : goal.validate_value-returns-in_ok-take-in-Items-TupleArray-clause-appended
-validate_value-returns-in_ok-take-in-Items-TupleArray-clause-appended t c =
+pub write_value-returns-in_ok-take-in-Items-TupleArray-clause-appended : goal.write_value-returns-in_ok-take-in-Items-TupleArray-clause-appended
+write_value-returns-in_ok-take-in-Items-TupleArray-clause-appended t c =
     let m = c.in-Items-TupleArray in
-    along c.validate_all.result c.args.out.now c.validate_all.new.out _ _ (λ b. array_written c.args.registry.now c.args.value.now c.args.format.now m.items m.element m.size c.len.result b m.is-0 m.is-1 (search rules) (search rules)
+    along c.write_all.result c.args.out.now c.write_all.new.out _ _ (λ b. array_written c.args.registry.now c.args.value.now c.args.format.now m.items m.element m.size c.len.result b m.is-0 m.is-1 (search rules) (search rules)
     ∙ ap₂ (λ (us : List Value) (g : Format). items_written c.args.registry.now (items_trees us) (shape_of g) b) (sym c.deref-in-Items-TupleArray.ensures.value) (sym c.deref-in-Items-TupleArray-2.ensures))
-    c.validate_all.ensures.appended
+    c.write_all.ensures.appended
 
-pub validate_value-returns-in-Pairs-default-clause-validated : goal.validate_value-returns-in-Pairs-default-clause-validated
-validate_value-returns-in-Pairs-default-clause-validated t c =
-    c.validate_map.ensures.validated ∙ at_pairs (λ u. validated c.args.registry.now u (of (shape_of c.args.format.now)) c.args.depth c.args.nodes) c.args.value.now c.in-Pairs-default.pairs c.deref-in-Pairs-default.result.now c.in-Pairs-default.is-0 c.deref-in-Pairs-default.ensures.value
+pub write_value-returns-in-Pairs-default-clause-validated : goal.write_value-returns-in-Pairs-default-clause-validated
+write_value-returns-in-Pairs-default-clause-validated t c =
+    c.write_map.ensures.validated ∙ at_pairs (λ u. validated c.args.registry.now u (of (shape_of c.args.format.now)) c.args.depth c.args.nodes) c.args.value.now c.in-Pairs-default.pairs c.deref-in-Pairs-default.result.now c.in-Pairs-default.is-0 c.deref-in-Pairs-default.ensures.value
 
-pub validate_value-returns-in-Pairs-default-clause-appended : goal.validate_value-returns-in-Pairs-default-clause-appended
-validate_value-returns-in-Pairs-default-clause-appended t c =
-    along c.validate_map.result c.args.out.now c.validate_map.new.out _ _ (λ b. sym (at_pairs (λ u. written c.args.registry.now u (of (shape_of c.args.format.now)) b) c.args.value.now c.in-Pairs-default.pairs c.deref-in-Pairs-default.result.now c.in-Pairs-default.is-0 c.deref-in-Pairs-default.ensures.value)) c.validate_map.ensures.appended
+pub write_value-returns-in-Pairs-default-clause-appended : goal.write_value-returns-in-Pairs-default-clause-appended
+write_value-returns-in-Pairs-default-clause-appended t c =
+    along c.write_map.result c.args.out.now c.write_map.new.out _ _ (λ b. sym (at_pairs (λ u. written c.args.registry.now u (of (shape_of c.args.format.now)) b) c.args.value.now c.in-Pairs-default.pairs c.deref-in-Pairs-default.result.now c.in-Pairs-default.is-0 c.deref-in-Pairs-default.ensures.value)) c.write_map.ensures.appended
 
-pub validate_map-end_map-requires : goal.validate_map-end_map-requires
-validate_map-end_map-requires t c =
+pub write_map-end_map-requires : goal.write_map-end_map-requires
+write_map-end_map-requires t c =
     let r = c.args.registry.now in
     let k = shape_of c.in-Map.key.value in
     let v = shape_of c.in-Map.value.value in
@@ -199,8 +199,8 @@ validate_map-end_map-requires t c =
       filled = bytes_fill r k v all first now c.loop-k.before c.len-first.result c.len-start.result n_is start_is done;
     }
 
-pub validate_map-returns-clause-appended : goal.validate_map-returns-clause-appended
-validate_map-returns-clause-appended t c =
+pub write_map-returns-clause-appended : goal.write_map-returns-clause-appended
+write_map-returns-clause-appended t c =
     let r = c.args.registry.now in
     let k = shape_of c.in-Map.key.value in
     let v = shape_of c.in-Map.value.value in
@@ -217,8 +217,8 @@ validate_map-returns-clause-appended t c =
     c.push_length.ensures.appended
     (map_ends r k v all first now c.loop-k.before c.len-first.result c.len-start.result n_is start_is done c.end_map.new.self c.end_map.ensures.sorted c.end_map.ensures.others)
 
-pub validate_map-loop-k-preserved : goal.validate_map-loop-k-preserved
-validate_map-loop-k-preserved t c =
+pub write_map-loop-k-preserved : goal.write_map-loop-k-preserved
+write_map-loop-k-preserved t c =
     let r = c.args.registry.now in
     let k = shape_of c.in-Map.key.value in
     let v = shape_of c.in-Map.value.value in
@@ -230,14 +230,14 @@ validate_map-loop-k-preserved t c =
     let e = c.loop-k-item.result in
     let rest = entries_pairs (drop (l.k-index + 1) pairs) in
     let o = l.out in
-    let p = c.validate_value.new.out in
-    let q = c.validate_value-in-loop-k.new.out in
+    let p = c.write_value.new.out in
+    let q = c.write_value-in-loop-k.new.out in
     let entry_is : span c.len-start-in-loop-k.result c.len-end.result c.len.result ≡ span (length o.bytes.items) (length p.bytes.items) (length q.bytes.items) =
     ap₂ (λ (i j : ℕ). span i j c.len.result) c.len-start-in-loop-k.ensures c.len-end.ensures ∙ ap (λ (i : ℕ). span (length o.bytes.items) (length p.bytes.items) i) c.len.ensures in
     let key_validated : validated r (tree_of e.0) (of k) d l.left ≡ Some c.in_ok-left-2.left =
-    ap (λ (g : Format). validated r (tree_of e.0) (of (shape_of g)) d l.left) (sym c.deref.ensures) ∙ sym c.validate_value.ensures.validated ∙ c.in_ok-left-2.was in
+    ap (λ (g : Format). validated r (tree_of e.0) (of (shape_of g)) d l.left) (sym c.deref.ensures) ∙ sym c.write_value.ensures.validated ∙ c.in_ok-left-2.was in
     let value_validated : validated r (tree_of e.1) (of v) d c.in_ok-left-2.left ≡ Some c.in_ok-left-3.left =
-    ap (λ (g : Format). validated r (tree_of e.1) (of (shape_of g)) d c.in_ok-left-2.left) (sym c.deref-in-loop-k.ensures) ∙ sym c.validate_value-in-loop-k.ensures.validated ∙ c.in_ok-left-3.was in
+    ap (λ (g : Format). validated r (tree_of e.1) (of (shape_of g)) d c.in_ok-left-2.left) (sym c.deref-in-loop-k.ensures) ∙ sym c.write_value-in-loop-k.ensures.validated ∙ c.in_ok-left-3.was in
     let before : Enters r k v all (pair (tree_of e.0) (tree_of e.1) rest) first o l.before =
     subst (λ (qs : Pairs). Enters r k v all qs first o l.before) (pair_next r pairs l.k-index e c.loop-k-test.true c.loop-k-item.is) l.invariant.entered in
     let key_appended = as_well o p (written r (tree_of e.0) (of (shape_of c.deref.result.now))) (written r (tree_of e.0) (of k))
@@ -252,8 +252,8 @@ validate_map-loop-k-preserved t c =
           (one_more r k v all (tree_of e.0) (tree_of e.1) rest first o p q c.end_entry.new.self l.before before key_appended value_appended ended);
     }
 
-pub validate_all_named-loop-item-preserved : goal.validate_all_named-loop-item-preserved
-validate_all_named-loop-item-preserved t c =
+pub write_all_named-loop-item-preserved : goal.write_all_named-loop-item-preserved
+write_all_named-loop-item-preserved t c =
     let r = c.args.registry.now in
     let name = c.args.name.now in
     let s = name_shape name in
@@ -269,12 +269,12 @@ validate_all_named-loop-item-preserved t c =
     ap (λ (u : Tree). validated r u (of s) c.args.depth l.left) seen
     ∙ named_validated r (tree_of inner) name (content (container_of m.container.now)) c.args.depth c.in_ok-take-in-Named-Some.field-0 l.left c.in_ok-take-in-Named-Some-2.field-0 c.in_ok-left-in-Named-Some.left
     (sym c.take.ensures ∙ c.in_ok-take-in-Named-Some.was) (sym c.take-in-Named-Some.ensures ∙ c.in_ok-take-in-Named-Some-2.was) opened
-    (sym c.validate_content.ensures.validated ∙ c.in_ok-left-in-Named-Some.was) in
+    (sym c.write_content.ensures.validated ∙ c.in_ok-left-in-Named-Some.was) in
     record {
       validated = l.invariant.validated ∙ item_validated r vs l.item-index v c.loop-item-test.true c.item-item.is s c.args.depth l.left c.in_ok-left-in-Named-Some.left one_validated;
-      appended = goes_on c.args.out.now l.out c.validate_content.new.out (items_written r (items_trees vs) s) (items_written r (items_trees (drop l.item-index vs)) s)
+      appended = goes_on c.args.out.now l.out c.write_content.new.out (items_written r (items_trees vs) s) (items_written r (items_trees (drop l.item-index vs)) s)
           (written r (tree_of v) (of s)) (items_written r (items_trees (drop (l.item-index + 1) vs)) s)
           (λ b. item_written r vs l.item-index v c.loop-item-test.true c.item-item.is s b) l.invariant.appended
-          (as_well l.out c.validate_content.new.out (written r (tree_of inner) (content (container_of m.container.now))) (written r (tree_of v) (of s))
+          (as_well l.out c.write_content.new.out (written r (tree_of inner) (content (container_of m.container.now))) (written r (tree_of v) (of s))
           (λ b. ap (λ (u : Tree). written r u (of s) b) seen ∙ ap (λ (f : Content). written r (tree_of inner) f b) opened) c.in_ok-left-in-Named-Some.ensures.appended);
     }

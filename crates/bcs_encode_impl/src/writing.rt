@@ -11,9 +11,7 @@ ghost use Rattle.bcs_encode_impl.specs.Writing.{items_written, written};
 ghost use Rattle.bcs_encode_impl.specs.Appends.{Appends};
 ghost use Rattle.bcs_encode_impl.specs.Validating as spec;
 
-use crate::leaves::{
-    take, validate_bytes, validate_numbers, validate_signed, validate_text, validate_unsigned,
-};
+use crate::leaves::{take, write_bytes, write_numbers, write_signed, write_text, write_unsigned};
 use crate::output::Output;
 use bcs_key_order::spans::Span;
 use bcs_num::LENGTH_LIMIT;
@@ -21,9 +19,9 @@ use bcs_registry::{Container, Format, Named, Registry, VariantFormat};
 use bcs_registry_model::IntegerKind;
 use bcs_value::Value;
 
-/// Validates a value of a format.
-#[cycle(validating)]
-pub fn validate_value(
+/// Validates and appends a value of a format.
+#[cycle(writing)]
+pub fn write_value(
     value: &Value,
     registry: &Registry,
     format: &Format,
@@ -40,41 +38,41 @@ pub fn validate_value(
             out.push_byte(u8::from(*truth));
             take(1, nodes)
         }
-        (Value::Unsigned(number), _) => validate_unsigned(format, nodes, number, out),
-        (Value::Signed(number), _) => validate_signed(format, nodes, number, out),
-        (Value::Text(text), Format::Str) => validate_text(nodes, text.as_str(), out),
-        (Value::Bytes(bytes), Format::Bytes) => validate_bytes(nodes, bytes, out),
+        (Value::Unsigned(number), _) => write_unsigned(format, nodes, number, out),
+        (Value::Signed(number), _) => write_signed(format, nodes, number, out),
+        (Value::Text(text), Format::Str) => write_text(nodes, text.as_str(), out),
+        (Value::Bytes(bytes), Format::Bytes) => write_bytes(nodes, bytes, out),
         (Value::Absent, Format::Opt(_)) => {
             out.push_byte(0);
             take(1, nodes)
         }
         (Value::Present(inner), Format::Opt(content)) => {
             out.push_byte(1);
-            validate_value(inner, registry, content, depth, take(1, nodes)?, out)
+            write_value(inner, registry, content, depth, take(1, nodes)?, out)
         }
         (Value::Items(items), Format::Seq(element)) => {
-            validate_list(items, registry, element, depth, nodes, out)
+            write_list(items, registry, element, depth, nodes, out)
         }
         (Value::Items(items), Format::Tuple(formats)) => {
-            validate_each(items, registry, formats, depth, nodes, out)
+            write_each(items, registry, formats, depth, nodes, out)
         }
         (Value::Items(items), Format::TupleArray(element, size)) => {
             if items.len() as u64 != *size {
                 return None;
             }
-            validate_all(items, registry, element, depth, take(1, nodes)?, out)
+            write_all(items, registry, element, depth, take(1, nodes)?, out)
         }
-        (Value::Pairs(pairs), _) => validate_map(pairs, registry, format, depth, nodes, out),
+        (Value::Pairs(pairs), _) => write_map(pairs, registry, format, depth, nodes, out),
         (Value::Named(inner), Format::TypeName(name)) => {
-            validate_named(inner, registry, name.as_str(), depth, nodes, out)
+            write_named(inner, registry, name.as_str(), depth, nodes, out)
         }
         _ => None,
     }
 }
 
-/// Validates a value of the container `name`.
-#[cycle(validating)]
-fn validate_named(
+/// Validates and appends a value of the container `name`.
+#[cycle(writing)]
+fn write_named(
     inner: &Value,
     registry: &Registry,
     name: &str,
@@ -88,14 +86,14 @@ fn validate_named(
     let depth = take(1, depth)?;
     let nodes = take(1, nodes)?;
     match registry.container(name) {
-        Some(container) => validate_content(inner, registry, container, depth, nodes, out),
+        Some(container) => write_content(inner, registry, container, depth, nodes, out),
         None => None,
     }
 }
 
-/// Validates the contents of a container.
-#[cycle(validating)]
-fn validate_content(
+/// Validates and appends the contents of a container.
+#[cycle(writing)]
+fn write_content(
     value: &Value,
     registry: &Registry,
     container: &Container,
@@ -108,28 +106,21 @@ fn validate_content(
 {
     match (container, value) {
         (Container::UnitStruct, Value::Unit) => take(1, nodes),
-        (Container::NewTypeStruct(format), _) => validate_value(
+        (Container::NewTypeStruct(format), _) => write_value(
             value, registry, format, depth, nodes, out,
         ),
         (Container::TupleStruct(formats), Value::Items(items)) => {
-            validate_each(items, registry, formats, depth, nodes, out)
+            write_each(items, registry, formats, depth, nodes, out)
         }
         (Container::Struct(fields), Value::Items(items)) => {
-            validate_fields(items, registry, fields, depth, nodes, out)
+            write_fields(items, registry, fields, depth, nodes, out)
         }
         (Container::Enum(variants), Value::Variant(number, inner)) => {
             let number = *number;
             let nodes = take(1, nodes)?;
             out.push_number(number);
             match variants.get(&number) {
-                Some(variant) => validate_payload(
-                    inner,
-                    registry,
-                    &variant.value,
-                    depth,
-                    nodes,
-                    out,
-                ),
+                Some(variant) => write_payload(inner, registry, &variant.value, depth, nodes, out),
                 None => None,
             }
         }
@@ -137,9 +128,9 @@ fn validate_content(
     }
 }
 
-/// Validates the contents of a variant.
-#[cycle(validating)]
-fn validate_payload(
+/// Validates and appends the contents of a variant.
+#[cycle(writing)]
+fn write_payload(
     value: &Value,
     registry: &Registry,
     payload: &VariantFormat,
@@ -152,23 +143,23 @@ fn validate_payload(
 {
     match (payload, value) {
         (VariantFormat::Unit, Value::Unit) => take(1, nodes),
-        (VariantFormat::NewType(format), _) => validate_value(
+        (VariantFormat::NewType(format), _) => write_value(
             value, registry, format, depth, nodes, out,
         ),
         (VariantFormat::Tuple(formats), Value::Items(items)) => {
-            validate_each(items, registry, formats, depth, nodes, out)
+            write_each(items, registry, formats, depth, nodes, out)
         }
         (VariantFormat::Struct(fields), Value::Items(items)) => {
-            validate_fields(items, registry, fields, depth, nodes, out)
+            write_fields(items, registry, fields, depth, nodes, out)
         }
         _ => None,
     }
 }
 
-/// Validates a list.
-#[cycle(validating)]
+/// Validates and appends a list.
+#[cycle(writing)]
 #[tactic(auto, using(bcs_value_model::proofs::WalkViews::count_items))]
-fn validate_list(
+fn write_list(
     items: &[Value],
     registry: &Registry,
     element: &Format,
@@ -183,12 +174,12 @@ fn validate_list(
         return None;
     }
     out.push_length(items.len());
-    validate_all(items, registry, element, depth, take(1, nodes)?, out)
+    write_all(items, registry, element, depth, take(1, nodes)?, out)
 }
 
-/// Validates elements of one format.
-#[cycle(validating)]
-fn validate_all(
+/// Validates and appends elements of one format.
+#[cycle(writing)]
+fn write_all(
     items: &[Value],
     registry: &Registry,
     element: &Format,
@@ -200,21 +191,21 @@ fn validate_all(
     ensures appended { IfSome result (λ _. Appends out.old out.new (items_written registry.now (items_trees items.now) (shape_of element.now))) }
 {
     if let Some(format) = IntegerKind::of(element) {
-        return validate_numbers(format, nodes, items, out);
+        return write_numbers(format, nodes, items, out);
     }
     if let Format::TypeName(name) = element {
-        return validate_all_named(items, registry, name.as_str(), depth, nodes, out);
+        return write_all_named(items, registry, name.as_str(), depth, nodes, out);
     }
     let mut left = nodes;
     for item in items {
-        left = validate_value(item, registry, element, depth, left, out)?;
+        left = write_value(item, registry, element, depth, left, out)?;
     }
     Some(left)
 }
 
-/// Validates values of one container, which is looked up once for all.
-#[cycle(validating)]
-fn validate_all_named(
+/// Validates and appends values of one container, which is looked up once for all.
+#[cycle(writing)]
+fn write_all_named(
     items: &[Value],
     registry: &Registry,
     name: &str,
@@ -229,7 +220,7 @@ fn validate_all_named(
     let mut left = nodes;
     for item in items {
         left = match (item, found) {
-            (Value::Named(inner), Some(container)) => validate_content(
+            (Value::Named(inner), Some(container)) => write_content(
                 inner,
                 registry,
                 container,
@@ -243,9 +234,9 @@ fn validate_all_named(
     Some(left)
 }
 
-/// Validates a tuple.
-#[cycle(validating)]
-fn validate_each(
+/// Validates and appends a tuple.
+#[cycle(writing)]
+fn write_each(
     items: &[Value],
     registry: &Registry,
     formats: &[Format],
@@ -261,14 +252,14 @@ fn validate_each(
     }
     let mut left = take(1, nodes)?;
     for (i, item) in items.iter().enumerate() {
-        left = validate_value(item, registry, &formats[i], depth, left, out)?;
+        left = write_value(item, registry, &formats[i], depth, left, out)?;
     }
     Some(left)
 }
 
-/// Validates the fields of a struct.
-#[cycle(validating)]
-fn validate_fields(
+/// Validates and appends the fields of a struct.
+#[cycle(writing)]
+fn write_fields(
     items: &[Value],
     registry: &Registry,
     fields: &[Named<Format>],
@@ -284,16 +275,16 @@ fn validate_fields(
     }
     let mut left = take(1, nodes)?;
     for (i, item) in items.iter().enumerate() {
-        left = validate_value(item, registry, &fields[i].value, depth, left, out)?;
+        left = write_value(item, registry, &fields[i].value, depth, left, out)?;
     }
     Some(left)
 }
 
 /// Validates the entries of a map, without comparing keys, and appends them as given. The output then sorts them if it
 /// can.
-#[cycle(validating)]
+#[cycle(writing)]
 #[tactic(auto, using(bcs_value_model::proofs::WalkViews::count_pairs))]
-fn validate_map(
+fn write_map(
     pairs: &[(Value, Value)],
     registry: &Registry,
     format: &Format,
@@ -317,9 +308,9 @@ fn validate_map(
     let mut before = None;
     for (k, v) in pairs {
         let start = out.bytes.len();
-        left = validate_value(k, registry, key, depth, left, out)?;
+        left = write_value(k, registry, key, depth, left, out)?;
         let end = out.bytes.len();
-        left = validate_value(v, registry, value, depth, left, out)?;
+        left = write_value(v, registry, value, depth, left, out)?;
         let entry = Span {
             start,
             end,
