@@ -45,7 +45,7 @@ class Crate(Protocol):
         """The arguments that `rattle` needs to prove or build it, beside these flags."""
 
     def stamp(self) -> str:
-        """The checksum of its sources and of those below it, as they were when it was first asked for."""
+        """The checksum of its sources and of those below it, as they were when it was first computed."""
 
 
 @functools.cache

@@ -96,7 +96,7 @@ make_program() {
 }
 
 # A few lines of C under the name of each proved call that returns an answer lead to that call. The heap is an object of its own in
-# the static library, so whoever defines its functions replaces it.
+# the static library, so a program that defines its functions replaces it.
 make_libraries() {
     retarget "$module" "$room/code.o"
     "$here/shims.py" "$room"

@@ -105,7 +105,7 @@ compile() {
     cp "$archive" "$room/proved.a"
     ar d "$room/proved.a" library.o heap.o
 
-    # The heap is an object of its own, so whoever defines its functions replaces it.
+    # The heap is an object of its own, so a program that defines its functions replaces it.
     mkdir "$room/static"
     ld -r "$room/heap.o" "$room/static.o" -o "$room/static/heap.o"
     cp "$room/proved.a" "$room/libbcs.a"

@@ -8,7 +8,7 @@
 
 _Static_assert(_Alignof(max_align_t) % 16 == 0, "malloc gives blocks that are aligned to 16 bytes");
 
-/* A block, or that there is none. */
+/* A block, or NULL if there is no memory. */
 struct tried {
     bool ok;
     void *block;
@@ -22,7 +22,7 @@ static struct tried tried(void *block) {
     return answer;
 }
 
-/* malloc and realloc may answer null for no bytes, which would look like want of memory. */
+/* malloc and realloc may return NULL for zero bytes, which would look like an allocation that failed. */
 static size_t at_least_one(size_t length) {
     return length != 0 ? length : 1;
 }

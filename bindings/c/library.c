@@ -111,8 +111,7 @@ static size_t stack_left(void) {
 void GetCurrentThreadStackLimits(uintptr_t *bottom, uintptr_t *top);
 int SetThreadStackGuarantee(uint32_t *length);
 
-/* What is left for others at the end of a stack, which are handlers of exceptions, and the pages by which Windows notices that a
-   stack ends. */
+/* What stays free at the end of a stack, for exception handlers, and for the pages by which Windows notices that a stack ends. */
 #define RESERVE (48 << 10)
 
 /* How many bytes of stack a call may use. SIZE_MAX: unknown, on a stack that the system doesn't know. Fibers have their own. */
@@ -404,7 +403,7 @@ static bcs_answer scan_if_lowered(struct use *use, const uint8_t *bytes, size_t 
     return use->is_lowered ? bcs_c_handle_scan(use->proved, &use->ask, bytes, bytes_length) : plain(BCS_DONE);
 }
 
-/* Whether nothing more can be told at the lowered depth. */
+/* Whether the lowered depth leaves the answer open. */
 static bool is_final(bcs_answer answer) {
     return is_too_deep(answer) || answer.status == BCS_MEMORY;
 }
@@ -495,7 +494,7 @@ static bcs_answer stop_refusal(struct use *use, const uint8_t *bytes, size_t byt
                : bcs_c_handle_stop_refusal(use->proved, &use->ask, bytes, bytes_length, out, out_length);
 }
 
-/* Another depth may have another example, so there is none at a lowered one. */
+/* Another depth may have another example, so a lowered depth returns no example. */
 static bcs_answer example(struct use *use, uint32_t form, const uint8_t *variant, size_t variant_length, uint8_t *out,
                           size_t out_length) {
     return use->is_lowered

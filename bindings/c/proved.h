@@ -12,7 +12,7 @@ typedef struct bcs_c_handle {
     void *registry; /* null if no registry is open */
 } bcs_c_handle;
 
-/* What a call on an open registry is asked for, besides its input. */
+/* The parameters of a call on an open registry, besides its input. */
 typedef struct bcs_c_handle_ask {
     const uint8_t *format;
     size_t format_length;

@@ -117,7 +117,7 @@ struct call {
     size_t out_length;
 };
 
-/* Where in the box's memory a call has what it is handed, one after the other. */
+/* Where in the box's memory the arguments of a call are, one after the other. */
 struct places {
     u64 answer, ask, format, first, second, out, out_length;
 };

@@ -50,7 +50,7 @@ __attribute__((noreturn)) static void wasm_rt_trap(enum trap trap) {
 /* More than one function of the translated code needs for itself, as any compiler compiles it. */
 #define FRAME_MOST ((size_t)48 << 10)
 
-/* Where the stack of a call ends that begins here, with so many bytes left. */
+/* Where the stack ends for a call that begins here, if it has this number of bytes left. */
 static uintptr_t end_of_stack(size_t left) {
     const uintptr_t here = (uintptr_t)__builtin_frame_address(0);
     return left > FRAME_MOST && left < here ? here - left + FRAME_MOST : here;

@@ -61,7 +61,7 @@ extern void bound_cache(const Registry *spared);
 extern void close_names(void);
 
 /* refusal.c: raises the error for what an answer refuses of a question, or of the text of a registry in UTF-8; or for a type that no
- * call may be asked for. And the JSON that says why and where bytes stop being a value. */
+ * call accepts. And the JSON that says why and where bytes stop being a value. */
 extern pg_attribute_noreturn() void refuse(const Question *question, bcs_answer answer);
 extern pg_attribute_noreturn() void refuse_registry(struct piece text, bcs_answer answer);
 extern pg_attribute_noreturn() void refuse_type(struct piece type, const char *message);

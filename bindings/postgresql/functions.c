@@ -54,7 +54,7 @@ write_normal(const Question *question, uint8_t *out, size_t room)
 /* Printing a piece takes as long as other calls take for eight nodes. */
 #define NODES_OF_PIECE 8
 
-/* Pieces that end where bcs.max_nodes stops them aren't those that the query asks for. */
+/* Pieces that end where bcs.max_nodes stops them aren't those that the query needs. */
 static bcs_answer
 unless_capped(const Question *question, bcs_answer answer)
 {

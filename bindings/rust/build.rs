@@ -29,7 +29,7 @@ fn main() {
     }
 }
 
-/// The folder with the library, or why there is none.
+/// The folder with the library, or why it isn't there.
 fn find_library() -> Result<PathBuf, String> {
     let own = own_folder();
     let source = Path::new(&of_cargo("CARGO_MANIFEST_DIR")).join("c/bcs_library.c");

@@ -30,7 +30,7 @@ _Static_assert(sizeof(size_t) == 8 && sizeof(void *) == 8, "addresses have 64 bi
 /* What memory.grow answers where it fails is -1 of as many bits as an address has. Cut, that is widened to this. */
 #define NOT_GROWN 0xffffffff
 
-/* A block, or that there is none. */
+/* A block, or NULL if there is no memory. */
 struct tried {
     bool ok;
     void *block;

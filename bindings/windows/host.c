@@ -262,7 +262,7 @@ int64_t readlink(const char *path, char *buffer, uint64_t room) {
 
 /* ---- Files. */
 
-/* A descriptor is the number of a handle: these fit into 32 bits and are multiples of 4, so 0, 1 and 2 are none of them. */
+/* A descriptor is the number of a handle: these fit into 32 bits and are multiples of 4, so 0, 1 and 2 are no handles. */
 static handle handle_of(int32_t file) {
     return file >= 0 && file <= 2 ? GetStdHandle(STANDARD_INPUT - (uint32_t)file) : (handle)(intptr_t)file;
 }
@@ -422,7 +422,7 @@ int32_t fsync(int32_t file) {
     return FlushFileBuffers(handle_of(file)) != 0 ? 0 : system_fails();
 }
 
-/* A new file has the rights that its folder gives, so there are none to change. */
+/* A new file has the rights that its folder gives, so nothing has to change. */
 int32_t fchmod(int32_t file, uint32_t mode) {
     (void)file, (void)mode;
     return 0;

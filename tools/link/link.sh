@@ -53,7 +53,7 @@ make_program() {
         "$room/start.o" "$room/processor.o" "$room/program_heap.o" "$room/statx.o" "$file" "$kit/c/libos_c.a" "$kit/c/liblibc_c.a"
 }
 
-# make_libraries: makes both libraries. The heap is an object of its own in the static one, so whoever defines its functions
+# make_libraries: makes both libraries. The heap is an object of its own in the static one, so a program that defines its functions
 # replaces it. The dynamic one uses these functions under the version that they have in every glibc.
 make_libraries() {
     local name

@@ -1,4 +1,4 @@
-/* What glibc has from 2.33 on, for older ones: the processor's features, as its own instruction tells them. The program asks
+/* What glibc has from 2.33 on, for older ones: the processor's features, as its own instruction reports them. The program asks
    which of two leaves it has, and both are there on each processor of 64 bits. */
 struct features {
     unsigned told[4], usable[4];

@@ -27,7 +27,7 @@
 
 _Static_assert(_Alignof(max_align_t) % UNIT == 0, "malloc returns blocks that are aligned to 16 bytes");
 
-/* A block, or that there is none. */
+/* A block, or NULL if there is no memory. */
 struct tried {
     bool ok;
     void *block;
@@ -86,7 +86,7 @@ static void *addresses(size_t length, int protection) {
     return start != MAP_FAILED ? start : NULL;
 }
 
-/* It is tried once. If the process may have only so many addresses, the region would use up what malloc needs. */
+/* It is tried once. If the process has a limit on addresses, the region would use up what malloc needs. */
 static bool reserve(void) {
     static bool has_tried;
     struct rlimit limit;

@@ -21,7 +21,7 @@ __attribute__((used)) static void begin(long *stack, void (*end_of_loader)(void)
     __libc_start_main(main_on_own_stack, (int)*stack, (char **)(stack + 1), before_main, 0, end_of_loader, stack);
 }
 
-/* The system hands over the stack, and the loader in rdx what is to be called at the end. */
+/* The system passes the stack, and the loader passes in rdx the function to call at the end. */
 __attribute__((naked, noreturn)) void _start(void) {
     __asm__("xor %ebp, %ebp\n"
             "mov %rsp, %rdi\n"

@@ -41,7 +41,7 @@ def crates_of(tops: list[str], crates: dict[str, list[str]]) -> dict[str, list[s
 
 
 def identity(kind: str, name: str) -> str:
-    """SPDX lets letters, digits, dots and hyphens stand in a name."""
+    """SPDX allows letters, digits, dots and hyphens in a name."""
     return f"SPDXRef-{kind}-" + name.replace("_", "-").replace("/", "-")
 
 

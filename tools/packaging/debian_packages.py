@@ -88,7 +88,7 @@ def papers(name: str, bill: archives.File) -> archives.Files:
 
 
 def library_files(machine: facts.Machine) -> archives.Files:
-    """As Debian has libraries: in the folder of the machine's kind, and the dynamic one without leave to be run."""
+    """Libraries where Debian has them: in the folder of the machine's kind, and the dynamic one not executable."""
     folder = f"{machine.processor}-linux-gnu"
     files = {}
     for name, file in installed.files("/usr", "--library", "--no-record", machine=machine).items():

@@ -371,7 +371,7 @@ class Registry:
         return True
 
     def scan(self, format: Format, data: Data, limits: Optional[Limits] = None) -> int:
-        """How many bytes the value at the beginning has. Raises BytesError if there is none."""
+        """How many bytes the value at the beginning has. Raises BytesError if the bytes begin with no value."""
         data = bytes_of(data)
         return self._scanned(self._question(format, limits, data), data)
 

@@ -102,7 +102,7 @@ class Format:
         raise NotImplementedError
 
     def quick(self, value: Any, levels: int) -> str:
-        """The JSON that `open` would write, with at most so many arrays and objects in one another; or raises _Slow. It
+        """The JSON that `open` would write, with at most `levels` arrays and objects in one another; or raises _Slow. It
         reads exact types of Python only, so it runs none of the caller's code."""
         raise _Slow
 
@@ -115,7 +115,7 @@ class Format:
 
 
 class _Pieces(list[str]):
-    """JSON as it is written piece by piece, for a value of at most so many nodes."""
+    """JSON that is written piece by piece, for a value with a maximum number of nodes."""
 
     def __init__(self, nodes: int) -> None:
         super().__init__()
@@ -787,7 +787,7 @@ WORDS: dict[str, Format] = {
 
 
 class Formats:
-    """The formats of a registry. The library has checked the registry, and each format that is asked for."""
+    """The formats of a registry. The library has checked the registry, and each format that a caller names."""
 
     def __init__(self, containers: Mapping[str, Any], own_forms: Mapping[str, str]) -> None:
         """`own_forms` has the kinds of the containers with a form of their own."""

@@ -37,7 +37,7 @@ def views_of(
     calls: Optional[Mapping[str, str]] = None,
     **containers: Iterable[str],
 ) -> list[View]:
-    """The views that a caller asks for. Raises PathError for a name that no line can have."""
+    """The views that a caller requests. Raises PathError for a name that no line can have."""
     views = []
     for name, format in _members("inside", inside):
         text = json_of(format)

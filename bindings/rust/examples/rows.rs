@@ -1,5 +1,5 @@
-//! Makes the calls that are asked for on standard input, a line each, and answers each by a line. `tests/rows` starts
-//! it, and asks it the rows of the repository's tests.
+//! Makes the calls that standard input names, one a line, and answers each with a line. `tests/rows` starts it, and asks it the
+//! rows of the repository's tests.
 use bcs_proved::{
     Error, ErrorKind, Explanation, Form, Format, Limits, MadeRegistry, Part, Registry, Views, registry_of_modules,
 };
@@ -16,7 +16,7 @@ fn main() -> io::Result<()> {
     Ok(())
 }
 
-/// What a line asks for is answered by five words: the status, the fault, a place, a length, and an output.
+/// The answer to a line has five words: the status, the fault, a place, a length, and an output.
 fn answer(line: &str) -> String {
     let mut words = Words(line.split('\t'));
     let told = match words.next() {

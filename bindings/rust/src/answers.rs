@@ -25,7 +25,7 @@ pub(crate) fn fill(room: usize, call: impl Fn(&mut [u8]) -> Answer) -> Result<(V
     Ok((out, done(answer)?))
 }
 
-/// Makes a call with an output that has `room`, and once more with as much as it asks for where that is too short.
+/// Makes a call with an output of `room` bytes, and, if that is too short, once more with as many as it needs.
 fn put(room: usize, call: impl Fn(&mut [u8]) -> Answer) -> Result<(Vec<u8>, Answer), Error> {
     let mut out = Vec::new();
     let mut room = room;

@@ -3,8 +3,8 @@ use std::fmt;
 
 /// A format of a registry: what a value is read as.
 ///
-/// Where a call asks for a format, a text will do, which is taken as the program `bcs` takes it: one that begins with `{` or
-/// `"` is a format's JSON, and any other a container's name.
+/// Calls that need a format also accept a string, and read it like the program `bcs`: one that begins with `{` or `"` is a
+/// format's JSON, and any other is a container's name.
 ///
 /// ```
 /// use bcs_proved::{Format, Registry};
@@ -19,7 +19,7 @@ use std::fmt;
 /// # Ok::<(), bcs_proved::Error>(())
 /// ```
 ///
-/// It isn't judged before it is used: [`Registry::check`](crate::Registry::check) says whether a registry has it.
+/// It isn't validated before it is used: [`Registry::check`](crate::Registry::check) says whether a registry has it.
 #[derive(Clone)]
 pub struct Format {
     json: Vec<u8>,

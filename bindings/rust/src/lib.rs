@@ -1,8 +1,8 @@
 //! Canonical bytes (BCS) of values and of JSON, by the serde-reflection registry of a chain.
 //!
-//! Wallets, explorers and auditors sign and hash such bytes, and two spellings of one value would break signatures and
-//! ids. So the library below this crate is proved: equal values have equal bytes, the decoder takes exactly the bytes that
-//! some value encodes to, and each value has one normal text. This crate hands slices over to it, and is tested.
+//! Wallets, explorers and auditors sign and hash such bytes, and two encodings of one value would break signatures and
+//! ids. So the library below this crate is proved: equal values have equal bytes, the decoder accepts exactly the bytes that
+//! some value encodes to, and each value has one normal text. This crate passes slices to it, and is tested.
 //!
 //! ```
 //! use bcs_proved::Registry;

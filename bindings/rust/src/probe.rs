@@ -1,8 +1,8 @@
 //! Finds types that would take an integer or bytes for something else.
 //!
-//! `serde` reads what is flattened or untagged into a buffer, before it knows what the type wants. Then it passes any integer to an
+//! `serde` reads what is flattened or untagged into a buffer, before it knows what the type needs. Then it passes any integer to an
 //! `f64`, and bytes to any list. So a value that went to buffers is read again, with a character in the place of each integer and
-//! each byte string, and `serde` says what the type wanted instead.
+//! each byte string, and `serde` says what the type expected instead.
 use crate::error::ErrorKind;
 use crate::integers::Integer;
 use crate::mismatch::Mismatch;
@@ -76,7 +76,7 @@ impl Probe {
         is_replaced.then_some(STAND_IN)
     }
 
-    /// Rejects a type that wants something else than a format has. `read` reads the value once more.
+    /// Rejects a type that expects something other than its format has. `read` reads the value once more.
     pub(crate) fn check(&self, read: impl Fn() -> Result<(), Mismatch>) -> Result<(), Mismatch> {
         let buffered = self.buffered.take();
         if buffered.is_empty() {

@@ -10,7 +10,7 @@ use serde::Serialize;
 use serde::de::DeserializeOwned;
 use serde_json::Value;
 
-/// Whether arrays and objects nest more than so many levels deep.
+/// Whether arrays and objects nest more than `levels` deep.
 fn nests(value: &Value, levels: u32) -> bool {
     match value {
         Value::Array(values) => levels == 0 || values.iter().any(|value| nests(value, levels - 1)),

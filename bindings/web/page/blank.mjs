@@ -1,6 +1,6 @@
 // A value of a format to begin with: zeros, empty texts and lists, the first variant of each enum.
 
-/** The JSON of a blank value. Where a container stands within itself, `null` stands, which may be no value. */
+/** The JSON of a blank value. It has `null` for a container inside itself, which may not be a value. */
 export function blankOf(containers, format) {
   return new Blank(containers).value(format);
 }

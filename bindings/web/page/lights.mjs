@@ -1,8 +1,8 @@
 // Which pieces are lit: pointing at digits lights their row, and pointing at a row lights its digits.
 
 /**
- * A view is told by `light([from, own, to], owner)`: the pieces up to `own` are those of the row itself, and up to `to` those
- * of its parts. `owner` is the view that was pointed at. Where nothing is lit, the numbers are -1.
+ * Each view gets a call `light([from, own, to], owner)`: the pieces up to `own` are those of the row itself, and up to `to` those
+ * of its parts. `owner` is the view that was pointed at. If nothing is lit, the numbers are -1.
  */
 export class Lights {
   #views = [];

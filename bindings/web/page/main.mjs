@@ -468,7 +468,7 @@ function tellVerdict(state, strong, text, ...between) {
   verdict.replaceChildren(told, ...between.filter(Boolean), text);
 }
 
-/** From where to where the JSON goes that is refused, if that is told. */
+/** Where the refused JSON begins and ends, if the refusal says so. */
 function rangeOf(text, { reason, at, detail }) {
   const told = /^line (\d+), column (\d+): /.exec(reason === 'NotJson' ? detail : '');
   if (told) return rangeOfLine(text, Number(told[1]), Number(told[2]));

@@ -1,4 +1,4 @@
-// Names and texts of others, made fit to be looked at: what can't be seen, or turns the line around, stands as an escape.
+// Makes names and texts from strangers safe to show: invisible characters, and those that reverse a line, become escapes.
 const UNSEEN = /[\p{Cc}\p{Cf}\p{Zl}\p{Zp}\p{Cs}\p{Co}\p{Cn}]/gu;
 
 export function shownName(name, most = 120) {

@@ -1,6 +1,6 @@
-// Where JSON stands in a text.
+// Where JSON is in a text.
 
-/** From where to where the JSON goes to which a JSON Pointer leads; `undefined` where there is none. */
+/** Where the JSON that a JSON Pointer leads to begins and ends; `undefined` if it leads nowhere. */
 export function rangeAt(text, pointer) {
   let from = behindBlanks(text, 0);
   for (const step of pointer.split('/').slice(1)) {

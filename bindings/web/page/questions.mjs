@@ -9,7 +9,7 @@ export class Questions {
   #running;
   #number = 0;
 
-  /** `whenBroken` is told why there will be no answers. */
+  /** `whenBroken` is called with the reason if there will be no answers. */
   constructor(source, module, whenBroken) {
     this.#source = scriptAddress(URL.createObjectURL(new Blob([source], { type: 'text/javascript' })));
     this.#module = module;

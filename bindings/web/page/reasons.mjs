@@ -49,7 +49,7 @@ const REASONS = {
   },
 };
 
-/** A sentence on a refusal, or an empty text where there is none. */
+/** A sentence on a refusal, or an empty text if there is no sentence for it. */
 export function sentenceOn(kind, reason) {
   return REASONS[kind]?.[reason] ?? '';
 }

@@ -1,4 +1,4 @@
-// The outline of a value: a row for each value in it, set in by how deep it stands.
+// The outline of a value: a row for each value in it, indented by its depth.
 import { bringIntoSight } from './lights.mjs';
 import { shownName } from './names.mjs';
 

@@ -10,9 +10,9 @@ import { laidOut } from './layout.mjs';
 import { outlineOf } from './outline.mjs';
 import { rootOf } from './roots.mjs';
 
-// A few bytes can announce two billion nodes without any: the page takes on no more than a large text has.
+// A few bytes can announce two billion nodes without bytes: the page accepts as many as a large text has.
 const MOST_NODES = 4_000_000;
-// Of longer bytes only the pieces of a front are told.
+// For longer bytes, only the pieces of a prefix are shown.
 const MOST_EXPLAINED = 128 << 10;
 const FRONT_EXPLAINED = 32 << 10;
 const MOST_PIECES = 1000;
@@ -98,7 +98,7 @@ function valueOfBytes(registry, format, digits, { coding, inside }) {
   }
 }
 
-/** The other side is handed to the page in full where it can be shown in full, and else a front of it. */
+/** The page gets the whole other side if it can show all of it, and otherwise a prefix. */
 function digitsOf(bytes, coding) {
   return { front: coded(bytes.subarray(0, MOST_LAID_OUT / 2), coding), isCut: bytes.length > MOST_LAID_OUT / 2 };
 }
@@ -108,7 +108,7 @@ function shownText(text) {
   return { front: isCut ? text.slice(0, MOST_LAID_OUT) : laidOut(text), isCut };
 }
 
-/** The pieces of the bytes with their outline. At damage the last of them are told, and else the first. */
+/** The pieces of the bytes with their outline. If the bytes are damaged, the last of them, and otherwise the first. */
 function explained(registry, format, bytes, inside) {
   const isFront = bytes.length > MOST_EXPLAINED;
   const { told, insides, trouble } = toldOf(registry, format, isFront ? bytes.subarray(0, FRONT_EXPLAINED) : bytes, inside);

@@ -41,7 +41,7 @@ final class JsonWriter {
         depth--;
     }
 
-    /** Rejects a value for which so many bytes more would be too many. */
+    /** Rejects a value if its JSON would be too long with this number of bytes more. */
     void expectRoom(long more) {
         if (more > MOST_BYTES - length) {
             throw new Mismatch("the value would be more than 1 GiB of JSON");

@@ -2,7 +2,7 @@ package bcsproved;
 
 import bcsproved.BcsException.Kind;
 
-/** Makes the exception of an answer by which C refuses something: asks where it is, and what was expected there. */
+/** Makes the exception for an answer by which C refuses something, with its place and what was expected there. */
 final class Refusals {
     private static final long ROOM = 256;
 

@@ -10,7 +10,7 @@ from .shapes import Shape
 from .tables import BEHIND_WORDS, WIDTHS, range_of
 from .trees import Candidate, Data, Tree
 
-# Makes a value that opens at most so many containers.
+# Makes a value that opens at most the given number of containers.
 Make = Callable[[Shape, int], Tree]
 
 # Their little-endian bytes have another order: 256 is 0001, and comes before 1, which is 0100.
@@ -40,7 +40,7 @@ class Maps:
         self._small, self._any, self._scalars = small, any, scalars
 
     def entries(self, shape: Shape, count: int, room: int) -> list[Tree]:
-        """At most so many entries: fewer if the key's format doesn't have as many values."""
+        """At most this number of entries: fewer if the key's format has fewer values."""
         return self._entries(shape, count, room, self._small, self._chosen_keys(shape.parts[0], count, room))
 
     def random_entries(self, shape: Shape, count: int, room: int) -> list[Tree]:

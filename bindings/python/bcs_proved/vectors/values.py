@@ -14,7 +14,7 @@ from .trees import Tree
 
 # A value with more nodes meets no more goals than the one that it is made for.
 _MOST_NODES_OF_SHORT = 24
-# Random values become small below so many containers, and once they have so many nodes.
+# Random values become small below this number of containers, and once they have this number of nodes.
 _DEPTH_OF_RANDOM, _NODES_OF_RANDOM = 12, 150
 
 
