@@ -125,6 +125,7 @@ QUICK = [
     Step("tracked files", ["tools/check_tracked.sh"]),
     Step("the gate's own tests", ["tests/gate_test.py"]),
     Step("names in documents", ["tests/document_names.py"]),
+    Step("links in documents", ["tests/document_links.py"]),
     Step("public items", ["tools/api.py", "--check"]),
 ]
 PROVED = "rt ci"
