@@ -1,9 +1,9 @@
 #!/usr/bin/env python3
 """tests/document_links.py [FOLDER]: whether the links of the documents lead somewhere.
 
-In each Markdown file that git tracks in FOLDER, by default this repository, a link to a file names a tracked file or folder
-there, and a link to a heading, here or in another page, names one that the page has, spelled like GitHub spells it.
-Links to the web aren't followed. Code is skipped."""
+In each Markdown file that git tracks in FOLDER, by default this repository, a link to a file names a tracked file or
+folder there, and a link to a heading, here or in another page, names one that the page has, spelled like GitHub spells
+it. Links to the web aren't followed. Code is skipped."""
 
 from __future__ import annotations
 
