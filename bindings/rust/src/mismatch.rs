@@ -38,12 +38,19 @@ impl Mismatch {
         Mismatch { kind: ErrorKind::Text(fault), ..Mismatch::new(fault.meaning()) }
     }
 
+    /// The value has more nodes than the limits allow.
+    pub(crate) fn too_many_nodes() -> Mismatch {
+        let fault = TextFault::TooManyNodes;
+        Mismatch { kind: ErrorKind::Text(fault), ..Mismatch::new(fault.meaning()) }
+    }
+
     /// The thread has too little stack for a value that nests so deep.
     pub(crate) fn out_of_stack() -> Mismatch {
         Mismatch { kind: ErrorKind::Stack, ..Mismatch::new("") }
     }
 
-    /// The same of a member or an element. The library reports `TooNested` for the whole value, so this does, too.
+    /// The same of a member or an element. The library reports `TooNested` and `TooManyNodes` for the whole value, so
+    /// this does, too.
     pub(crate) fn under(mut self, step: impl fmt::Display) -> Mismatch {
         if self.kind == ErrorKind::Value {
             let step = step.to_string().replace('~', "~0").replace('/', "~1");

@@ -254,6 +254,9 @@ impl<'w> Serializer for Writer<'w> {
         if !fits(self.at.shape, Kind::Bytes) {
             return self.put(Kind::Bytes, "bytes", "");
         }
+        if self.at.shape.is_octets() {
+            self.at.walk.count(bytes.len())?;
+        }
         self.out.push('"');
         hex::push_digits(self.out, bytes);
         self.out.push('"');

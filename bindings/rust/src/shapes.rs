@@ -4,6 +4,7 @@ use crate::json::push_string;
 use crate::mismatch::Mismatch;
 use crate::probe::Probe;
 use serde_json::Value;
+use std::cell::Cell;
 use std::collections::HashMap;
 
 /// A format, or what a container or a variant holds. A newtype is its content: it has no bytes of its own.
@@ -229,6 +230,23 @@ pub(crate) struct Walk<'w> {
     /// Whether the thread has stack left for a call of the library, which is more than some levels need.
     pub(crate) has_stack: &'w dyn Fn() -> bool,
     pub(crate) probe: Probe,
+    /// How many more nodes the value may have.
+    nodes: Cell<u64>,
+}
+
+impl<'w> Walk<'w> {
+    pub(crate) fn new(shapes: &'w Shapes, has_stack: &'w dyn Fn() -> bool, nodes: u64) -> Walk<'w> {
+        Walk { shapes, has_stack, probe: Probe::new(), nodes: Cell::new(nodes) }
+    }
+
+    /// Counts nodes. The library counts each, but only once it has the JSON, and that of a value with shared parts may be
+    /// much larger than the value.
+    #[inline]
+    pub(crate) fn count(&self, nodes: usize) -> Result<(), Mismatch> {
+        let left = self.nodes.get().checked_sub(nodes as u64).ok_or_else(Mismatch::too_many_nodes)?;
+        self.nodes.set(left);
+        Ok(())
+    }
 }
 
 /// A format where a walk is.
@@ -254,12 +272,17 @@ impl<'w> At<'w> {
         At { shape, ..self }
     }
 
-    /// At a part. Each level calls the code of a type, so the stack is checked every few levels, except at the last one.
+    /// At a part, which is counted. Each level calls the code of a type, so the stack is checked every few levels, except at the
+    /// last one.
     #[inline]
     pub(crate) fn part(self, shape: &'w Shape) -> Result<At<'w>, Mismatch> {
         let levels = self.levels + 1;
         if levels % 8 == 0 && !matches!(shape, Shape::Integer(_) | Shape::Octet) && !(self.walk.has_stack)() {
             return Err(Mismatch::out_of_stack());
+        }
+        // A byte of BYTES is no node. Any other part is one, or has several.
+        if !matches!(shape, Shape::Octet) {
+            self.walk.count(1)?;
         }
         Ok(At { shape, levels, ..self })
     }

@@ -1,7 +1,6 @@
 //! Values as `serde_json` holds them.
 use crate::error::{Error, ErrorKind};
 use crate::format::Format;
-use crate::probe::Probe;
 use crate::registry::Registry;
 use crate::serde_in::value_of;
 use crate::serde_out::json_of;
@@ -84,7 +83,7 @@ impl Registry {
     pub fn encode<T: Serialize + ?Sized>(&self, format: impl Into<Format>, value: &T) -> Result<Vec<u8>, Error> {
         let format = format.into();
         let has_stack = || self.has_stack();
-        let walk = self.walk(&has_stack);
+        let walk = self.walk(&has_stack, self.limits().nodes_of_text().into());
         let shape = walk.shapes.format(format.as_json());
         match json_of(value, At::new(&shape, &walk, self.limits().depth)) {
             Ok(text) => self.encode_json(format, text),
@@ -115,7 +114,7 @@ impl Registry {
         let format = format.into();
         let text = self.decode_json(&format, bytes)?;
         let has_stack = || self.has_stack();
-        let walk = self.walk(&has_stack);
+        let walk = self.walk(&has_stack, u64::MAX);
         let shape = walk.shapes.format(format.as_json());
         let at = At::new(&shape, &walk, self.limits().depth);
         let read = || value_of::<T>(&text, at);
@@ -141,9 +140,8 @@ impl Registry {
         Ok((limited.decode(&format, &bytes[..length])?, length))
     }
 
-    fn walk<'w>(&'w self, has_stack: &'w dyn Fn() -> bool) -> Walk<'w> {
-        let shapes = self.shapes.get_or_init(|| Shapes::read(self.text()));
-        Walk { shapes, has_stack, probe: Probe::new() }
+    fn walk<'w>(&'w self, has_stack: &'w dyn Fn() -> bool, nodes: u64) -> Walk<'w> {
+        Walk::new(self.shapes.get_or_init(|| Shapes::read(self.text())), has_stack, nodes)
     }
 
     /// Whether the thread has stack left. Rust doesn't know, and the library does: no call succeeds without some of it.
