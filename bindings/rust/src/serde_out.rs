@@ -18,6 +18,9 @@ pub(crate) fn json_of<T: Serialize + ?Sized>(value: &T, at: At) -> Result<String
 /// How deep arrays and objects may nest, which the library checks, too. Here it keeps a value from exhausting the stack.
 const NESTING: u32 = 100;
 
+/// The JSON of a value with shared parts may be huge, so it ends here.
+const MOST_JSON: usize = if cfg!(test) { 1 << 20 } else { 1 << 30 };
+
 /// What the library rejects wherever it is: it replaces a value that is rejected in any case.
 const NO_VALUE: &str = "0.5";
 
@@ -86,6 +89,14 @@ impl<'w> Writer<'w> {
         }
     }
 
+    /// At a part of the value.
+    fn part<'a>(&'a mut self, shape: &'a Shape, is_octet: bool) -> Result<Writer<'a>, Mismatch> {
+        if self.out.len() > MOST_JSON {
+            return Err(Mismatch::new("the value would be more than 1 GiB of JSON"));
+        }
+        Ok(Writer { at: self.at.part(shape)?, nested: self.nested, is_octet, out: &mut *self.out })
+    }
+
     /// Opens an array or an object.
     fn open(&mut self, sign: char) -> Result<(), Mismatch> {
         if self.nested == NESTING {
@@ -100,8 +111,7 @@ impl<'w> Writer<'w> {
     fn put_some<T: Serialize + ?Sized>(mut self, content: &'w Shape, value: &T) -> Result<(), Mismatch> {
         self.open('{')?;
         self.out.push_str("\"some\":");
-        let part = Writer { at: self.at.part(content)?, nested: self.nested, is_octet: false, out: &mut *self.out };
-        value.serialize(part).map_err(|error| error.under("some"))?;
+        self.part(content, false).and_then(|part| value.serialize(part)).map_err(|error| error.under("some"))?;
         self.out.push('}');
         Ok(())
     }
@@ -384,12 +394,13 @@ impl Items<'_> {
             Parts::Octets(shape) => (shape, true),
             Parts::Void => return Ok(()),
         };
-        let Writer { at, nested, out, .. } = &mut self.writer;
         if self.count > 0 && !is_octet {
-            out.push(',');
+            self.writer.out.push(',');
         }
-        let part = Writer { at: at.part(shape)?, nested: *nested, is_octet, out };
-        value.serialize(part).map_err(|error| in_variant(self.variant, error.under(self.count)))?;
+        self.writer
+            .part(shape, is_octet)
+            .and_then(|part| value.serialize(part))
+            .map_err(|error| in_variant(self.variant, error.under(self.count)))?;
         self.count += 1;
         Ok(())
     }
@@ -447,14 +458,15 @@ impl Fields<'_> {
         };
         let field = fields.find(name, self.count);
         self.known += usize::from(field.is_some());
-        let Writer { at, nested, out, .. } = &mut self.writer;
         if self.count > 0 {
-            out.push(',');
+            self.writer.out.push(',');
         }
-        push_head(out, name, field);
+        push_head(self.writer.out, name, field);
         let shape = field.map_or(&VOID, |field| &field.shape);
-        let part = Writer { at: at.part(shape)?, nested: *nested, is_octet: false, out };
-        value.serialize(part).map_err(|error| in_variant(self.variant, error.under(name)))?;
+        self.writer
+            .part(shape, false)
+            .and_then(|part| value.serialize(part))
+            .map_err(|error| in_variant(self.variant, error.under(name)))?;
         self.count += 1;
         Ok(())
     }
@@ -519,9 +531,10 @@ fn put_half<T: Serialize + ?Sized>(
     let Shape::Entry(halves) = entry else {
         return Err(Mismatch::unfit(entry, "a map"));
     };
-    let at = writer.at.part(&halves[half])?;
-    let part = Writer { at, nested: writer.nested, is_octet: false, out: &mut *writer.out };
-    value.serialize(part).map_err(|error| error.under(half).under(count))
+    writer
+        .part(&halves[half], false)
+        .and_then(|part| value.serialize(part))
+        .map_err(|error| error.under(half).under(count))
 }
 
 impl ser::SerializeMap for Entries<'_> {
@@ -581,5 +594,20 @@ impl ser::SerializeMap for Entries<'_> {
             }
             Entries::Fields { fields, .. } => fields.finish(),
         }
+    }
+}
+
+#[cfg(test)]
+mod tests {
+    use crate::{ErrorKind, Registry};
+
+    #[test]
+    fn shared_text_ends_at_the_greatest_size() {
+        let registry = Registry::read("{}").unwrap();
+        let text = "a".repeat(1 << 14);
+        assert!(registry.encode(r#"{"SEQ":"STR"}"#, &vec![text.as_str(); 63]).is_ok());
+        let error = registry.encode(r#"{"SEQ":"STR"}"#, &vec![text.as_str(); 1 << 20]).unwrap_err();
+        assert_eq!((error.kind(), error.at()), (ErrorKind::Value, Some("/64")));
+        assert_eq!(error.message(), "the value would be more than 1 GiB of JSON");
     }
 }
