@@ -3,8 +3,8 @@ use Rattle.bcs_tool.proofs.Prelude.{◌≡◌, ◌<◌, arith, inl, inr, ℕ, Bo
 use Rattle.bcs_tool.specs.Delivering.{Delivers, FailsToStore, Finishes, failed, held_in_part, refused, stored, to_file, to_output, unopened, unstored, without_output}
 use Rattle.bcs_tool.specs.HeldOutput.{held_bytes, ran_out}
 use Rattle.bcs_tool.specs.OutputFile.{Stage}
-use Rattle.bcs_tool.specs.declared.held_output.HeldOutput.{HeldOutput}
-use Rattle.bcs_tool.specs.declared.output_file.OpenFailed.TheVariants.{Refused, OutOfMemory}
+use Rattle.bcs_tool.specs.declared.files.held_output.HeldOutput.{HeldOutput}
+use Rattle.bcs_tool.specs.declared.files.output_file.OpenFailed.TheVariants.{Refused, OutOfMemory}
 use Rattle.bcs_tool.proofs.EndingLemmas.{report_status}
 
 module _ {F S O T E : Type 0} (remaining : F → Option (List ℕ)) (content : S → Option (List ℕ)) (has_stopped : S → Bool) (allowance : S → ℕ)
