@@ -9,10 +9,12 @@ ghost use Rattle.bcs_tool.specs.Endings.{ReportsFault};
 ghost use Rattle.bcs_tool.specs.Visible.{breaks_lines};
 
 use crate::console::command_line::line;
-use crate::console::reporting::report_fault_of_words;
-use crate::files::delivering::finish;
+use crate::console::reporting::{print_report, report_fault_of_words};
+use crate::files::delivering::{Ended, deliver_to_file};
+use crate::files::held_output::HeldOutput;
 use crate::files::input_files::InputFiles;
 use crate::files::output_file::OutputFile;
+use crate::jobs::opening::open_and_run;
 use bcs_io::{ByteSink, ByteSource};
 use bcs_tool_command_line::{Job, LineFault};
 
@@ -41,8 +43,18 @@ pub fn respond<R: InputFiles + AllocGlobal, S: ByteSource, O: ByteSink, T: Outpu
         × Finishes R.File.remaining S.content S.is_failed S.allowance O.taken O.is_failed T.stage T.received E.taken E.is_failed
         job input.old input.new out.old out.new file.old file.new errors.old errors.new result) }
 {
-    match line(rt.alloc(), words) {
-        Ok(job) => finish(rt, job, input, out, file, errors),
-        Err(fault) => report_fault_of_words(words, &fault, out, errors),
+    let mut job = match line(rt.alloc(), words) {
+        Ok(job) => job,
+        Err(fault) => return report_fault_of_words(words, &fault, out, errors),
+    };
+    let quiet = job.options.quiet;
+    match job.options.output.take() {
+        None => print_report(open_and_run(rt, job, input, out), errors),
+        Some(name) => {
+            let mut held = HeldOutput::new(rt.alloc());
+            let run = open_and_run(rt, job, input, &mut held);
+            let ended = Ended { held, run, quiet };
+            deliver_to_file(rt.alloc(), name.as_str(), ended, file, errors)
+        }
     }
 }

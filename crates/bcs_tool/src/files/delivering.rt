@@ -1,53 +1,28 @@
-//! Where the answer of a job goes: to standard output, or with `--output` to a file.
+//! With `--output`, the answer of a job goes to a file.
 ghost use Rattle.std.specs.Prelude.{IfErr, IfOk};
-ghost use Rattle.bcs_tool.specs.Delivering.{Delivers, FailsToStore, Finishes, IsUnopenedFile, IsUnwritten, PrintsAnswer, RanOut};
+ghost use Rattle.bcs_tool.specs.Delivering.{Delivers, FailsToStore, IsUnopenedFile, IsUnwritten, PrintsAnswer, RanOut};
 ghost use Rattle.bcs_tool.specs.OutputFile.{IsStored};
 ghost use Rattle.bcs_tool_command_line.specs.FaultPlaces.{cause_text};
 
 use crate::console::reporting::print_report;
 use crate::files::held_output::HeldOutput;
-use crate::files::input_files::InputFiles;
 use crate::files::output_file::{OpenFailed, OutputFile};
-use crate::files::storing::put_in_place;
-use crate::jobs::opening::perform;
+use crate::files::storing::write_and_commit;
 use crate::jobs::running::failed;
-use bcs_io::{ByteSink, ByteSource, SinkFailed, put_all};
-use bcs_tool_command_line::{Job, OpenCause, Outcome, place_of_output};
+use bcs_io::{ByteSink, SinkFailed, put_all};
+use bcs_tool_command_line::{OpenCause, Outcome, place_of_output};
 use std::alloc::Global;
 
-/// Does a job, writes its answer to standard output, or to the file of `--output`, and returns the status.
-pub(crate) fn finish<
-    R: InputFiles + AllocGlobal,
-    S: ByteSource,
-    O: ByteSink,
-    T: OutputFile,
-    E: ByteSink,
->(rt: &R, mut job: Job, input: &mut S, out: &mut O, file: &mut T, errors: &mut E) -> u8
-    ensures { Finishes R.File.remaining S.content S.is_failed S.allowance O.taken O.is_failed T.stage T.received E.taken E.is_failed
-        job input.old input.new out.old out.new file.old file.new errors.old errors.new result }
-{
-    let quiet = job.options.quiet;
-    match job.options.output.take() {
-        None => print_report(perform(rt, job, input, out), errors),
-        Some(name) => {
-            let mut held = HeldOutput::new(rt.alloc());
-            let run = perform(rt, job, input, &mut held);
-            let ends = Ended { held, run, quiet };
-            deliver(rt.alloc(), name.as_str(), ends, file, errors)
-        }
-    }
-}
-
-// A run whose answer is held.
+/// A run whose answer is held.
 #[derive(Drop)]
-struct Ended {
-    held: HeldOutput,
-    run: Outcome,
-    quiet: bool,
+pub struct Ended {
+    pub held: HeldOutput,
+    pub run: Outcome,
+    pub quiet: bool,
 }
 
-// Writes the answer to a file if the run's status is 0. Otherwise it writes the answer to standard error and opens no file.
-fn deliver<T: OutputFile, E: ByteSink>(
+/// Writes the answer to a file if the run's status is 0. Otherwise it writes the answer to standard error and opens no file.
+pub(crate) fn deliver_to_file<T: OutputFile, E: ByteSink>(
     alloc: Global,
     name: &str,
     ended: Ended,
@@ -64,7 +39,7 @@ fn deliver<T: OutputFile, E: ByteSink>(
     if run.status != 0 {
         return print_answer(held.bytes(), run, errors);
     }
-    match store(alloc, quiet, name, held.bytes(), file) {
+    match write_file(alloc, quiet, name, held.bytes(), file) {
         Ok(()) => print_report(run, errors),
         Err(outcome) => print_report(outcome, errors),
     }
@@ -81,7 +56,7 @@ fn print_answer<E: ByteSink>(answer: &[u8], run: Outcome, errors: &mut E) -> u8
 }
 
 // Gives the file of this name these bytes.
-fn store<T: OutputFile>(
+fn write_file<T: OutputFile>(
     alloc: Global,
     quiet: bool,
     name: &str,
@@ -94,7 +69,7 @@ fn store<T: OutputFile>(
     if let Err(why) = file.open(name) {
         return Err(unopened(alloc, quiet, name, why));
     }
-    match put_in_place(bytes, file) {
+    match write_and_commit(bytes, file) {
         Ok(()) => Ok(()),
         Err(SinkFailed) => Err(unwritten(alloc, quiet, name, OpenCause::Other)),
     }

@@ -1,17 +1,16 @@
 //! A job, its input and its output.
-ghost use Rattle.std.specs.Prelude.{◌≡◌, false};
+ghost use Rattle.std.specs.Prelude.{◌≡◌};
 ghost use Rattle.bcs_tool.specs.Running.{Ends, IsOutcomeOf, Runs};
 ghost use Rattle.bcs_tool_answers.specs.Validating.{ReadsInput};
-ghost use Rattle.bcs_tool_answers.specs.Preparing.{IsAskedBy};
 ghost use Rattle.bcs_tool_command_line.specs.FaultPlaces.{origin_text};
 
 use crate::jobs::interruption::Interruption;
 use crate::jobs::places::place_of_interruption;
 use crate::jobs::put_answer::put_answer;
-use crate::jobs::scanning::run_scan;
-use crate::lines::running::run_lines;
+use crate::jobs::scanning::answer_scan;
+use crate::lines::running::answer_lines;
 use bcs_io::{ByteSink, ByteSource, take_all};
-use bcs_tool_answers::{Asked, answer_values, is_unlimited, prepare};
+use bcs_tool_answers::{answer_values, is_unlimited, prepare};
 use bcs_tool_command_line::limits::SIZE_LIMIT;
 use bcs_tool_command_line::{Origin, Outcome, Work};
 use std::alloc::Global;
@@ -43,7 +42,7 @@ pub fn run_from<S: ByteSource, K: ByteSink>(
     ensures { Runs S.content S.is_failed S.allowance K.taken K.is_failed work.now (origin_text origin.entry)
         input.old input.new out.old out.new result }
 {
-    let ended = put_answers(alloc, work, input, out);
+    let ended = validate_and_answer(alloc, work, input, out);
     outcome_of(alloc, work, ended, origin)
 }
 
@@ -79,7 +78,7 @@ pub fn failed(note: &'static str, place: Vec<u8>) -> Outcome
 }
 
 // Validates the arguments of the job, and then answers its input, or each line of it.
-fn put_answers<S: ByteSource, K: ByteSink>(
+fn validate_and_answer<S: ByteSource, K: ByteSink>(
     alloc: Global,
     work: &Work,
     input: &mut S,
@@ -93,30 +92,14 @@ fn put_answers<S: ByteSource, K: ByteSink>(
         Err(answer) => put_answer(answer, out),
         Ok(asked) => {
             if work.options.lines {
-                run_lines(alloc, work, &asked, input, out)
+                answer_lines(alloc, work, &asked, input, out)
             } else if is_unlimited(work) {
-                run_scan(alloc, work, &asked, input, out)
+                answer_scan(alloc, work, &asked, input, out)
             } else {
-                run_whole(alloc, work, &asked, input, out)
+                let bytes = take_all(alloc, input, SIZE_LIMIT)?;
+                let whole = answer_values(alloc, work, &asked, bytes.as_slice())?;
+                put_answer(whole, out)
             }
         }
     }
-}
-
-// Writes the answer to the whole input.
-fn run_whole<S: ByteSource, K: ByteSink>(
-    alloc: Global,
-    work: &Work,
-    asked: &Asked,
-    input: &mut S,
-    out: &mut K,
-) -> Result<Outcome, Interruption>
-    requires asked { IsAskedBy work.now asked.now }
-    requires whole { work.now.options.lines ≡ false }
-    ensures { Ends S.content S.is_failed S.allowance K.taken K.is_failed work.now
-        input.old input.new out.old out.new result }
-{
-    let bytes = take_all(alloc, input, SIZE_LIMIT)?;
-    let answer = answer_values(alloc, work, asked, bytes.as_slice())?;
-    put_answer(answer, out)
 }

@@ -16,7 +16,7 @@ use std::alloc::Global;
 
 /// Writes the number of bytes of the value in the input, or where the bytes stop being one. It doesn't report which part of
 /// the value that is.
-pub fn run_scan<S: ByteSource, K: ByteSink>(
+pub fn answer_scan<S: ByteSource, K: ByteSink>(
     alloc: Global,
     work: &Work,
     asked: &Asked,
@@ -28,11 +28,11 @@ pub fn run_scan<S: ByteSource, K: ByteSink>(
     ensures { Ends S.content S.is_failed S.allowance K.taken K.is_failed work.now
         input.old input.new out.old out.new result }
 {
-    let answer = scan_answer(alloc, work, asked, input)?;
+    let answer = scan_input(alloc, work, asked, input)?;
     put_answer(answer, out)
 }
 
-fn scan_answer<S: ByteSource>(
+fn scan_input<S: ByteSource>(
     alloc: Global,
     work: &Work,
     asked: &Asked,

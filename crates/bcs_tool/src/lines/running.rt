@@ -16,7 +16,7 @@ use bcs_tool_command_line::{Outcome, Work};
 use std::alloc::Global;
 
 /// Writes the answer to each line of the input, and counts the answers by status.
-pub fn run_lines<S: ByteSource, K: ByteSink>(
+pub fn answer_lines<S: ByteSource, K: ByteSink>(
     alloc: Global,
     work: &Work,
     asked: &Asked,
@@ -28,7 +28,7 @@ pub fn run_lines<S: ByteSource, K: ByteSink>(
     ensures { Ends S.content S.is_failed S.allowance K.taken K.is_failed work.now
         input.old input.new out.old out.new result }
 {
-    let tally = put_lines(alloc, work, asked, input, out)?;
+    let tally = answer_each_line(alloc, work, asked, input, out)?;
     Ok(Outcome {
         status: tally.run_status(work.options.json_refusals),
         note: "",
@@ -37,7 +37,7 @@ pub fn run_lines<S: ByteSource, K: ByteSink>(
 }
 
 // Reads line after line, and writes the answer to each before it reads the next one.
-fn put_lines<S: ByteSource, K: ByteSink>(
+fn answer_each_line<S: ByteSource, K: ByteSink>(
     alloc: Global,
     work: &Work,
     asked: &Asked,
@@ -55,7 +55,7 @@ fn put_lines<S: ByteSource, K: ByteSink>(
         if !read_line(&mut buffer, input, tally.answered)? {
             return Ok(tally);
         }
-        match put_line(alloc, work, asked, buffer.line(), out) {
+        match put_answer_of_line(alloc, work, asked, buffer.line(), out) {
             Ok(status) => tally = tally.with(status),
             Err(fault) => {
                 return Err(Interruption {
@@ -68,7 +68,7 @@ fn put_lines<S: ByteSource, K: ByteSink>(
 }
 
 // Writes the answer to one line, and returns its status. Its place isn't reported.
-fn put_line<K: ByteSink>(
+fn put_answer_of_line<K: ByteSink>(
     alloc: Global,
     work: &Work,
     asked: &Asked,

@@ -1,6 +1,6 @@
 use Rattle.bcs_tool.specs.Delivering.{unopened, unstored}
 use Rattle.bcs_tool.proofs.StoringLemmas.{stored_stage, unstored_stage}
-use Rattle.bcs_tool.proofs.files.delivering.store.Goals as goal
+use Rattle.bcs_tool.proofs.files.delivering.write_file.Goals as goal
 
 -- FILE couldn't be opened
 pub returns-in-Err-clause-fault : goal.returns-in-Err-clause-fault
@@ -17,9 +17,9 @@ returns-in-Ok-clause-whole g c =
     }
 
 -- it couldn't be written or replaced
-pub returns-in-Err-put_in_place-clause-fault : goal.returns-in-Err-put_in_place-clause-fault
-returns-in-Err-put_in_place-clause-fault g c =
-    let part = c.in-Err-put_in_place.ensures.part in
+pub returns-in-Err-write_and_commit-clause-fault : goal.returns-in-Err-write_and_commit-clause-fault
+returns-in-Err-write_and_commit-clause-fault g c =
+    let part = c.in-Err-write_and_commit.ensures.part in
     unstored (record {
       empty = c.open.new.self;
       opened = c.in_default.ensures;

@@ -1,5 +1,5 @@
 use Rattle.bcs_tool.proofs.Prelude.{◌+◌, length, IsSoFar}
-use Rattle.bcs_tool.proofs.lines.running.put_lines.Given as goal
+use Rattle.bcs_tool.proofs.lines.running.answer_each_line.Given as goal
 
 abbrev pub invariant-loop-buffer : goal.invariant-loop-buffer
 invariant-loop-buffer g l = record {

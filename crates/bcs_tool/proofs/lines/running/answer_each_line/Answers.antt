@@ -2,7 +2,7 @@ use Rattle.bcs_tool.proofs.Prelude.{Bool, Err, List, Result, ap, arith, subst, s
 use Rattle.bcs_tool.proofs.ReadLemmas.{line_room}
 use Rattle.bcs_tool.proofs.RunLemmas.{handed_on, reads_input}
 use Rattle.bcs_tool.proofs.SoFarLemmas.{all_answered, can_count, fails_next, fails_put, so_far_line, so_far_nothing}
-use Rattle.bcs_tool.proofs.lines.running.put_lines.Goals as goal
+use Rattle.bcs_tool.proofs.lines.running.answer_each_line.Goals as goal
 
 pub loop-buffer-init : goal.loop-buffer-init
 loop-buffer-init g c =
@@ -62,7 +62,7 @@ loop-buffer-preserved g c =
     record {
       far = so_far_line g.S.ByteSource.content g.S.ByteSource.is_failed g.S.ByteSource.allowance g.K.ByteSink.taken g.K.ByteSink.is_failed work
           c.args.input.now l.input c.read_line.new.source c.args.out.now l.out l.buffer c.read_line.new.buffer l.tally l.invariant.far
-          c.put_line.new.out c.in-Ok.status put.0 c.with-tally.result takes
+          c.put_answer_of_line.new.out c.in-Ok.status put.0 c.with-tally.result takes
           (subst (λ (line : List ℕ). AnswersLine work line c.in-Ok.status put.0) c.line.ensures put.1) put.2 c.with-tally.ensures;
     }
 
@@ -74,5 +74,5 @@ returns-in-Err g c =
     let fault = c.in-Err.fault in
     fails_put g.S.ByteSource.content g.S.ByteSource.is_failed g.S.ByteSource.allowance g.K.ByteSink.taken g.K.ByteSink.is_failed work
     c.args.input.now l.input c.read_line.new.source c.args.out.now l.out l.buffer c.read_line.new.buffer l.tally l.invariant.far
-    c.put_line.new.out fault (c.requires.by_line, reads_input work c.args.asked.now c.requires.asked) takes
-    (subst (λ (line : List ℕ). PutsLine g.K.ByteSink.taken g.K.ByteSink.is_failed work line l.out c.put_line.new.out (Err fault)) c.line.ensures c.in-Err.ensures)
+    c.put_answer_of_line.new.out fault (c.requires.by_line, reads_input work c.args.asked.now c.requires.asked) takes
+    (subst (λ (line : List ℕ). PutsLine g.K.ByteSink.taken g.K.ByteSink.is_failed work line l.out c.put_answer_of_line.new.out (Err fault)) c.line.ensures c.in-Err.ensures)

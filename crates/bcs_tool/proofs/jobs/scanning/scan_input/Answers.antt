@@ -1,6 +1,6 @@
 use Rattle.bcs_tool.proofs.Prelude.{Err, ap}
 use Rattle.bcs_tool.proofs.ScanLemmas.{scanned_count, scanned_refusal}
-use Rattle.bcs_tool.proofs.jobs.scanning.scan_answer.Goals as goal
+use Rattle.bcs_tool.proofs.jobs.scanning.scan_input.Goals as goal
 
 pub returns-in_ok-counted-in-Ok : goal.returns-in_ok-counted-in-Ok
 returns-in_ok-counted-in-Ok g c =

@@ -1,6 +1,6 @@
 use Rattle.bcs_tool.proofs.Prelude.{List, ℕ, subst}
 use Rattle.bcs_io.specs.Taking.{Took}
-use Rattle.bcs_tool.proofs.lines.running.put_line.Goals as goal
+use Rattle.bcs_tool.proofs.lines.running.put_answer_of_line.Goals as goal
 
 pub returns-in-Ok-put_all : goal.returns-in-Ok-put_all
 returns-in-Ok-put_all g c = (
