@@ -22,15 +22,15 @@ returns-in-Err g c =
     }) refl refl
 
 -- standard input
-pub returns-in-None : goal.returns-in-None
-returns-in-None g c =
-    has_files c.in-Ok.read.0 c.in-Ok.ensures.work (over_input (sym c.in-Ok.ensures.file ∙ c.in-None.is) c.run_from.ensures)
+pub returns-in_default : goal.returns-in_default
+returns-in_default g c =
+    has_files c.in-Ok.read.0 c.in-Ok.ensures.work (over_input (sym c.in-Ok.ensures.file ∙ c.in_default.is) c.run_from.ensures)
 
 -- a file
-pub returns-in-Ok : goal.returns-in-Ok
-returns-in-Ok g c =
+pub returns-in-Ok-open_input : goal.returns-in-Ok-open_input
+returns-in-Ok-open_input g c =
     let work = c.in-Ok.read.0 in
-    let run = c.run_from-in-Ok in
+    let run = c.run_from-in-Ok-open_input in
     let P : List ℕ → Type 0 = λ text. Runs (λ s. reader_remaining g.R.File.Read.remaining (reader_of s)) failed allowance_of g.O.ByteSink.taken g.O.ByteSink.is_failed
     work (file_text text) c.new.result run.new.input c.args.out.now run.new.out run.result in
     has_files work c.in-Ok.ensures.work
