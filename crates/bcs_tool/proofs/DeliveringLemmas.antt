@@ -1,10 +1,10 @@
--- The status of a job, whether its answer goes to standard output or to a file.
+-- The status of a job whose answer goes to a file.
 use Rattle.bcs_tool.proofs.Prelude.{◌≡◌, ◌<◌, arith, inl, inr, ℕ, Bool, List, Option, Some, Job, Outcome, Performs}
-use Rattle.bcs_tool.specs.Delivering.{Delivers, FailsToStore, Finishes, failed, held_in_part, refused, stored, to_file, to_output, unopened, unstored, without_output}
+use Rattle.bcs_tool.specs.Delivering.{Delivers, FailsToStore, failed, held_in_part, refused, stored, unopened, unstored}
 use Rattle.bcs_tool.specs.HeldOutput.{held_bytes, ran_out}
 use Rattle.bcs_tool.specs.OutputFile.{Stage}
-use Rattle.bcs_tool.specs.declared.held_output.HeldOutput.{HeldOutput}
-use Rattle.bcs_tool.specs.declared.output_file.OpenFailed.TheVariants.{Refused, OutOfMemory}
+use Rattle.bcs_tool.specs.declared.files.held_output.HeldOutput.{HeldOutput}
+use Rattle.bcs_tool.specs.declared.files.output_file.OpenFailed.TheVariants.{Refused, OutOfMemory}
 use Rattle.bcs_tool.proofs.EndingLemmas.{report_status}
 
 module _ {F S O T E : Type 0} (remaining : F → Option (List ℕ)) (content : S → Option (List ℕ)) (has_stopped : S → Bool) (allowance : S → ℕ)
@@ -14,7 +14,7 @@ module _ {F S O T E : Type 0} (remaining : F → Option (List ℕ)) (content : S
   fails_status quiet name bytes file file' outcome (unopened keeps OutOfMemory is) = is.fault.status
   fails_status quiet name bytes file file' outcome (unstored part is) = is.fault.status
 
-  delivered_status : (job : Job) (quiet : Bool) (name : List ℕ) (input input' : S) (empty held : HeldOutput) (run : Outcome) (file file' : T) (errors errors' : E) (status : ℕ)
+  pub delivered_status : (job : Job) (quiet : Bool) (name : List ℕ) (input input' : S) (empty held : HeldOutput) (run : Outcome) (file file' : T) (errors errors' : E) (status : ℕ)
       → Performs content has_stopped allowance (λ sink. Some (held_bytes sink)) ran_out remaining job input input' empty held run
       → Delivers stage received told has_failed quiet name held run file file' errors errors' status → status < 5
   delivered_status job quiet name input input' empty held run file file' errors errors' status performs (held_in_part lost stays outcome is prints) = omega (arith, prints.0, is.fault.status)
@@ -26,10 +26,3 @@ module _ {F S O T E : Type 0} (remaining : F → Option (List ℕ)) (content : S
       report_status content has_stopped allowance (λ sink. Some (held_bytes sink)) ran_out remaining job input input' empty held run status performs prints.0
   delivered_status job quiet name input input' empty held run file file' errors errors' status performs (failed whole done outcome fails prints) =
       omega (arith, prints.0, fails_status quiet name (held_bytes held) file file' outcome fails)
-
-  pub finish_status : (job : Job) (input input' : S) (out out' : O) (file file' : T) (errors errors' : E) (status : ℕ)
-      → Finishes remaining content has_stopped allowance taken is_failed stage received told has_failed job input input' out out' file file' errors errors' status → status < 5
-  finish_status job input input' out out' file file' errors errors' status (to_output none stays outcome performs prints) =
-      report_status content has_stopped allowance taken is_failed remaining job input input' out out' outcome status performs prints.0
-  finish_status job input input' out out' file file' errors errors' status (to_file name some empty held run a b performs stays delivers) =
-      delivered_status (without_output job) job.options.quiet _ input input' empty held run file file' errors errors' status performs delivers

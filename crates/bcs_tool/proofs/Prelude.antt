@@ -67,7 +67,7 @@ pub use Rattle.bcs_tool.specs.Running.{AreFirst, BrokeInLine, by_line, Ends, Fai
 pub use Rattle.bcs_tool.specs.Scanning.{AnswersScan, FaultOfScan, IsScanned, RefusesScan, Scans}
 pub use Rattle.bcs_tool.specs.Visible.{breaks_lines, is_hidden, usage_text}
 unfoldable pub use Rattle.bcs_tool.specs.Visible.{escape, visible, visible_char}
-pub use Rattle.bcs_tool.specs.declared.interruption.Interruption.{Interruption}
-pub use Rattle.bcs_tool.specs.declared.run_fault.RunFault.{RunFault}
-pub use Rattle.bcs_tool.specs.declared.run_fault.RunFault.TheVariants.{Take, Write}
-pub use Rattle.bcs_tool.specs.declared.tally.Tally.{Tally}
+pub use Rattle.bcs_tool.specs.declared.jobs.interruption.Interruption.{Interruption}
+pub use Rattle.bcs_tool.specs.declared.jobs.run_fault.RunFault.{RunFault}
+pub use Rattle.bcs_tool.specs.declared.jobs.run_fault.RunFault.TheVariants.{Take, Write}
+pub use Rattle.bcs_tool.specs.declared.lines.tally.Tally.{Tally}

@@ -10,9 +10,9 @@ use Rattle.bcs_tool.specs.Endings.{Performs, PrintsReport}
 use Rattle.bcs_tool.specs.HeldOutput.{held_bytes, ran_out}
 use Rattle.bcs_tool.specs.OutputFile.{IsStored, IsUnstored, Keeps, Stage}
 use Rattle.bcs_tool.specs.Running.{PutFront}
-use Rattle.bcs_tool.specs.declared.held_output.HeldOutput.{HeldOutput}
-use Rattle.bcs_tool.specs.declared.output_file.OpenFailed.{OpenFailed}
-use Rattle.bcs_tool.specs.declared.output_file.OpenFailed.TheVariants.{Refused, OutOfMemory}
+use Rattle.bcs_tool.specs.declared.files.held_output.HeldOutput.{HeldOutput}
+use Rattle.bcs_tool.specs.declared.files.output_file.OpenFailed.{OpenFailed}
+use Rattle.bcs_tool.specs.declared.files.output_file.OpenFailed.TheVariants.{Refused, OutOfMemory}
 
 -- a job that has no answer, with this note
 pub record HasFailed (text : List ℕ) (outcome : Outcome) : Type 0 where

@@ -1,6 +1,6 @@
 -- The parts of a `HeldOutput`, for contracts.
 use Rattle.std.specs.Prelude.{ℕ, Bool, List}
-use Rattle.bcs_tool.specs.declared.held_output.HeldOutput.{HeldOutput}
+use Rattle.bcs_tool.specs.declared.files.held_output.HeldOutput.{HeldOutput}
 
 -- the bytes that it holds
 abbrev pub held_bytes : HeldOutput → List ℕ

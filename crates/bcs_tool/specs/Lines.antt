@@ -11,8 +11,8 @@ use Rattle.bcs_tool_answers.specs.LineAnswers.{AnswersAll, count_of, greatest}
 use Rattle.bcs_tool_command_line.specs.Files.{IsContent, size_limit}
 use Rattle.bcs_tool_command_line.specs.declared.work.Work.{Work}
 use Rattle.bcs_tool.specs.Running.{FailsAt, of_next}
-use Rattle.bcs_tool.specs.declared.interruption.Interruption.{Interruption}
-use Rattle.bcs_tool.specs.declared.tally.Tally.{Tally}
+use Rattle.bcs_tool.specs.declared.jobs.interruption.Interruption.{Interruption}
+use Rattle.bcs_tool.specs.declared.lines.tally.Tally.{Tally}
 
 -- ---- the next line
 

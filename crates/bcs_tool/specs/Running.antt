@@ -19,9 +19,9 @@ use Rattle.bcs_tool_command_line.specs.Files.{IsContent, size_limit}
 use Rattle.bcs_io.specs.declared.taking.TakeFault.TheVariants.{Read, TooLarge, OutOfMemory}
 use Rattle.bcs_tool_command_line.specs.declared.work.Outcome.{Outcome}
 use Rattle.bcs_tool_command_line.specs.declared.work.Work.{Work}
-use Rattle.bcs_tool.specs.declared.interruption.Interruption.{Interruption}
-use Rattle.bcs_tool.specs.declared.run_fault.RunFault.{RunFault}
-use Rattle.bcs_tool.specs.declared.run_fault.RunFault.TheVariants.{Take, Write}
+use Rattle.bcs_tool.specs.declared.jobs.interruption.Interruption.{Interruption}
+use Rattle.bcs_tool.specs.declared.jobs.run_fault.RunFault.{RunFault}
+use Rattle.bcs_tool.specs.declared.jobs.run_fault.RunFault.TheVariants.{Take, Write}
 
 -- ---- the answers
 

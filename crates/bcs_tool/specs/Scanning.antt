@@ -13,9 +13,9 @@ use Rattle.bcs_tool_answers.specs.declared.answer.Answer.{Answer}
 use Rattle.bcs_io.specs.declared.taking.TakeFault.TheVariants.{OutOfMemory, Read, TooLarge}
 use Rattle.bcs_tool_command_line.specs.declared.work.Work.{Work}
 use Rattle.bcs_tool.specs.Running.{IfTold}
-use Rattle.bcs_tool.specs.declared.interruption.Interruption.{Interruption}
-use Rattle.bcs_tool.specs.declared.run_fault.RunFault.{RunFault}
-use Rattle.bcs_tool.specs.declared.run_fault.RunFault.TheVariants.{Take, Write}
+use Rattle.bcs_tool.specs.declared.jobs.interruption.Interruption.{Interruption}
+use Rattle.bcs_tool.specs.declared.jobs.run_fault.RunFault.{RunFault}
+use Rattle.bcs_tool.specs.declared.jobs.run_fault.RunFault.TheVariants.{Take, Write}
 
 -- the verdict on a content: on a prefix of it, or on all of it
 abbrev pub Scans : Bool → Entries → Bounds → Shape → Option (List ℕ) → Option (List ℕ) → Result ℕ DecodeFault → Type 0

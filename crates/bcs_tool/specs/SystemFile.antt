@@ -1,10 +1,10 @@
 -- What a `SystemFile` has done to FILE. Which bytes a real file received isn't known.
 use Rattle.std.specs.Prelude.{◌≡◌, ◌⊎◌, ℕ, List, Option, None, Some, false, string_bytes}
 use Rattle.bcs_tool.specs.OutputFile.{Stage, beside, emptied, replaced, untouched}
-use Rattle.bcs_tool.specs.declared.system_file.OpenedFile.{OpenedFile}
-use Rattle.bcs_tool.specs.declared.system_file.Progress.{Progress}
-use Rattle.bcs_tool.specs.declared.system_file.Progress.TheVariants.{Beside, Emptied, Replaced}
-use Rattle.bcs_tool.specs.declared.system_file.SystemFile.{SystemFile}
+use Rattle.bcs_tool.specs.declared.files.system_file.OpenedFile.{OpenedFile}
+use Rattle.bcs_tool.specs.declared.files.system_file.Progress.{Progress}
+use Rattle.bcs_tool.specs.declared.files.system_file.Progress.TheVariants.{Beside, Emptied, Replaced}
+use Rattle.bcs_tool.specs.declared.files.system_file.SystemFile.{SystemFile}
 
 -- the stage of a file of this name
 abbrev pub stage_at : List ℕ → Progress → Stage
