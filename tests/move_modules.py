@@ -6,6 +6,8 @@ modules are those of tests/move/make.py, in the forms of both APIs.
 
 - Facts that were worked out by hand: names, formats, the 105 bytes of a CoinStore, and arguments of functions.
 - Refusals: each has its name, its place and what its message has to say.
+- Rules of the documents, each with the whole registry; and limits, with the most that is accepted and the least that
+  isn't.
 - COUNT (5,000) random inputs are decoded by `bcs` and by tests/move/independent.py, which knows no registry.
 - COUNT * 3 / 5 spoiled samples: each must be refused by name, with a place, or make a registry that `bcs` accepts.
 - Type arguments that multiply: every such job ends within 2 seconds and 64 MiB.
@@ -280,6 +282,211 @@ REFUSED: list[tuple[Any, str, str, str, str]] = [
 ]
 
 
+class Rule(NamedTuple):
+    """Modules, what is requested of them, and the registry and the notes that docs/REGISTRIES.md and the section on
+    Move of docs/PROGRAM.md give for it."""
+
+    what: str
+    modules: Any
+    types: list[str]
+    registry: dict[str, Any]
+    notes: tuple[str, ...] = ()
+
+
+def typename(name: str) -> dict[str, Any]:
+    return {"TYPENAME": name}
+
+
+def arguments(function: str, **formats: Any) -> dict[str, Any]:
+    """The containers for the arguments of a function that have bytes."""
+    each = {f"{function}::{name}": {"NEWTYPESTRUCT": of} for name, of in formats.items()}
+    return {function: {"STRUCT": [{name: of} for name, of in formats.items()]}, **each}
+
+
+def nested(depth: int) -> str:
+    return "vector<" * depth + "u16" + ">" * depth
+
+
+def nested_of_sui(depth: int) -> Any:
+    return {"Vector": nested_of_sui(depth - 1)} if depth else "U16"
+
+
+def variants_of(count: int) -> Any:
+    variants: dict[str, Any] = {f"V{number}": [] for number in range(count)}
+    return enum(variants=variants, variantDeclarationOrder=list(variants))
+
+
+# A struct with 997 type parameters. Its name with `u8` for each of them has 3,997 characters.
+WORDY = aptos([("a", "u8")], 997)
+
+
+def wordy(length: int) -> str:
+    longer = length - 3997
+    return f"0x1::m::S<{', '.join(['u16'] * longer + ['u8'] * (997 - longer))}>"
+
+
+DEEPEST: Any = "U16"
+for _ in range(32):
+    DEEPEST = {"SEQ": DEEPEST}
+ID_OF_SUI = {"0x2::object::ID": {"STRUCT": [{"bytes": typename("address")}]}, "address": ADDRESS}
+SUI_COIN = "0x2::coin::Coin<0x2::sui::SUI>"
+
+RULES = [
+    Rule(
+        "a vector of bytes by a type argument",
+        make.aptos("0x1::m", "struct S<T> { a: vector<T0>, b: vector<vector<T0>> }"),
+        ["0x1::m::S<u8>"],
+        {"0x1::m::S<u8>": {"STRUCT": [{"a": "BYTES"}, {"b": {"SEQ": "BYTES"}}]}},
+    ),
+    Rule(
+        "the order of type arguments",
+        make.aptos("0x1::m", "struct S<A, B> { a: T1, b: T0, c: 0x1::m::P<T1, T0> }\nstruct P<A, B> { a: T0, b: T1 }"),
+        ["0x1::m::S<u8,bool>"],
+        {
+            "0x1::m::S<u8, bool>": {"STRUCT": [{"a": "BOOL"}, {"b": "U8"}, {"c": typename("0x1::m::P<bool, u8>")}]},
+            "0x1::m::P<bool, u8>": {"STRUCT": [{"a": "BOOL"}, {"b": "U8"}]},
+        },
+        ('"0x1::m::S<u8,bool>": the container is called 0x1::m::S<u8, bool>',),
+    ),
+    Rule(
+        "the order of fields",
+        make.aptos("0x1::m", "struct S { z: u8, a: u16, m: u32 }"),
+        ["0x1::m::S"],
+        {"0x1::m::S": {"STRUCT": [{"z": "U8"}, {"a": "U16"}, {"m": "U32"}]}},
+    ),
+    Rule(
+        "the order of variants",
+        make.sui("0x1::m", "enum S { C; A; B { x: u8 } }"),
+        ["0x1::m::S"],
+        {"0x1::m::S": {"ENUM": {"0": {"C": "UNIT"}, "1": {"A": "UNIT"}, "2": {"B": {"STRUCT": [{"x": "U8"}]}}}}},
+    ),
+    Rule(
+        "a type argument that has a container",
+        make.aptos("0x1::m", "struct S<T> { a: T0, b: vector<T0> }\nstruct P<T> { a: T0 }"),
+        ["0x1::m::S<0x1::m::P<u8>>"],
+        {
+            "0x1::m::S<0x1::m::P<u8>>": {
+                "STRUCT": [{"a": typename("0x1::m::P<u8>")}, {"b": {"SEQ": typename("0x1::m::P<u8>")}}]
+            },
+            "0x1::m::P<u8>": {"STRUCT": [{"a": "U8"}]},
+        },
+    ),
+    Rule(
+        "types like those of the standard library in other modules",
+        [
+            make.aptos("0x5::option", "struct Option<T> { vec: vector<T0> }"),
+            make.aptos("0x5::string", "struct String { bytes: vector<u8> }"),
+            make.aptos("0x5::ascii", "struct String { bytes: vector<u8> }"),
+        ],
+        ["0x5::option::Option<u64>", "0x5::string::String", "0x5::ascii::String"],
+        {
+            "0x5::option::Option<u64>": {"STRUCT": [{"vec": {"SEQ": "U64"}}]},
+            "0x5::string::String": {"STRUCT": [{"bytes": "BYTES"}]},
+            "0x5::ascii::String": {"STRUCT": [{"bytes": "BYTES"}]},
+        },
+    ),
+    Rule(
+        "modules with one name at two addresses",
+        [
+            make.aptos("0x1::m", "struct S { a: u8 }"),
+            make.aptos("0x2::m", "struct S { a: u16, b: 0x1::m::S }\nfun f(u32)"),
+        ],
+        ["0x2::m::S", "0x2::m::f"],
+        {
+            "0x1::m::S": {"STRUCT": [{"a": "U8"}]},
+            "0x2::m::S": {"STRUCT": [{"a": "U16"}, {"b": typename("0x1::m::S")}]},
+            **arguments("0x2::m::f", arg0="U32"),
+        },
+    ),
+    Rule(
+        "a phantom type argument of Sui",
+        SUI,
+        [SUI_COIN],
+        {
+            SUI_COIN: {
+                "STRUCT": [
+                    {"id": typename("0x2::object::UID")},
+                    {"balance": typename("0x2::balance::Balance<0x2::sui::SUI>")},
+                ]
+            },
+            "0x2::balance::Balance<0x2::sui::SUI>": {"STRUCT": [{"value": "U64"}]},
+            "0x2::object::UID": {"STRUCT": [{"id": typename("0x2::object::ID")}]},
+            **ID_OF_SUI,
+        },
+    ),
+    Rule(
+        "the TxContext between other arguments",
+        make.sui("0x5::m", "fun f(u8, &mut 0x2::tx_context::TxContext, u64)"),
+        ["0x5::m::f"],
+        arguments("0x5::m::f", arg0="U8", arg1="U64"),
+    ),
+    Rule(
+        "a TxContext of another module",
+        make.sui("0x5::m", "fun f(&0x5::tx_context::TxContext, u64)"),
+        ["0x5::m::f"],
+        {"0x5::m::f": {"STRUCT": [{"arg1": "U64"}]}, "0x5::m::f::arg1": {"NEWTYPESTRUCT": "U64"}},
+        (f"0x5::m::f: arg0 is 0x5::tx_context::TxContext{OBJECT}",),
+    ),
+    Rule(
+        "options and vectors of IDs and of objects",
+        [
+            *SUI,
+            make.sui(
+                "0x5::m",
+                "struct S has key { id: 0x2::object::UID }\n"
+                "fun f(0x2::object::ID, 0x1::option::Option<0x2::object::ID>, 0x1::option::Option<0x5::m::S>, "
+                "vector<0x5::m::S>, vector<vector<0x2::object::ID>>)",
+            ),
+        ],
+        ["0x5::m::f"],
+        {
+            **arguments(
+                "0x5::m::f",
+                arg0=typename("0x2::object::ID"),
+                arg1={"OPTION": typename("0x2::object::ID")},
+                arg4={"SEQ": {"SEQ": typename("0x2::object::ID")}},
+            ),
+            **ID_OF_SUI,
+        },
+        (
+            f"0x5::m::f: arg2 is 0x1::option::Option<0x5::m::S>{OBJECT}",
+            f"0x5::m::f: arg3 is vector<0x5::m::S>{OBJECT}",
+        ),
+    ),
+    Rule(
+        "127 variants",
+        variants_of(127),
+        ["0x1::m::S"],
+        {"0x1::m::S": {"ENUM": {f"{number}": {f"V{number}": "UNIT"} for number in range(127)}}},
+    ),
+    Rule("a type 32 deep", [], [nested(32)], {nested(32): {"NEWTYPESTRUCT": DEEPEST}}),
+    Rule("a field 32 deep", aptos([("a", nested(32))]), ["0x1::m::S"], {"0x1::m::S": {"STRUCT": [{"a": DEEPEST}]}}),
+    Rule(
+        "a field 32 deep by its type argument",
+        aptos([("a", "vector<T0>")], 1),
+        [f"0x1::m::S<{nested(31)}>"],
+        {f"0x1::m::S<{nested(31)}>": {"STRUCT": [{"a": DEEPEST}]}},
+    ),
+    Rule(
+        "a field of Sui 32 deep",
+        sui([("a", nested_of_sui(32))]),
+        ["0x1::m::S"],
+        {"0x1::m::S": {"STRUCT": [{"a": DEEPEST}]}},
+    ),
+    Rule("a type of 4000 characters", WORDY, [wordy(4000)], {wordy(4000): {"STRUCT": [{"a": "U8"}]}}),
+]
+
+# The least that is too much: modules, what is requested, the name of the refusal, and a part of its message.
+TOO_MUCH: list[tuple[Any, str, str, str]] = [
+    (variants_of(128), "0x1::m::S", "UnknownVariants", "1 to 127 variants"),
+    ([], nested(33), "TooLarge", "nests more than 32 deep"),
+    (aptos([("a", nested(33))]), "0x1::m::S", "TooLarge", "nests more than 32 deep"),
+    (aptos([("a", "vector<vector<T0>>")], 1), f"0x1::m::S<{nested(31)}>", "TooLarge", "nests more than 32 deep"),
+    (sui([("a", nested_of_sui(33))]), "0x1::m::S", "TooLarge", "nests more than 32 deep"),
+    (WORDY, wordy(4001), "TooLarge", "more than 4000 characters"),
+]
+
+
 def place_of(place: str, requested: str) -> str:
     """The start of the line on standard error."""
     if place == ARGUMENT:
@@ -297,6 +504,20 @@ def try_refusals(program: Program) -> None:
         require(words in done.errors and done.errors.isascii() and done.errors.count("\n") == 1, what)
     require({name for _, _, name, _, _ in REFUSED} == set(NAMES), "some refusals have no case")
     print(f"move_modules: {len(REFUSED)} refusals", flush=True)
+
+
+def try_rules(program: Program) -> None:
+    for rule in RULES:
+        done = program.make(rule.modules, *rule.types)
+        require(done.status == 0, f"{rule.what}: {done}")
+        equal(json.loads(done.output), rule.registry, rule.what)
+        equal(done.errors.rstrip("\n"), "; ".join(rule.notes), f"the notes on {rule.what}")
+        require(program.made(rule.modules, *rule.types) == rule.registry, rule.what)
+    for modules, requested, name, words in TOO_MUCH:
+        done = program.make(modules, requested)
+        what = f"{requested[:100]} {words}: {done}"
+        require(done.status == 2 and done.output == f"refused: {name}\n" and words in done.errors, what)
+    print(f"move_modules: {len(RULES)} rules, {len(TOO_MUCH)} limits", flush=True)
 
 
 def try_coin_store(program: Program) -> None:
@@ -319,12 +540,12 @@ def try_coin_store(program: Program) -> None:
 
 
 def try_facts(program: Program) -> None:
-    names = ["0x1::option::Option<u64>", "0x1::string::String", "vector<u8>", "u256", "address"]
+    names = ["0x1::option::Option<u64>", "0x1::string::String", "vector<u8>", "u256", "i256", "address"]
     for modules in (APTOS, SUI, []):
         registry = program.made(modules, *names)
         formats: list[Any] = [{"OPTION": "U64"}, "STR", "BYTES"]
         equal([registry[name] for name in names[:3]], [{"NEWTYPESTRUCT": it} for it in formats], "standard types")
-        equal([registry[name] for name in names[3:]], [ADDRESS, ADDRESS], "wide types")
+        equal([registry[name] for name in names[3:]], [ADDRESS] * 3, "wide types")
     shapes: list[dict[str, Any]] = [{}, {"is_enum": True}, {"variants": [{"name": "None"}, {"name": "Some"}]}]
     for more in shapes:
         module = changed(aptos([], 1, name="Option", **more), name="option")
@@ -445,6 +666,7 @@ def try_random_values(program: Program, count: int) -> None:
                     require(answer.startswith("refused: "), f"{name}, {content.hex()}: {answer}, and not refused")
                     tally["refused by both"] += 1
                     continue
+                require(not answer.startswith("refused: "), f"{name}, {content.hex()}: {answer}, and not {expected}")
                 equal(json.loads(answer), expected, f"{name}, {content.hex()}")
                 tally["read by both as the same value"] += 1
     require(min(tally.values()) > count // 10, f"few values: {tally}")
@@ -549,6 +771,7 @@ def main() -> None:
     with tempfile.TemporaryDirectory() as name:
         program = Program(words[0], words[1] if len(words) > 1 else words[0], pathlib.Path(name))
         try_refusals(program)
+        try_rules(program)
         try_coin_store(program)
         try_facts(program)
         try_functions(program)

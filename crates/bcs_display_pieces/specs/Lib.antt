@@ -1,2 +1,3 @@
 pub mod EndsAt
 pub mod IsPlain
+pub mod Viewing

@@ -54,6 +54,7 @@ pub fn explain_text(
     ensures plain { IfOk result (λ x. IsPlain views.now → EndsAt registry.now limits.now (shape_of format.now) bytes.now x.stop) }
     ensures outer { IfOk result (λ x. x.inner ≡ None → EndsAt registry.now limits.now (shape_of format.now) bytes.now x.stop) }
     ensures whole { IfOk result (λ x. IsPlain views.now → x.inner ≡ None) }
+    ensures stopped { IfOk result (λ x. x.stop ≡ None → x.inner ≡ None) }
 {
     let scene = Scene {
         registry,
@@ -104,7 +105,8 @@ fn with_views(
     walk: Walk,
     stop: Option<Stop>,
 ) -> Result<Explanation, AllocError>
-    ensures { IfOk result (λ x. x.inner ≡ None → x.stop ≡ stop) }
+    ensures outer { IfOk result (λ x. x.inner ≡ None → x.stop ≡ stop) }
+    ensures stopped { IfOk result (λ x. x.stop ≡ None → x.inner ≡ None) }
 {
     let mut out = Output {
         text: Vec::new(alloc),

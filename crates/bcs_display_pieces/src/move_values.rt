@@ -1,4 +1,9 @@
 //! Values of Move that are 32 bytes, as Move writes them.
+ghost use Rattle.std.specs.Prelude.{◌≡◌, true};
+ghost use Rattle.std.specs.Int.{w8};
+ghost use Rattle.bcs_registry_model.specs.Shape.{array, unsigned};
+ghost use Rattle.bcs_registry_model.specs.View.{shape_of};
+ghost use Rattle.bcs_display_pieces.specs.Viewing.{HasMoveValue};
 
 use crate::big_numbers::{put_big_signed, put_big_unsigned};
 use bcs_display_text::columns::put_hex;
@@ -51,14 +56,18 @@ pub(crate) fn whole_container<'r>(
 }
 
 /// Whether the container has 32 `U8` and nothing else.
-pub(crate) fn has_move_value(registry: &Registry, name: &str) -> bool {
+pub(crate) fn has_move_value(registry: &Registry, name: &str) -> bool
+    ensures { HasMoveValue registry.now name.now → result ≡ true }
+{
     match registry.container(name) {
         Some(Container::NewTypeStruct(format)) => is_array(format),
         _ => false,
     }
 }
 
-fn is_array(format: &Format) -> bool {
+fn is_array(format: &Format) -> bool
+    ensures { shape_of format.now ≡ array (unsigned w8) 32 → result ≡ true }
+{
     match format.kind() {
         Kind::TupleArray(Format::U8, size) => size == SIZE as u64,
         _ => false,

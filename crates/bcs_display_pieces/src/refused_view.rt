@@ -1,4 +1,6 @@
 //! Why a text asks for no view.
+ghost use Rattle.std.specs.Prelude.{◌≡◌, IfOk, Some};
+ghost use Rattle.bcs_registry_model.specs.declared.fault.RegistryFault.TheVariants.{UnknownName};
 
 use crate::move_values::MoveKind;
 use bcs_display_refusal::{Location, Refusal};
@@ -65,7 +67,9 @@ pub(crate) fn unknown_value(
     alloc: Global,
     kind: MoveKind,
     name: &str,
-) -> Result<RefusedView, AllocError> {
+) -> Result<RefusedView, AllocError>
+    ensures { IfOk result (λ refused. refused.fault ≡ Some UnknownName) }
+{
     let argument = match kind {
         MoveKind::Address => "--address",
         MoveKind::Unsigned => "--u256",
@@ -81,7 +85,9 @@ fn unknown(
     argument: &'static str,
     name: &str,
     expected: &str,
-) -> Result<RefusedView, AllocError> {
+) -> Result<RefusedView, AllocError>
+    ensures { IfOk result (λ refused. refused.fault ≡ Some UnknownName) }
+{
     let fault = RegistryFault::UnknownName;
     let refusal = refused(alloc, argument, fault.name(), name, expected)?;
     Ok(RefusedView {

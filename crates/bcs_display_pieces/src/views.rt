@@ -1,6 +1,8 @@
 //! Which byte strings are explained piece by piece, and which containers are shown as values of Move.
-ghost use Rattle.std.specs.Prelude.{◌≡◌, true};
+ghost use Rattle.std.specs.Prelude.{◌≡◌, IfErr, IfOk, IfSome, Some, true};
+ghost use Rattle.bcs_registry_model.specs.declared.fault.RegistryFault.TheVariants.{UnknownName};
 ghost use Rattle.bcs_display_pieces.specs.IsPlain.{IsPlain};
+ghost use Rattle.bcs_display_pieces.specs.Viewing.{HasMoveValue, HaveMoveValues, NamesNoString, NamesValues, RefusesViews};
 
 use crate::formats::read_format;
 use crate::functions::{Arguments, arguments_of};
@@ -74,27 +76,81 @@ impl Views {
         alloc: Global,
         registry: &Registry,
         texts: &ViewTexts<'_>,
-    ) -> Result<Result<Views, RefusedView>, AllocError> {
+    ) -> Result<Result<Views, RefusedView>, AllocError>
+        ensures plain { IfOk result (λ r. IfOk r (λ views. NamesNoString texts.now → IsPlain views)) }
+        ensures refused { IfOk result (λ r. IfErr r (λ refused. RefusesViews registry.now texts.now refused.fault)) }
+    {
         let mut views = Views::none(alloc);
+        if let Some(refused) = views.add_strings(alloc, registry, texts)? {
+            return Ok(Err(refused));
+        }
+        match views.add_values(alloc, registry, texts)? {
+            Some(refused) => Ok(Err(refused)),
+            None => Ok(Ok(views)),
+        }
+    }
+
+    // Adds the byte strings and the lists of arguments.
+    fn add_strings(
+        &mut self,
+        alloc: Global,
+        registry: &Registry,
+        texts: &ViewTexts<'_>,
+    ) -> Result<Option<RefusedView>, AllocError>
+        ensures kept { NamesNoString texts.now → self.new ≡ self.old }
+        ensures refused { IfOk result (λ r. IfSome r (λ _. NamesNoString texts.now → ⊥)) }
+    {
+        if texts.inside.is_empty() && texts.call.is_empty() {
+            return Ok(None);
+        }
         for text in texts.inside {
-            if let Some(refused) = views.add_inside(alloc, registry, text.as_str())? {
-                return Ok(Err(refused));
+            if let Some(refused) = self.add_inside(alloc, registry, text.as_str())? {
+                return Ok(Some(refused));
             }
         }
         for text in texts.call {
-            if let Some(refused) = views.add_call(alloc, registry, text.as_str())? {
-                return Ok(Err(refused));
+            if let Some(refused) = self.add_call(alloc, registry, text.as_str())? {
+                return Ok(Some(refused));
             }
         }
-        let kinds = [MoveKind::Address, MoveKind::Unsigned, MoveKind::Signed];
-        for kind in kinds {
-            for name in texts.of(kind) {
-                if let Some(refused) = views.add_value(alloc, registry, kind, name.as_str())? {
-                    return Ok(Err(refused));
-                }
+        Ok(None)
+    }
+
+    // Adds the containers that are shown as values of Move.
+    fn add_values(
+        &mut self,
+        alloc: Global,
+        registry: &Registry,
+        texts: &ViewTexts<'_>,
+    ) -> Result<Option<RefusedView>, AllocError>
+        ensures kept { IsPlain self.old → IsPlain self.new }
+        ensures refused { IfOk result (λ r. IfSome r (λ refused. (NamesValues registry.now texts.now → ⊥) × (refused.fault ≡ Some UnknownName))) }
+    {
+        if let Some(refused) = self.add_kind(alloc, registry, MoveKind::Address, texts.address)? {
+            return Ok(Some(refused));
+        }
+        if let Some(refused) = self.add_kind(alloc, registry, MoveKind::Unsigned, texts.u256)? {
+            return Ok(Some(refused));
+        }
+        self.add_kind(alloc, registry, MoveKind::Signed, texts.i256)
+    }
+
+    fn add_kind(
+        &mut self,
+        alloc: Global,
+        registry: &Registry,
+        kind: MoveKind,
+        names: &[String],
+    ) -> Result<Option<RefusedView>, AllocError>
+        ensures kept { IsPlain self.old → IsPlain self.new }
+        ensures refused { IfOk result (λ r. IfSome r (λ refused. (HaveMoveValues registry.now names.now → ⊥) × (refused.fault ≡ Some UnknownName))) }
+    {
+        for name in names {
+            if let Some(refused) = self.add_value(alloc, registry, kind, name.as_str())? {
+                return Ok(Some(refused));
             }
         }
-        Ok(Ok(views))
+        Ok(None)
     }
 
     fn add_source(
@@ -179,7 +235,10 @@ impl Views {
         registry: &Registry,
         kind: MoveKind,
         name: &str,
-    ) -> Result<Option<RefusedView>, AllocError> {
+    ) -> Result<Option<RefusedView>, AllocError>
+        ensures kept { IsPlain self.old → IsPlain self.new }
+        ensures refused { IfOk result (λ r. IfSome r (λ refused. (HasMoveValue registry.now name.now → ⊥) × (refused.fault ≡ Some UnknownName))) }
+    {
         if !has_move_value(registry, name) {
             return Ok(Some(unknown_value(alloc, kind, name)?));
         }

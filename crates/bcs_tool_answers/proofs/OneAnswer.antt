@@ -1,5 +1,6 @@
 -- A job has at most one answer to an input.
 use Rattle.bcs_tool_answers.proofs.Prelude.{◌≡◌, ◌∙◌, ◌⊎◌, ◌++◌, inl, inr, ℕ, List, codes, length, string_bytes, ap, refl, sym, subst, Entries, Grows, IsOrderly, Shape, Step, same_registry, SpellsPath, SpellsSteps, one_path, coding_of, Notation, Work, Command, Check, Encode, Decode, Normalise, IsExact, OneAnswer, json_fault_name, Answers, AnswersTexts, IsAsked, Lists, count_line, line_of, lists, printed, printed_none, printed_part, printed_place, refusal_line, stop_line, IsFormatWord, IsPathOf, IsRegistry, RefusesJobOf, RefusesFormatted, job_fault_name, JobFault}
+use Rattle.bcs_move_types.specs.FaultNames.{move_refusal_name}
 use Rattle.bcs_tool_command_line.specs.declared.command.Command.TheVariants as command
 use Rattle.bcs_tool_answers.specs.Answers as answer
 use Rattle.bcs_tool_answers.specs.Input as given
@@ -60,7 +61,7 @@ module _ (work : Work) (input : List ℕ) where
   told (answer.exampled r f z t a h) = by command.Example z t a.is_command tt
   told (answer.described r f t a) = by command.Schema 0 t a.is_command tt
   told (answer.made r t is a) = by command.FromMove 0 (line_of t) is tt
-  told (answer.unmade n is) = by command.FromMove 2 (refusal_line n) is tt
+  told (answer.unmade n is) = by command.FromMove 2 (refusal_line (move_refusal_name n)) is tt
   told (answer.encoded r f b a h) = by Encode 0 (printed (coding_of work) b) a.is_command (valued (Encoded work input) Encode r f 0 (printed (coding_of work) b) a (inl (b, h, refl, refl)))
   told (answer.normalised r f t a h) = by Normalise 0 (line_of t) a.is_command (valued (Normalised work input) Normalise r f 0 (line_of t) a (inl (t, h, refl, refl)))
   told (answer.refused c r f e (inl is) a h) = by Encode 2 (refusal_line (json_fault_name e)) (a.is_command ∙ is) (valued (Encoded work input) c r f 2 (refusal_line (json_fault_name e)) a (inr (e, h, refl, refl)))

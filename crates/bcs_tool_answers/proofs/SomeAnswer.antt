@@ -1,6 +1,7 @@
 -- Each job has an answer to each input within the size limit, with a lemma for each command.
 use Rattle.bcs_tool_answers.proofs.Prelude.{◌≡◌, inl, inr, ℕ, List, true, refl, string_bytes, subst, sym, [], Option, Some, None, cases_lt, depth, Entries, Shape, UnknownName, Tree, some_verdict_is, some_verdict_of_all_is, Accepts, AreBytes, Part, Step, part_at, of, nesting_limit, some_bytes, some_normal_text, some_shown_text, SomeAnswer, Answers, IsAsked, IsWithin, checked, compared, damaged, decoded, described, unmade, encoded, exampled, explained, found, front_stopped, grown, no_bytes, no_content, normalised, nowhere, printed_bytes, refused, refused_early, scan_stopped, scanned, stop_line, stopped, too_nested, GivesBytes, IsFormatWord, IsPathOf, IsRegistry, RefusesJobOf, name_of, works_on_values, JobFault, BadPath, Growth, Registry, coding_of, Work, SpellsSteps, Command}
 use Rattle.bcs_registry_model.specs.Container as container
+use Rattle.bcs_move_types.specs.declared.refusal.MoveRefusalName.TheVariants.{NotModules}
 use Rattle.bcs_json_spec.specs.Shown as value
 use Rattle.bcs_tool_answers.specs.Answers.{shown}
 use Rattle.bcs_tool_answers.proofs.AnswerLemmas.{refuses_formatted}
@@ -60,7 +61,7 @@ module _ (work : Work) (input : List ℕ) where
   ]
 
   some_from_move : work.command ≡ command.FromMove → Answered
-  some_from_move is = (_, _, unmade [] is)
+  some_from_move is = (_, _, unmade NotModules is)
 
   -- ---- an input, for a format of a registry
 

@@ -20,6 +20,8 @@ use Rattle.bcs_json_spec.specs.JsonContent.{of}
 use Rattle.bcs_json_spec.specs.Shown as value
 use Rattle.bcs_json_spec.specs.Texts.{Denotes, RefusesText, nesting_limit}
 use Rattle.bcs_json_spec.specs.declared.json_fault.JsonFault.{JsonFault}
+use Rattle.bcs_move_types.specs.FaultNames.{move_refusal_name}
+use Rattle.bcs_move_types.specs.declared.refusal.MoveRefusalName.{MoveRefusalName}
 use Rattle.bcs_tool_answers.specs.Notations.{SpellsSteps}
 use Rattle.bcs_tool_answers.specs.PartBytes.{printed_bytes, printed_place}
 use Rattle.bcs_tool_command_line.specs.Files.{size_limit}
@@ -135,9 +137,9 @@ pub data Answers (work : Work) (input : List ℕ) : ℕ → List ℕ → Type 0 
   exampled : (registry : Entries) (s : Shape) (status : ℕ) (output : List ℕ) → AsksOfFormat work command.Example registry s → (status ≡ 0) ⊎ (status ≡ 2) → Answers work input status output
   -- `schema`: a text for display, if the arguments are valid
   described : (registry : Entries) (s : Shape) (text : List ℕ) → AsksOfFormat work command.Schema registry s → Answers work input 0 text
-  -- `from-move`: the JSON of a well-formed registry; or a refusal. Which one is only tested
+  -- `from-move`: the JSON of a well-formed registry; or one of the refusals of `from-move`. Which one is only tested
   made : (registry : Entries) (text : List ℕ) → work.command ≡ command.FromMove → IsRegistry text registry → Answers work input 0 (line_of text)
-  unmade : (name : List ℕ) → work.command ≡ command.FromMove → Answers work input 2 (refusal_line name)
+  unmade : (name : MoveRefusalName) → work.command ≡ command.FromMove → Answers work input 2 (refusal_line (move_refusal_name name))
   -- `encode`: the bytes of the value that the text denotes
   encoded : (registry : Entries) (s : Shape) (bytes : List ℕ) → IsAsked work input command.Encode registry s → HasBytes registry work.limits s input bytes → Answers work input 0 (printed (coding_of work) bytes)
   -- `normalise`: the normal text of that value
