@@ -1,5 +1,5 @@
 -- A run over lines, from one line to the next.
-use Rattle.bcs_tool.proofs.Prelude.{◌≡◌, ◌<◌, ◌+◌, ◌^◌, ◌++◌, ◌∙◌, inl, inr, ℕ, Bool, List, [], ◌∷◌, Err, Option, arith, length, refl, subst, sym, take, IfSome, FailsInLine, HasNoLine, IsTooLong, TakesLine, HeldLine, NextFault, AnswersAll, AnswersLine, none, answers_snoc, as_many, size_limit, TakeFault, Work, AllAnswered, FailsNext, IsSoFar, IsTally, BrokeInLine, GaveFew, FailsAt, HasLines, IsLongBehind, IsTooLarge, IsUnhurt, PutBefore, PutFront, PutPart, PutsLine, ReadsNoFurther, StopsInLine, of_next, RunFault, Take, Write, Tally}
+use Rattle.bcs_tool.proofs.Prelude.{◌≡◌, ◌<◌, ◌+◌, ◌^◌, ◌++◌, ◌∙◌, inl, inr, ℕ, Bool, List, [], ◌∷◌, Err, Option, arith, length, subst, sym, take, IfSome, FailsInLine, HasNoLine, IsTooLong, TakesLine, HeldLine, NextFault, AnswersAll, AnswersLine, none, answers_snoc, as_many, size_limit, TakeFault, Work, AllAnswered, FailsNext, IsSoFar, IsTally, BrokeInLine, GaveFew, FailsAt, HasLines, IsLongBehind, IsTooLarge, IsUnhurt, PutBefore, PutFront, PutPart, PutsLine, ReadsNoFurther, StopsInLine, of_next, RunFault, Take, Write, Tally}
 use Rattle.bcs_io.specs.Giving as source
 use Rattle.bcs_io.specs.Taking as sink
 use Rattle.bcs_io.proofs.TakingLemmas as taking

@@ -4,7 +4,6 @@ use Rattle.std.specs.declared.alloc.Global.{Global}
 use Rattle.bcs_io.specs.Taking as sink
 use Rattle.bcs_tool_command_line.specs.FaultPlaces.{ReportsPlace, cause_text, file_text}
 use Rattle.bcs_tool_command_line.specs.declared.job.Job.{Job}
-use Rattle.bcs_tool_command_line.specs.declared.open_cause.OpenCause.{OpenCause}
 use Rattle.bcs_tool_command_line.specs.declared.work.Outcome.{Outcome}
 use Rattle.bcs_tool.specs.Endings.{Performs, PrintsReport}
 use Rattle.bcs_tool.specs.HeldOutput.{held_bytes, ran_out}

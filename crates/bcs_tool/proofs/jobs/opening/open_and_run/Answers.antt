@@ -1,4 +1,4 @@
-use Rattle.bcs_tool.proofs.Prelude.{◌∙◌, List, Option, ap, inl, inr, refl, subst, sym, ℕ, String, Global, reader_remaining, allowance_of, failed, reader_of, ReportsPlace, file_place, file_note, file_text, IsUnread, has_files, lacks_file, no_room, over_file, over_input, unopened, Runs}
+use Rattle.bcs_tool.proofs.Prelude.{◌∙◌, List, ap, inl, inr, refl, subst, sym, ℕ, reader_remaining, allowance_of, failed, reader_of, ReportsPlace, file_place, file_note, file_text, IsUnread, has_files, lacks_file, no_room, over_file, over_input, unopened, Runs}
 use Rattle.std.specs.Prelude.{string_bytes}
 use Rattle.bcs_tool_command_line.specs.declared.unread_file.UnreadFile.{UnreadFile}
 use Rattle.bcs_tool.proofs.jobs.opening.open_and_run.Goals as goal

@@ -1,4 +1,4 @@
-use Rattle.bcs_tool.proofs.Prelude.{◌∙◌, ◌≤◌, Err, List, Result, ap, arith, inl, length, refl, subst, sym, ℕ, IsAnswer, IsAskedBy, IsPrepared, size_limit, Answer, Asked, OutOfMemory, Outcome, Ends, Interruption, Take}
+use Rattle.bcs_tool.proofs.Prelude.{◌∙◌, ◌≤◌, Err, List, Result, ap, arith, inl, length, refl, subst, ℕ, IsAnswer, IsPrepared, size_limit, Answer, Asked, OutOfMemory, Outcome, Ends, Interruption, Take}
 use Rattle.bcs_tool.proofs.RunLemmas.{handed_on, no_input_no_lines, no_lines, no_memory, not_taken, put_once, reads_input, some_content, unhurt_whole, unread, whole_content}
 use Rattle.bcs_tool.proofs.jobs.running.validate_and_answer.Goals as goal
 
