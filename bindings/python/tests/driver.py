@@ -282,9 +282,17 @@ def answer(words: list[str]) -> Answer:
     return CALLS[call](registry, bytes.fromhex(words[2]), limits, *rest)
 
 
-def refusal(fault: bcs_proved.BcsError) -> Answer:
-    kind = fault.kind if fault.kind in ("registry", "format", "path", "limits", "stack") else "refused"
-    kind = "refused" if fault.reason == "NoContent" else kind
+# The kind of what a call refuses of its input; any other reads bytes.
+KINDS = {
+    **dict.fromkeys(["to_bcs", "normalise", "compare"], "text"),
+    **{"example": "example", "registry_of_modules": "modules", "content": "path"},
+}
+
+
+def refusal(fault: bcs_proved.BcsError, call: str) -> Answer:
+    assert (fault.place is None) == (fault.kind != "bytes" or fault.reason == "TooNested"), fault
+    kind = "refused" if fault.kind == KINDS.get(call, "bytes") and fault.reason != "BadPath" else fault.kind
+    kind = "refused" if call == "content" and kind == "bytes" else kind
     return Answer(kind, fault.reason or "-", fault.place or 0)
 
 
@@ -293,7 +301,7 @@ for line in sys.stdin:
     try:
         told = answer(words).line if words[0] != "fault_name" else "unsayable"
     except bcs_proved.BcsError as fault:
-        told = refusal(fault).line
+        told = refusal(fault, words[0]).line
     except MemoryError:
         told = Answer("memory").line
     print(told, flush=True)
