@@ -9,7 +9,8 @@ const bcs = await load(readFileSync(process.argv[2]));
 const decoder = new TextDecoder('utf-8', { fatal: true, ignoreBOM: true });
 const encoder = new TextEncoder();
 
-const STATUSES = { text: 'refused', bytes: 'refused', growth: 'refused', modules: 'refused', example: 'refused' };
+// The kind of what a call refuses of its input; any other reads bytes.
+const KINDS = { to_bcs: 'text', normalise: 'text', compare: 'text', grows: 'growth', registry_of_modules: 'modules', example: 'example' };
 const INPUTS = ['registry', 'text', 'bytes', 'modules'];
 
 const DONE = { status: 'done', fault: '-', place: 0, length: 0, output: new Uint8Array() };
@@ -41,7 +42,7 @@ function place(refused, what) {
   if (refused?.detail === undefined) return NO;
   const { at, detail, kind, message, reason, place: offset } = refused;
   if (what === 'line') return { ...put(message), fault: reason, place: offset ?? 0 };
-  return put({ where: at, wanted: detail, kind }[what]);
+  return put({ where: at ?? '', wanted: detail, kind }[what]);
 }
 
 /** Each call is refused alike. */
@@ -173,7 +174,8 @@ function line(call, words) {
     if (error instanceof Unsayable || error instanceof TypeError) return 'unsayable';
     if (!(error instanceof BcsError)) throw error;
     const { kind, reason, place } = error;
-    const status = reason === 'NoContent' ? 'refused' : STATUSES[kind] ?? kind;
+    assert.equal(place !== undefined, kind === 'bytes' && reason !== 'TooNested', reason);
+    const status = reason === 'NoContent' || kind === (KINDS[call] ?? 'bytes') ? 'refused' : kind;
     return [status, reason ?? '-', place ?? 0, 0, ''].join('\t');
   }
 }
