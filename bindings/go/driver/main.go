@@ -44,9 +44,12 @@ func done(place, length int) string {
 
 const no = "no\t-\t0\t0\t"
 
-var statuses = map[bcs.Kind]string{bcs.KindRegistry: "registry", bcs.KindNewer: "newer", bcs.KindFormat: "format",
-	bcs.KindLimits: "limits", bcs.KindPath: "path", bcs.KindText: "refused", bcs.KindBytes: "refused",
-	bcs.KindGrowth: "refused", bcs.KindModules: "refused", bcs.KindExample: "refused", bcs.KindStack: "stack"}
+// The kinds of what calls refuse of their input. Other calls read bytes.
+var kinds = map[string]bcs.Kind{"to_bcs": bcs.KindText, "normalise": bcs.KindText, "compare": bcs.KindText, "grows": bcs.KindGrowth,
+	"registry_of_modules": bcs.KindModules, "example": bcs.KindExample}
+
+// refuses is the kind for the call of this line.
+var refuses bcs.Kind
 
 // failed answers an error; the answer of a call without one is `otherwise`.
 func failed(err error, otherwise string) string {
@@ -61,7 +64,14 @@ func failed(err error, otherwise string) string {
 	case refused.Kind == bcs.KindLimits:
 		return line("limits", "-", 0, 0, nil)
 	}
-	return line(statuses[refused.Kind], refused.Reason, placeOf(refused), 0, nil)
+	if hasPlace := refused.Kind == bcs.KindBytes && refused.Reason != "TooNested"; hasPlace != (refused.Place >= 0) {
+		fail(fmt.Errorf("the place %d of %v", refused.Place, refused))
+	}
+	status := string(refused.Kind)
+	if refused.Kind == refuses {
+		status = "refused"
+	}
+	return line(status, refused.Reason, placeOf(refused), 0, nil)
 }
 
 func placeOf(refused *bcs.Error) int {
@@ -151,6 +161,9 @@ func part(found *bcs.Part, err error) string {
 	}
 	if found == nil {
 		return no
+	}
+	if cap(found.Data) != len(found.Data) {
+		fail(errors.New("appending to the part would change the bytes behind it"))
 	}
 	return done(found.Place, len(found.Data))
 }
@@ -331,6 +344,9 @@ func answerMade(made *bcs.MadeRegistry, err error) string {
 	if err != nil {
 		return failed(err, "")
 	}
+	if cap(made.JSON) != len(made.JSON) {
+		fail(errors.New("appending to the registry would change what is behind it"))
+	}
 	text := string(made.JSON)
 	if made.Notes != "" {
 		text += "\n" + made.Notes
@@ -339,6 +355,10 @@ func answerMade(made *bcs.MadeRegistry, err error) string {
 }
 
 func answer(words []string) string {
+	refuses = bcs.KindBytes
+	if kind, is := kinds[words[0]]; is {
+		refuses = kind
+	}
 	switch words[0] {
 	case "fault_name":
 		return "unsayable"
