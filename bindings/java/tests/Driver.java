@@ -19,6 +19,7 @@ import java.util.Arrays;
 import java.util.HexFormat;
 import java.util.List;
 import java.util.Locale;
+import java.util.Map;
 import java.util.Objects;
 import java.util.Optional;
 
@@ -59,11 +60,16 @@ public final class Driver {
         return output(out.getBytes(StandardCharsets.UTF_8));
     }
 
-    private static String refused(BcsException e) {
-        String status = switch (e.kind()) {
-            case TEXT, BYTES, GROWTH, MODULES, EXAMPLE -> "refused";
-            default -> e.kind().name().toLowerCase(Locale.ROOT);
-        };
+    /** The kinds of what calls refuse of their input. Other calls read bytes. */
+    private static final Map<String, Kind> KINDS = Map.of("to_bcs", Kind.TEXT, "normalise", Kind.TEXT, "compare", Kind.TEXT,
+            "grows", Kind.GROWTH, "registry_of_modules", Kind.MODULES, "example", Kind.EXAMPLE);
+
+    private static String refused(BcsException e, String call) {
+        if (e.place() >= 0 != (e.kind() == Kind.BYTES && !"TooNested".equals(e.reason()))) {
+            throw new AssertionError("the place " + e.place() + " of " + e);
+        }
+        boolean isOfInput = e.kind() == KINDS.getOrDefault(call, Kind.BYTES);
+        String status = isOfInput ? "refused" : e.kind().name().toLowerCase(Locale.ROOT);
         return line(status, e.reason() == null ? "-" : e.reason(), Math.max(e.place(), 0), 0, new byte[0]);
     }
 
@@ -313,10 +319,11 @@ public final class Driver {
     }
 
     private static String told(String line) {
+        String[] words = line.split("\t", -1);
         try {
-            return answer(line.split("\t", -1));
+            return answer(words);
         } catch (BcsException e) {
-            return refused(e);
+            return refused(e, words[0]);
         } catch (OutOfMemoryError e) {
             return line("memory", "-", 0, 0, new byte[0]);
         } catch (Unsayable e) {
