@@ -23,6 +23,7 @@ The following report where something is refused. WHAT is `where` or `wanted`; or
 or returns, `kind` or `line`.
 
     text_place  QUESTION TEXT WHAT         stop_place  QUESTION BYTES WHAT
+    pair_place  QUESTION FIRST SECOND WHAT  (of `compare`)
     format_place  QUESTION WHAT            path_place  QUESTION BYTES NAME NOTATION WHAT
     registry_place  REGISTRY WHAT          growth_place  OLDER NEWER WHAT
     modules_place  MODULES TYPES WHAT

@@ -94,7 +94,9 @@ def growth_job(driver: Driver, options: list[str], older: bytes, newer: bytes) -
 def show_job(driver: Driver, words: list[str]) -> Printed:
     is_json = words[0] == "--json"
     registry, *name = map(bytes_of, words[is_json:])
-    return document(driver.ask("show", registry, name[0] if name else b"", "json" if is_json else "ways"))
+    Question(driver, registry, b'"UNIT"', []).ask("check")
+    answer = driver.ask("show", registry, name[0] if name else b"", "json" if is_json else "ways")
+    return document(answer, "format")
 
 
 def example_job(driver: Driver, words: list[str]) -> Printed:
@@ -108,14 +110,15 @@ def example_job(driver: Driver, words: list[str]) -> Printed:
             if not variant:
                 raise Unsayable
     registry, format, *limits = words
-    return document(Question(driver, bytes_of(registry), format_of(format), limits).ask("example", variant, form))
+    question = Question(driver, bytes_of(registry), format_of(format), limits)
+    return document(question.ask("example", variant, form), "refused")
 
 
-def document(answer: Answer) -> Printed:
+def document(answer: Answer, refused: str) -> Printed:
     """What the program prints ends a line."""
     if answer.status == "done":
         return Printed(0, answer.output if answer.output[-1:] in (b"", b"\n") else answer.output + b"\n")
-    expect(answer.status in ("registry", "format", "refused"), answer.status)
+    expect(answer.status == refused, answer.status)
     return refusal(answer.fault)
 
 

@@ -32,6 +32,7 @@ ON_BYTES = ("decode", "part", "scan")
 # The kind of the error that a call for a place reports.
 KINDS = {
     "text_place": "text",
+    "pair_place": "text",
     "stop_place": "bytes",
     "format_place": "format",
     "path_place": "path",
@@ -85,9 +86,21 @@ def place_of_job(driver: Driver, name: str, words: list[str], wanted: str) -> tu
     limits = given[2 if name == "same" else 1 :] or STANDARD_LIMITS
     question, data = (bytes_of(words[0]), format_of(words[1]), *limits), bytes_of(given[line["of"] == "B"])
     if name not in ON_BYTES:
-        return as_told(line), place_told(driver, "text_place", *question, data)
+        told = place_told(driver, "text_place", *question, data)
+        if name == "same":
+            expect_in_pair(driver, (*question, *map(bytes_of, given[:2])), told)
+        return as_told(line), told
     data = data if "--raw" in options else bytes_of_digits(data)
     return Place(line["place"], LIMIT.sub("", line["words"])), place_told(driver, "stop_place", *question, data)
+
+
+def expect_in_pair(driver: Driver, words: tuple[str | bytes, ...], told: Place | None) -> None:
+    """The call that compares two texts reports the place in the one that is refused."""
+    try:
+        in_pair = place_told(driver, "pair_place", *words)
+    except Unsayable:
+        return
+    expect(in_pair == told, f"{in_pair} in a pair")
 
 
 def place_in_arguments(driver: Driver, line: re.Match[str], words: list[str]) -> tuple[Place, Place | None]:

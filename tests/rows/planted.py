@@ -44,7 +44,9 @@ def main(words: list[str]) -> int:
     if not words:
         print(__doc__, file=sys.stderr)
         return 3
-    calls = [(call, what) for call in KINDS if call != "modules_place" for what in ("where", "wanted")]
+    calls = [
+        (call, what) for call in KINDS if call not in ("modules_place", "pair_place") for what in ("where", "wanted")
+    ]
     found = [are_found(Planted(words, call, what)) for call, what in calls]
     return 0 if all(found) else 1
 

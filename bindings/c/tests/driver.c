@@ -200,10 +200,10 @@ static bcs_answer half_of(bcs_answer whole, uint32_t what, uint8_t *out) {
     return (bcs_answer){.status = BCS_DONE, .length = what == BCS_WANTED ? message : place};
 }
 
-/* Whether C has no such words: an error, and where a name or a pointer is invalid. */
+/* Whether C has no such words: an error, the place in one of two texts, and where a name or a pointer is invalid. */
 static bool is_unsayable(char *const words[WORDS], size_t count) {
     const char *const last = words[count - 1];
-    return strcmp(last, "kind") == 0 || strcmp(last, "line") == 0 ||
+    return strcmp(last, "kind") == 0 || strcmp(last, "line") == 0 || strcmp(words[0], "pair_place") == 0 ||
            (strcmp(words[0], "path_place") == 0 && strcmp(words[7], "steps") != 0);
 }
 

@@ -317,6 +317,8 @@ func answerOn(r *bcs.Registry, format string, words []string) string {
 		return explain(r, format, first, words[6])
 	case "text_place":
 		return textPlace(r, format, first, words[6])
+	case "pair_place":
+		return told(errorOf(r.EqualJSON(format, first, unhex(words[6]))), bcs.KindText, words[7])
 	case "stop_place":
 		return stopPlace(r, format, first, words[6])
 	case "path_place":

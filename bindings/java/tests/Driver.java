@@ -257,6 +257,8 @@ public final class Driver {
                 return explained(registry.explain(format, first, form(words[6])));
             case "text_place":
                 return textPlace(registry, format, first, words[6]);
+            case "pair_place":
+                return alike(Kind.TEXT, words[7], () -> registry.equalJson(format, first, unhex(words[6])));
             case "stop_place":
                 return stopPlace(registry, format, first, words[6]);
             case "path_place":

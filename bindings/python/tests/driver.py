@@ -147,6 +147,10 @@ def text_place(registry: Registry, format: bytes, limits: Limits, text: bytes, w
     return alike(calls, INPUTS, what)
 
 
+def pair_place(registry: Registry, format: bytes, limits: Limits, first: bytes, second: bytes, what: str) -> Answer:
+    return place(refused_by(lambda: registry.equal_json(format, first, second, limits)), what)
+
+
 def stop_place(registry: Registry, format: bytes, limits: Limits, data: bytes, what: str) -> Answer:
     """If the value at the start is refused, `scan` reports the same."""
     decoded = refused_by(lambda: registry.decode_json(format, data, limits))
@@ -209,6 +213,7 @@ CALLS: dict[str, Callable[..., Answer]] = {
     "explain": explain,
     "explain_with": explain_with,
     "text_place": text_place,
+    "pair_place": pair_place,
     "stop_place": stop_place,
     "format_place": format_place,
     "path_place": path_place,
@@ -218,7 +223,7 @@ CALLS: dict[str, Callable[..., Answer]] = {
 # Which words behind the limits are no hexadecimal digits.
 PLAIN = {
     **dict.fromkeys(["explain", "explain_with", "text_place", "stop_place", "example"], [1]),
-    **dict.fromkeys(["part_named", "content"], [2]),
+    **dict.fromkeys(["part_named", "content", "pair_place"], [2]),
     "path_place": [2, 3],
     "format_place": [0],
 }

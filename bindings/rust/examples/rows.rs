@@ -168,6 +168,10 @@ fn ask(call: &str, mut words: Words) -> Result<Told, Error> {
         "explain_with" => explain_with(&registry, format, &input, words.next(), &words.bytes())?,
         "explain" => explain(&registry, format, &input, words.next())?,
         "text_place" => text_place(&registry, format, &input, words.next()),
+        "pair_place" => {
+            let refused = registry.equal_json(format, input, words.bytes()).err();
+            place(refused, "text", words.next())
+        }
         "stop_place" => stop_place(&registry, format, &input, words.next()),
         _ => panic!("no call is named {call}"),
     })

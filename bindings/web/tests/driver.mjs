@@ -148,6 +148,7 @@ function answerTo(call, words) {
   const format = formatOf(decoder.decode(bytesOfHex(formatText)));
   const finds = { part_named: PARTS, content: CONTENTS }[call];
   if (finds !== undefined) return found(registry[finds[others[2]]](format, bytesOfHex(others[0]), bytesOfHex(others[1])));
+  if (call === 'pair_place') return place(refusedBy(() => registry.equalText(format, ...others.slice(0, 2).map(bytesOfHex))), others[2]);
   if (call === 'format_place') return formatPlace(registry, format, others[0]);
   if (call === 'path_place') return pathPlace(registry, format, bytesOfHex(others[0]), others.slice(1));
   if (call === 'schema') return put(JSON.stringify(registry.schema(format)));
