@@ -80,6 +80,8 @@ def place_of_job(driver: Driver, name: str, words: list[str], wanted: str) -> tu
     if re.match(r"(?:FORMAT|PATH)\b", line["place"]):
         return place_in_arguments(driver, line, words)
     of_registry = place_told(driver, "registry_place", bytes_of(words[line["of"] == "NEW"]))
+    if name == "grows":
+        expect_in_growth(driver, words, of_registry, "newer" if line["of"] == "NEW" else "registry")
     if name in ON_REGISTRIES or of_registry:
         return as_told(line), of_registry
     given = words[3 if name == "part" else 2 :]
@@ -92,6 +94,16 @@ def place_of_job(driver: Driver, name: str, words: list[str], wanted: str) -> tu
         return as_told(line), told
     data = data if "--raw" in options else bytes_of_digits(data)
     return Place(line["place"], LIMIT.sub("", line["words"])), place_told(driver, "stop_place", *question, data)
+
+
+def expect_in_growth(driver: Driver, words: list[str], told: Place | None, kind: str) -> None:
+    """The call on growth reports the place in the registry that is refused, where it reads registries itself."""
+    asked = [driver.ask("growth_place", *map(bytes_of, words), what) for what in ("where", "wanted")]
+    if asked[0].status in ("registry", "newer"):
+        return
+    expect(told == Place(*(answer.output.decode() for answer in asked)), f"{asked} of growth")
+    answer = driver.ask("growth_place", *map(bytes_of, words), "kind")
+    expect(answer.output.decode() == kind, f"{answer} of growth")
 
 
 def expect_in_pair(driver: Driver, words: tuple[str | bytes, ...], told: Place | None) -> None:

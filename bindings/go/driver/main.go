@@ -269,6 +269,17 @@ func differences(older, newer []byte) string {
 	return output([]byte(text), err)
 }
 
+// growthPlace answers what is said about growth, or about a registry that is refused.
+func growthPlace(older, newer []byte, what string) string {
+	err := bcs.Grows(older, newer)
+	kind := bcs.KindGrowth
+	var refused *bcs.Error
+	if errors.As(err, &refused) && (refused.Kind == bcs.KindRegistry || refused.Kind == bcs.KindNewer) {
+		kind = refused.Kind
+	}
+	return told(err, kind, what)
+}
+
 func show(words []string) string {
 	registry, err := open(words[1])
 	if err != nil {
@@ -367,7 +378,7 @@ func answer(words []string) string {
 	case "grows":
 		return failed(bcs.Grows(unhex(words[1]), unhex(words[2])), done(0, 0))
 	case "growth_place":
-		return told(bcs.Grows(unhex(words[1]), unhex(words[2])), bcs.KindGrowth, words[3])
+		return growthPlace(unhex(words[1]), unhex(words[2]), words[3])
 	case "growth_list":
 		return differences(unhex(words[1]), unhex(words[2]))
 	case "show":

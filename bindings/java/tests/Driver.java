@@ -129,6 +129,19 @@ public final class Driver {
                 () -> registry.explain(format, none, Form.WAYS), () -> registry.schema(format), () -> registry.example(format));
     }
 
+    /** What is said about growth, or about a registry that is refused. */
+    private static String growthPlace(byte[] older, byte[] newer, String what) throws BcsException {
+        try {
+            Registry.grows(older, newer);
+            return NO;
+        } catch (BcsException e) {
+            return switch (e.kind()) {
+                case GROWTH, REGISTRY, NEWER -> place(e, what);
+                default -> throw e;
+            };
+        }
+    }
+
     private static String pathPlace(Registry registry, String format, byte[] data, String name, String notation, String what)
             throws BcsException {
         return alike(Kind.PATH, what, () -> found(registry, format, data, name, notation),
@@ -296,7 +309,7 @@ public final class Driver {
             case "growth_list":
                 return output(Registry.differences(unhex(words[1]), unhex(words[2])).stream().map(it -> it + "\n").collect(joining()));
             case "growth_place":
-                return alike(Kind.GROWTH, words[3], () -> { Registry.grows(unhex(words[1]), unhex(words[2])); return null; });
+                return growthPlace(unhex(words[1]), unhex(words[2]), words[3]);
             case "show":
                 return output(open(words[1]).show(unicode(words[2]), form(words[3])));
             case "registry_place":

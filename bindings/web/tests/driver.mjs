@@ -140,7 +140,7 @@ function answerTo(call, words) {
   if (call === 'registry_of_modules') return made(words);
   if (call === 'modules_place') return place(refusedBy(() => made(words)), words[2]);
   if (call === 'grows') return bcs.grows(...words.map(bytesOfHex)), DONE;
-  if (call === 'growth_place') return place(refusedBy(() => bcs.grows(...words.slice(0, 2).map(bytesOfHex)), ['growth']), words[2]);
+  if (call === 'growth_place') return place(refusedBy(() => bcs.grows(...words.slice(0, 2).map(bytesOfHex)), ['growth', 'registry', 'newer']), words[2]);
   if (call === 'growth_list') return put(bcs.differences(...words.map(bytesOfHex)).map((difference) => `${difference}\n`).join(''));
   if (call === 'show') return put(bcs.registry(bytesOfHex(words[0])).show(decoder.decode(bytesOfHex(words[1])), { json: words[2] === 'json' }));
   const [registryText, formatText, depth, nodes, ...others] = words;
