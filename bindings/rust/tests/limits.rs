@@ -1,5 +1,5 @@
 //! Limits: of the depth, and of the nodes.
-use bcs_proved::{ErrorKind, Form, Format, Limits, Reason, Registry, Stop, TextFault};
+use bcs_proved::{ErrorKind, Form, Format, Limits, Reason, Registry, Stop};
 
 mod common;
 use common::plain;
