@@ -72,7 +72,7 @@ ask_rows() {
 # pkg-config finds an installed library. If there is none, cargo's message says what to do.
 test_finding() {
     if [ -n "${BCS_PREFIX:-}" ]; then
-        step env -u BCS_LIB PKG_CONFIG_PATH="$BCS_PREFIX/lib/pkgconfig" cargo test --quiet --test transactions
+        step env -u BCS_LIB PKG_CONFIG_PATH="$BCS_PREFIX/lib/pkgconfig" cargo test --quiet --test values
     fi
     ! env -u BCS_LIB PKG_CONFIG=false cargo build --quiet >"$room/log" 2>&1 || fail "the crate was built without a library"
     step grep --quiet 'set BCS_LIB to the folder with libbcs.a' "$room/log"

@@ -273,7 +273,7 @@ def done(told: Answer) -> tuple[str, ...]:
 def answer(calls: Calls, line: str) -> tuple[str, ...]:
     """SQL lacks some calls, and takes a format that isn't JSON for the name of a container."""
     call, *words = line.split("\t")
-    if call in ("grows", "fault_name", "text_place", "registry_place", "modules_place"):
+    if not hasattr(Calls, call) or words[-1] in ("kind", "line"):
         raise Unsayable
     if call == "registry_of_modules":
         return done(calls.registry_of_modules(*(bytes.fromhex(word) for word in words)))

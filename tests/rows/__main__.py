@@ -22,7 +22,7 @@ from kinds import KINDS
 from modules import rows_of_modules
 from named_parts import names_of_pieces, run_row
 from pieces import pieces_of
-from places import has_place, place_told_row
+from places import has_place, place_told_row, rows_of_names
 from tests import ROOT, Tally, rows_of_tests
 from values import encode_row
 from views import views_row
@@ -60,6 +60,9 @@ def ask_places(driver: Driver, tally: Tally, without: set[str]) -> None:
             tally.skipped["places"] += 1
         else:
             tally.judge("places", row.name, partial(place_told_row, driver, row.words, row.wanted), row.wanted)
+    if "places" not in without:
+        for name, asked in rows_of_names(driver):
+            tally.judge("places", name, asked, "")
 
 
 def ask_pieces(driver: Driver, tally: Tally) -> None:

@@ -13,10 +13,20 @@ call `bcs_..` of the same name:
     content     QUESTION BYTES NAME NOTATION  (NOTATION: steps, name, pointer)
     explain     QUESTION BYTES FORM        (FORM: ways, paths, tree, json)
     explain_with  QUESTION BYTES FORM VIEWS   (VIEWS: lines as of bcs_handle_explain_with)
-    text_place  QUESTION TEXT WHAT         stop_place  QUESTION BYTES WHAT    (WHAT: where, wanted)
-    grows       OLDER NEWER                registry_place  REGISTRY WHAT
-    registry_of_modules  MODULES TYPES     modules_place   MODULES TYPES WHAT    (TYPES: one on each line)
+    schema      QUESTION                   example     QUESTION VARIANT FORM  (FORM: least, full)
+    show        REGISTRY NAME FORM         (FORM: ways, json)
+    grows       OLDER NEWER                growth_list  OLDER NEWER
+    registry_of_modules  MODULES TYPES     (TYPES: one on each line)
     fault_name  NUMBER
+
+The following report where something is refused. WHAT is `where` or `wanted`; or, for the error that the language throws
+or returns, `kind` or `line`.
+
+    text_place  QUESTION TEXT WHAT         stop_place  QUESTION BYTES WHAT
+    pair_place  QUESTION FIRST SECOND WHAT  (of `compare`)
+    format_place  QUESTION WHAT            path_place  QUESTION BYTES NAME NOTATION WHAT
+    registry_place  REGISTRY WHAT          growth_place  OLDER NEWER WHAT
+    modules_place  MODULES TYPES WHAT
 
 The answer has the fields STATUS (`done`, `registry`, `format`, `limits`, `refused`, `memory`, `no`, `path`, `newer` or
 `stack`, as in `bcs.h`), FAULT (a name such as `BadBool`, or `-`), PLACE and LENGTH (decimal, or 0), and OUTPUT
@@ -27,7 +37,7 @@ The answer has the fields STATUS (`done`, `registry`, `format`, `limits`, `refus
 - If the language returns a named part without its offset, OUTPUT is the part and PLACE is 0.
 - `explain` of invalid bytes is `done`; FAULT and PLACE show where they stop.
 - A call for a place is `done`, or `no` if nothing is refused. If errors include their place, the driver checks that all
-  calls that refuse the input agree.
+  calls that refuse the input, the format or the path agree. The answer for `line` has the fault and the offset, too.
 
 Rows `bcs --where` also have the program's line on standard error. The calls for places must return its location and
 message, without limits (`; --depth allows 1`). Names in a JSON Pointer and in a registry's location are unescaped

@@ -1,5 +1,6 @@
 """Rows on jobs of the program `bcs`: a call for each command, and what the program makes of its answer."""
 
+import json
 from collections.abc import Callable
 from typing import NamedTuple
 
@@ -7,9 +8,8 @@ from driver import Answer, Driver, Question, Refused, expect, stop_of
 from words import Unsayable, bytes_of, bytes_of_digits, format_of
 
 FORMS = {"--ways": "ways", "--paths": "paths", "--tree": "tree", "--json": "json"}
-COMMANDS_BEYOND_CALLS = {"show", "example", "schema"}
 OPTIONS = ("--raw", "--base64", "--front", "--lines", "--color", "--list", *FORMS)
-BEYOND_CALLS = {"--base64", "--lines", "--color", "--list"}
+BEYOND_CALLS = {"--base64", "--lines", "--color"}
 
 
 class Printed(NamedTuple):
@@ -27,6 +27,8 @@ def job_row(driver: Driver, registry: bytes, words: list[str], wanted: str) -> s
     """The status and what is put. What is behind that says where a refusal stands, which is asked in places.py. No call
     tells how many containers a good registry has, so that isn't compared."""
     name, *words = words[1:] if words[0] == "--where" else words
+    if name == "schema":
+        return schema_row(driver, words, wanted)
     try:
         printed = job(driver, name, words)
     except Refused as fault:
@@ -34,7 +36,20 @@ def job_row(driver: Driver, registry: bytes, words: list[str], wanted: str) -> s
     told = f"{printed.status} {debug(printed.output)}"
     if name == "check" and printed.status == 0:
         return wanted if wanted.startswith('0 "ok ') else told
-    return wanted if wanted.startswith(told + " ") else told
+    # (a text that ends in .. is the front of what is put)
+    is_front = wanted.endswith('.."') and told.startswith(wanted.removesuffix('.."'))
+    return wanted if is_front or wanted.startswith(told + " ") else told
+
+
+def schema_row(driver: Driver, words: list[str], wanted: str) -> str:
+    """A language may have the schema as a value, so blanks and the order of members aren't compared."""
+    try:
+        answer = Question(driver, bytes_of(words[0]), format_of(words[1]), []).ask("schema")
+    except Refused as fault:
+        told = f"2 {debug(refusal(fault).output)}"
+        return wanted if wanted.startswith(told) else told
+    printed = json.loads(wanted.removeprefix("0 ")) if wanted.startswith("0 ") else "null"
+    return wanted if json.loads(answer.output) == json.loads(printed) else debug(answer.output)
 
 
 def debug(output: bytes) -> str:
@@ -50,8 +65,10 @@ def debug(output: bytes) -> str:
 
 
 def job(driver: Driver, name: str, words: list[str]) -> Printed:
-    if name in COMMANDS_BEYOND_CALLS:
-        raise Unsayable
+    if name == "show":
+        return show_job(driver, words)
+    if name == "example":
+        return example_job(driver, words)
     if name == "check":
         Question(driver, bytes_of(words[0]), b'"UNIT"', []).ask("check")
         return Printed(0, b"")
@@ -61,9 +78,48 @@ def job(driver: Driver, name: str, words: list[str]) -> Printed:
     if BEYOND_CALLS & set(options):
         raise Unsayable
     if name == "grows":
-        answer = driver.ask("grows", bytes_of(words[0]), bytes_of(words[1]))
-        return Printed(0, b"grows\n") if answer.status == "done" else refusal(answer.fault)
+        return growth_job(driver, words[:-2], bytes_of(words[-2]), bytes_of(words[-1]))
     return value_job(driver, name, options, words[len(options) :])
+
+
+def growth_job(driver: Driver, options: list[str], older: bytes, newer: bytes) -> Printed:
+    """With --list, all differences come first."""
+    answer = driver.ask("grows", older, newer)
+    lines = driver.ask("growth_list", older, newer) if options else answer
+    expect(not options or lines.status == ("done" if answer.status == "refused" else answer.status), lines.status)
+    end = Printed(0, b"grows\n") if answer.status == "done" else refusal(answer.fault)
+    return end._replace(output=lines.output + end.output)
+
+
+def show_job(driver: Driver, words: list[str]) -> Printed:
+    is_json = words[0] == "--json"
+    registry, *name = map(bytes_of, words[is_json:])
+    Question(driver, registry, b'"UNIT"', []).ask("check")
+    answer = driver.ask("show", registry, name[0] if name else b"", "json" if is_json else "ways")
+    return document(answer, "format")
+
+
+def example_job(driver: Driver, words: list[str]) -> Printed:
+    variant, form = b"", "least"
+    while words[0].startswith("--"):
+        if words[0] == "--full":
+            form, words = "full", words[1:]
+        else:
+            variant, words = bytes_of(words[1]), words[2:]
+            # (in a call, an empty name selects none)
+            if not variant:
+                raise Unsayable
+    registry, format, *limits = words
+    question = Question(driver, bytes_of(registry), format_of(format), limits)
+    return document(question.ask("example", variant, form), "refused")
+
+
+def document(answer: Answer, refused: str) -> Printed:
+    """What the program prints ends a line."""
+    if answer.status == "done":
+        return Printed(0, answer.output if answer.output[-1:] in (b"", b"\n") else answer.output + b"\n")
+    expect(answer.status == refused, answer.status)
+    return refusal(answer.fault)
 
 
 def modules_job(driver: Driver, words: list[str]) -> Printed:

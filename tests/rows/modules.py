@@ -104,6 +104,19 @@ MADE = [
 ]
 
 
+LONG = "a" * 1000
+# Names that are no text of C, that aren't ASCII, or are long.
+ODD = [
+    ("[]", "\0", "BadType", ARGUMENT, '"\\u0000" isn\'t a type'),
+    ("[]", "a\0b\0", "BadType", ARGUMENT, '"a\\u0000b\\u0000" isn\'t a type'),
+    ("[]", "é🦀", "BadType", ARGUMENT, '"\\u00e9'),
+    ("[]", "u8\r", "BadType", ARGUMENT, "isn't a type"),
+    ("[]", "signer", "NoBytes", ARGUMENT, "a signer has no bytes"),
+    ('{"é\\u0000":[{"b":1,"b":2}]}', "u8", "RepeatedMember", "/é\0/0/b", "delete one"),
+    (f'{{"{LONG}":1,"{LONG}":2}}', "u8", "RepeatedMember", f"/{LONG}", "delete one"),
+]
+
+
 def text_of(modules: Any) -> bytes:
     return (modules if isinstance(modules, str) else json.dumps(modules)).encode()
 
@@ -170,7 +183,7 @@ def values_row(driver: Driver, modules: Any, types: list[str], name: str) -> Non
 def all_rows(driver: Driver) -> Iterator[tuple[str, str, Callable[[], None]]]:
     for made in MADE:
         yield "modules", f"registries of modules: {made.types}", partial(made_row, driver, made)
-    for modules, kind, name, place, words in REFUSED:
+    for modules, kind, name, place, words in [*REFUSED, *ODD]:
         # (a line can't have this type: each language tests it)
         if kind:
             row = f"registries of modules: {name} of {kind} at {place}"

@@ -10,12 +10,12 @@ import io
 import sys
 
 from driver import Answer, Driver
-from places import has_place, place_told_row
+from places import KINDS, has_place, place_told_row
 from tests import Tally, rows_of_tests
 
 
 class Planted(Driver):
-    """Puts a sign behind what one call tells."""
+    """Puts a sign before what one call tells."""
 
     def __init__(self, command: list[str], call: str, what: str) -> None:
         super().__init__(command)
@@ -26,7 +26,7 @@ class Planted(Driver):
         if call != self.call or words[-1] != self.what or answer.status != "done":
             return answer
         self.changed += 1
-        return answer._replace(length=answer.length + 1, output=answer.output + b"x")
+        return answer._replace(length=answer.length + 1, output=b"x" + answer.output)
 
 
 def are_found(driver: Planted) -> bool:
@@ -44,7 +44,9 @@ def main(words: list[str]) -> int:
     if not words:
         print(__doc__, file=sys.stderr)
         return 3
-    calls = [(call, what) for call in ("text_place", "stop_place", "registry_place") for what in ("where", "wanted")]
+    calls = [
+        (call, what) for call in KINDS if call not in ("modules_place", "pair_place") for what in ("where", "wanted")
+    ]
     found = [are_found(Planted(words, call, what)) for call, what in calls]
     return 0 if all(found) else 1
 

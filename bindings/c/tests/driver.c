@@ -3,18 +3,27 @@
 #include "jobs.h"
 #include <errno.h>
 
-#define WORDS 8
+#define WORDS 9
 
 /* The words of calls, in the order of enum call. */
 static const char *const call_words[] = {"check",      "grows",      "to_bcs",        "from_bcs", "normalise",
                                          "compare",    "scan",       "part",          "explain",  "fault_name",
                                          "text_place", "stop_place", "registry_place", "part_named",
                                          "registry_of_modules", "modules_place",
-                                         [CONTENT] = "content", [EXPLAIN_WITH] = "explain_with"};
+                                         [PATH_PLACE] = "path_place",
+                                         [GROWTH_LIST] = "growth_list",
+                                         [GROWTH_PLACE] = "growth_place",
+                                         [CONTENT] = "content",
+                                         [EXPLAIN_WITH] = "explain_with",
+                                         [SCHEMA] = "schema",
+                                         [EXAMPLE] = "example",
+                                         [SHOW] = "show",
+                                         [FORMAT_PLACE] = "format_place"};
 static const char *const status_words[] = {"done",    "short",  "registry", "format", "limits",
                                            "refused", "memory", "no",       "path",   "newer",  "closed"};
 static const char *const form_words[] = {"ways", "paths", "tree", "json"};
 static const char *const what_words[] = {"where", "wanted"};
+static const char *const example_words[] = {[BCS_LEAST] = "least", [BCS_FULL] = "full"};
 static const char *const notation_words[] = {"steps", "name", "pointer"};
 #define COUNT(words) (sizeof(words) / sizeof *(words))
 
@@ -76,7 +85,9 @@ static size_t split(char *line, char *words[WORDS]) {
 
 static struct job job_of(char *words[WORDS], size_t count) {
     struct job job = {.call = (enum call)number_of(words[0], call_words, COUNT(call_words))};
-    const size_t counts[] = {5, 3, 6, 6, 6, 7, 6, 7, 7, 2, 7, 7, 3, 8, 3, 4, [CONTENT] = 8, [EXPLAIN_WITH] = 8};
+    const size_t counts[] = {5, 3, 6, 6, 6, 7, 6, 7, 7, 2, 7, 7, 3, 8, 3, 4, [PATH_PLACE] = 9, [GROWTH_LIST] = 3,
+                             [GROWTH_PLACE] = 4, [CONTENT] = 8, [EXPLAIN_WITH] = 8, [SCHEMA] = 5, [EXAMPLE] = 7,
+                             [SHOW] = 4, [FORMAT_PLACE] = 6};
     if (count != counts[job.call]) {
         fail("not the number of words", words[0]);
     }
@@ -86,7 +97,14 @@ static struct job job_of(char *words[WORDS], size_t count) {
         job.call = REGISTRY_REFUSAL;
         job.input = bytes_of(words[1]);
         job.number = (uint32_t)number_of(words[2], what_words, COUNT(what_words));
-    } else if (job.call == GROWS || job.call == REGISTRY_OF_MODULES || job.call == MODULES_PLACE) {
+    } else if (job.call == SHOW) {
+        job.registry = bytes_of(words[1]);
+        job.input = bytes_of(words[2]);
+        job.number = (uint32_t)number_of(words[3], form_words, COUNT(form_words));
+    } else if (job.call == PATH_PLACE) {
+        job.input = bytes_of(words[6]);
+        job.number = (uint32_t)number_of(words[8], what_words, COUNT(what_words));
+    } else if (job.call == GROWS || (job.call >= REGISTRY_OF_MODULES && job.call <= GROWTH_PLACE)) {
         job.input = bytes_of(words[1]);
         job.second = bytes_of(words[2]);
         job.number = count > 3 ? (uint32_t)number_of(words[3], what_words, COUNT(what_words)) : 0;
@@ -95,11 +113,17 @@ static struct job job_of(char *words[WORDS], size_t count) {
         job.format = bytes_of(words[2]);
         job.depth = decimal(words[3]);
         job.nodes = decimal(words[4]);
+        if (job.call == FORMAT_PLACE) {
+            job.number = (uint32_t)number_of(words[5], what_words, COUNT(what_words));
+            return job;
+        }
         job.input = count > 5 ? bytes_of(words[5]) : job.format;
         if (job.call == EXPLAIN) {
             job.number = (uint32_t)number_of(words[6], form_words, COUNT(form_words));
         } else if (job.call == TEXT_PLACE || job.call == STOP_PLACE) {
             job.number = (uint32_t)number_of(words[6], what_words, COUNT(what_words));
+        } else if (job.call == EXAMPLE) {
+            job.number = (uint32_t)number_of(words[6], example_words, COUNT(example_words));
         } else if (job.call == EXPLAIN_WITH) {
             job.number = (uint32_t)number_of(words[6], form_words, COUNT(form_words));
             job.second = bytes_of(words[7]);
@@ -176,6 +200,19 @@ static bcs_answer half_of(bcs_answer whole, uint32_t what, uint8_t *out) {
     return (bcs_answer){.status = BCS_DONE, .length = what == BCS_WANTED ? message : place};
 }
 
+/* Whether C has no such words: an error, the place in one of two texts, and where a name or a pointer is invalid. */
+static bool is_unsayable(char *const words[WORDS], size_t count) {
+    const char *const last = words[count - 1];
+    return strcmp(last, "kind") == 0 || strcmp(last, "line") == 0 || strcmp(words[0], "pair_place") == 0 ||
+           (strcmp(words[0], "path_place") == 0 && strcmp(words[7], "steps") != 0);
+}
+
+/* Whether the answer has both halves of a refusal. */
+static bool is_whole(enum call call) {
+    return call == REGISTRY_REFUSAL || call == MODULES_PLACE || call == PATH_PLACE || call == GROWTH_PLACE ||
+           call == FORMAT_PLACE;
+}
+
 static void tell(const struct job *job, bcs_answer answer, const uint8_t *out) {
     uint8_t name[40] = "-";
     size_t length = 1;
@@ -209,10 +246,15 @@ int main(int count, char **arguments) {
             line[length - 1] = 0;
         }
         char *words[WORDS];
-        const struct job job = job_of(words, split(line, words));
+        const size_t word_count = split(line, words);
+        if (is_unsayable(words, word_count)) {
+            printf("unsayable\n");
+            fflush(stdout);
+            continue;
+        }
+        const struct job job = job_of(words, word_count);
         const bcs_answer answer = make_whole(way, &job, &out, &room);
-        const bool is_whole = job.call == REGISTRY_REFUSAL || job.call == MODULES_PLACE;
-        tell(&job, is_whole ? half_of(answer, job.number, out) : answer, out);
+        tell(&job, is_whole(job.call) ? half_of(answer, job.number, out) : answer, out);
     }
     bcs_close(handle);
     free((void *)open_text.at);

@@ -44,9 +44,12 @@ func done(place, length int) string {
 
 const no = "no\t-\t0\t0\t"
 
-var statuses = map[bcs.Kind]string{bcs.KindRegistry: "registry", bcs.KindNewer: "newer", bcs.KindFormat: "format",
-	bcs.KindLimits: "limits", bcs.KindPath: "path", bcs.KindText: "refused", bcs.KindBytes: "refused",
-	bcs.KindGrowth: "refused", bcs.KindModules: "refused", bcs.KindStack: "stack"}
+// The kinds of what calls refuse of their input. Other calls read bytes.
+var kinds = map[string]bcs.Kind{"to_bcs": bcs.KindText, "normalise": bcs.KindText, "compare": bcs.KindText, "grows": bcs.KindGrowth,
+	"registry_of_modules": bcs.KindModules, "example": bcs.KindExample}
+
+// refuses is the kind for the call of this line.
+var refuses bcs.Kind
 
 // failed answers an error; the answer of a call without one is `otherwise`.
 func failed(err error, otherwise string) string {
@@ -61,52 +64,73 @@ func failed(err error, otherwise string) string {
 	case refused.Kind == bcs.KindLimits:
 		return line("limits", "-", 0, 0, nil)
 	}
-	place := refused.Place
-	if place < 0 {
-		place = 0
+	if hasPlace := refused.Kind == bcs.KindBytes && refused.Reason != "TooNested"; hasPlace != (refused.Place >= 0) {
+		fail(fmt.Errorf("the place %d of %v", refused.Place, refused))
 	}
-	return line(statuses[refused.Kind], refused.Reason, place, 0, nil)
+	status := string(refused.Kind)
+	if refused.Kind == refuses {
+		status = "refused"
+	}
+	return line(status, refused.Reason, placeOf(refused), 0, nil)
+}
+
+func placeOf(refused *bcs.Error) int {
+	if refused.Place < 0 {
+		return 0
+	}
+	return refused.Place
 }
 
 func output(out []byte, err error) string {
 	return failed(err, line("done", "-", 0, len(out), out))
 }
 
-// told answers what an error says about a place.
-func told(err error, what string) string {
+// told answers what an error of this kind says about a place.
+func told(err error, kind bcs.Kind, what string) string {
 	var refused *bcs.Error
-	if !errors.As(err, &refused) {
+	if !errors.As(err, &refused) || refused.Kind != kind {
 		return failed(err, no)
 	}
-	switch refused.Kind {
-	case bcs.KindText, bcs.KindBytes, bcs.KindRegistry, bcs.KindModules:
-	default:
-		return failed(err, no)
-	}
-	if refused.Message == "" {
+	text := refused.Error()
+	switch {
+	case refused.Message == "":
 		return no
+	case what == "line":
+		return line("done", refused.Reason, placeOf(refused), len(text), []byte(text))
 	}
-	if what == "where" {
-		return output([]byte(refused.At), nil)
-	}
-	return output([]byte(refused.Message), nil)
+	says := map[string]string{"where": refused.At, "wanted": refused.Message, "kind": string(refused.Kind)}
+	return output([]byte(says[what]), nil)
 }
 
-// alike fails unless all calls that refuse an input say the same.
-func alike(first error, others ...error) {
+func errorOf[T any](_ T, err error) error { return err }
+
+// alike fails unless all calls that refuse the same say the same, and returns that.
+func alike(first error, others ...error) error {
 	for _, other := range others {
 		if !reflect.DeepEqual(first, other) {
 			fail(fmt.Errorf("%v, but %v", first, other))
 		}
 	}
+	return first
 }
 
 func textPlace(r *bcs.Registry, format string, json []byte, what string) string {
-	_, encoded := r.EncodeJSON(format, json)
-	_, normalised := r.NormaliseJSON(format, json)
-	_, compared := r.EqualJSON(format, json, json)
-	alike(encoded, normalised, compared)
-	return told(encoded, what)
+	refused := alike(errorOf(r.EncodeJSON(format, json)), errorOf(r.NormaliseJSON(format, json)), errorOf(r.EqualJSON(format, json, json)))
+	return told(refused, bcs.KindText, what)
+}
+
+func formatPlace(r *bcs.Registry, format, what string) string {
+	zero, text := []byte("0"), errorOf(r.Explain(format, nil, bcs.FormWays))
+	refused := alike(r.Check(format), errorOf(r.EncodeJSON(format, zero)), errorOf(r.Encode(format, 0)), errorOf(r.DecodeJSON(format, nil)),
+		errorOf(r.Decode(format, nil)), errorOf(r.NormaliseJSON(format, zero)), errorOf(r.EqualJSON(format, zero, zero)),
+		errorOf(r.Scan(format, nil)), errorOf(r.Part(format, nil, ".")), errorOf(r.Content(format, nil, ".")), text,
+		errorOf(r.Schema(format)), errorOf(r.Example(format, bcs.ExampleOptions{})))
+	return told(refused, bcs.KindFormat, what)
+}
+
+func pathPlace(r *bcs.Registry, format string, data []byte, name, notation, what string) string {
+	refused := alike(errorOf(parts(r)[notation](format, data, name)), errorOf(contents(r)[notation](format, data, name)))
+	return told(refused, bcs.KindPath, what)
 }
 
 // stopPlace asks three calls. Scan accepts bytes behind the value.
@@ -118,7 +142,17 @@ func stopPlace(r *bcs.Registry, format string, data []byte, what string) string 
 	if explained, err := r.Explain(format, data, bcs.FormWays); err == nil && explained.Damage != nil {
 		alike(decoded, explained.Damage)
 	}
-	return told(decoded, what)
+	return told(decoded, bcs.KindBytes, what)
+}
+
+type find = func(format string, data []byte, name string) (*bcs.Part, error)
+
+func parts(r *bcs.Registry) map[string]find {
+	return map[string]find{"steps": r.Part, "name": r.PartByName, "pointer": r.PartByPointer}
+}
+
+func contents(r *bcs.Registry) map[string]find {
+	return map[string]find{"steps": r.Content, "name": r.ContentByName, "pointer": r.ContentByPointer}
 }
 
 func part(found *bcs.Part, err error) string {
@@ -127,6 +161,9 @@ func part(found *bcs.Part, err error) string {
 	}
 	if found == nil {
 		return no
+	}
+	if cap(found.Data) != len(found.Data) {
+		fail(errors.New("appending to the part would change the bytes behind it"))
 	}
 	return done(found.Place, len(found.Data))
 }
@@ -211,8 +248,52 @@ func open(digits string) (*bcs.Registry, error) {
 	return registry, nil
 }
 
+// decode answers the JSON, which is that of the value at the beginning of longer bytes, too.
+func decode(r *bcs.Registry, format string, data []byte) string {
+	json, err := r.DecodeJSON(format, data)
+	if err == nil {
+		prefix, length, err := r.DecodePrefixJSON(format, append(append([]byte{}, data...), 0xff))
+		if err != nil || length != len(data) || string(prefix) != string(json) {
+			fail(fmt.Errorf("a prefix: %s, %d, %v", prefix, length, err))
+		}
+	}
+	return output(json, err)
+}
+
+func differences(older, newer []byte) string {
+	lines, err := bcs.Differences(older, newer)
+	var text string
+	for _, difference := range lines {
+		text += difference + "\n"
+	}
+	return output([]byte(text), err)
+}
+
+// growthPlace answers what is said about growth, or about a registry that is refused.
+func growthPlace(older, newer []byte, what string) string {
+	err := bcs.Grows(older, newer)
+	kind := bcs.KindGrowth
+	var refused *bcs.Error
+	if errors.As(err, &refused) && (refused.Kind == bcs.KindRegistry || refused.Kind == bcs.KindNewer) {
+		kind = refused.Kind
+	}
+	return told(err, kind, what)
+}
+
+func show(words []string) string {
+	registry, err := open(words[1])
+	if err != nil {
+		return failed(err, "")
+	}
+	text, err := registry.Show(string(unhex(words[2])), forms[words[3]])
+	return output([]byte(text), err)
+}
+
 func answerOn(r *bcs.Registry, format string, words []string) string {
 	call, first := words[0], []byte{}
+	if call == "format_place" {
+		return formatPlace(r, format, words[5])
+	}
 	if len(words) > 5 {
 		first = unhex(words[5])
 	}
@@ -222,7 +303,7 @@ func answerOn(r *bcs.Registry, format string, words []string) string {
 	case "to_bcs":
 		return output(r.EncodeJSON(format, first))
 	case "from_bcs":
-		return output(r.DecodeJSON(format, first))
+		return decode(r, format, first)
 	case "normalise":
 		return output(r.NormaliseJSON(format, first))
 	case "compare":
@@ -234,12 +315,9 @@ func answerOn(r *bcs.Registry, format string, words []string) string {
 	case "part":
 		return part(r.Part(format, first, string(unhex(words[6]))))
 	case "part_named":
-		find := map[string]func(string, []byte, string) (*bcs.Part, error){"name": r.PartByName, "pointer": r.PartByPointer}
-		return part(find[words[7]](format, first, string(unhex(words[6]))))
+		return part(parts(r)[words[7]](format, first, string(unhex(words[6]))))
 	case "content":
-		find := map[string]func(string, []byte, string) (*bcs.Part, error){"steps": r.Content, "name": r.ContentByName,
-			"pointer": r.ContentByPointer}
-		return content(find[words[7]](format, first, string(unhex(words[6]))))
+		return content(contents(r)[words[7]](format, first, string(unhex(words[6]))))
 	case "explain_with":
 		views, areSayable := viewsOf(string(unhex(words[7])))
 		if !areSayable {
@@ -250,8 +328,16 @@ func answerOn(r *bcs.Registry, format string, words []string) string {
 		return explain(r, format, first, words[6])
 	case "text_place":
 		return textPlace(r, format, first, words[6])
+	case "pair_place":
+		return told(errorOf(r.EqualJSON(format, first, unhex(words[6]))), bcs.KindText, words[7])
 	case "stop_place":
 		return stopPlace(r, format, first, words[6])
+	case "path_place":
+		return pathPlace(r, format, first, string(unhex(words[6])), words[7], words[8])
+	case "schema":
+		return output(r.Schema(format))
+	case "example":
+		return output(r.Example(format, bcs.ExampleOptions{Variant: string(first), Full: words[6] == "full"}))
 	}
 	fail(fmt.Errorf("no such call: %s", call))
 	return ""
@@ -271,6 +357,9 @@ func answerMade(made *bcs.MadeRegistry, err error) string {
 	if err != nil {
 		return failed(err, "")
 	}
+	if cap(made.JSON) != len(made.JSON) {
+		fail(errors.New("appending to the registry would change what is behind it"))
+	}
 	text := string(made.JSON)
 	if made.Notes != "" {
 		text += "\n" + made.Notes
@@ -279,19 +368,29 @@ func answerMade(made *bcs.MadeRegistry, err error) string {
 }
 
 func answer(words []string) string {
+	refuses = bcs.KindBytes
+	if kind, is := kinds[words[0]]; is {
+		refuses = kind
+	}
 	switch words[0] {
 	case "fault_name":
 		return "unsayable"
 	case "grows":
 		return failed(bcs.Grows(unhex(words[1]), unhex(words[2])), done(0, 0))
+	case "growth_place":
+		return growthPlace(unhex(words[1]), unhex(words[2]), words[3])
+	case "growth_list":
+		return differences(unhex(words[1]), unhex(words[2]))
+	case "show":
+		return show(words)
 	case "registry_place":
 		_, err := bcs.Open(unhex(words[1]))
-		return told(err, words[2])
+		return told(err, bcs.KindRegistry, words[2])
 	case "registry_of_modules":
 		return answerMade(made(words))
 	case "modules_place":
 		_, err := made(words)
-		return told(err, words[3])
+		return told(err, bcs.KindModules, words[3])
 	}
 	format := string(unhex(words[2]))
 	if !strings.HasPrefix(format, "{") && !strings.HasPrefix(format, `"`) {

@@ -1,20 +1,25 @@
+import static java.util.stream.Collectors.joining;
+
 import bcsproved.BcsException;
+import bcsproved.BcsException.Kind;
 import bcsproved.Explanation;
 import bcsproved.Form;
 import bcsproved.Limits;
 import bcsproved.MadeRegistry;
 import bcsproved.Part;
+import bcsproved.Prefix;
 import bcsproved.Registry;
 import bcsproved.Views;
 import java.io.BufferedReader;
-import java.io.IOException;
 import java.io.InputStreamReader;
 import java.nio.ByteBuffer;
 import java.nio.charset.CharacterCodingException;
 import java.nio.charset.StandardCharsets;
+import java.util.Arrays;
 import java.util.HexFormat;
 import java.util.List;
 import java.util.Locale;
+import java.util.Map;
 import java.util.Objects;
 import java.util.Optional;
 
@@ -55,24 +60,29 @@ public final class Driver {
         return output(out.getBytes(StandardCharsets.UTF_8));
     }
 
-    private static String refused(BcsException e) {
-        String status = switch (e.kind()) {
-            case TEXT, BYTES, GROWTH, MODULES -> "refused";
-            default -> e.kind().name().toLowerCase(Locale.ROOT);
-        };
+    /** The kinds of what calls refuse of their input. Other calls read bytes. */
+    private static final Map<String, Kind> KINDS = Map.of("to_bcs", Kind.TEXT, "normalise", Kind.TEXT, "compare", Kind.TEXT,
+            "grows", Kind.GROWTH, "registry_of_modules", Kind.MODULES, "example", Kind.EXAMPLE);
+
+    private static String refused(BcsException e, String call) {
+        if (e.place() >= 0 != (e.kind() == Kind.BYTES && !"TooNested".equals(e.reason()))) {
+            throw new AssertionError("the place " + e.place() + " of " + e);
+        }
+        boolean isOfInput = e.kind() == KINDS.getOrDefault(call, Kind.BYTES);
+        String status = isOfInput ? "refused" : e.kind().name().toLowerCase(Locale.ROOT);
         return line(status, e.reason() == null ? "-" : e.reason(), Math.max(e.place(), 0), 0, new byte[0]);
     }
 
-    /** What a call refuses of its input, or null. */
-    private static BcsException refusal(Refusing call) throws BcsException {
+    /** What a call refuses of this kind, or null. */
+    private static BcsException refusal(Kind kind, Refusing call) throws BcsException {
         try {
             call.call();
             return null;
         } catch (BcsException e) {
-            return switch (e.kind()) {
-                case TEXT, BYTES, REGISTRY, MODULES -> e;
-                default -> throw e;
-            };
+            if (e.kind() != kind) {
+                throw e;
+            }
+            return e;
         }
     }
 
@@ -84,21 +94,76 @@ public final class Driver {
     }
 
     private static String place(BcsException refusal, String what) {
-        String told = refusal == null ? null : what.equals("where") ? refusal.at() : refusal.message();
-        return told == null ? NO : output(told);
+        if (refusal == null || refusal.message() == null) {
+            return NO;
+        }
+        byte[] line = refusal.getMessage().getBytes(StandardCharsets.UTF_8);
+        return switch (what) {
+            case "where" -> output(refusal.at() == null ? "" : refusal.at());
+            case "wanted" -> output(refusal.message());
+            case "kind" -> output(refusal.kind().name().toLowerCase(Locale.ROOT));
+            default -> line("done", refusal.reason(), Math.max(refusal.place(), 0), line.length, line);
+        };
+    }
+
+    /** Each call is refused alike. */
+    private static String alike(Kind kind, String what, Refusing first, Refusing... others) throws BcsException {
+        BcsException refusal = refusal(kind, first);
+        for (Refusing other : others) {
+            expectAlike(refusal, refusal(kind, other));
+        }
+        return place(refusal, what);
     }
 
     private static String textPlace(Registry registry, String format, byte[] json, String what) throws BcsException {
-        BcsException encoded = refusal(() -> registry.encodeJson(format, json));
-        expectAlike(encoded, refusal(() -> registry.normaliseJson(format, json)));
-        expectAlike(encoded, refusal(() -> registry.equalJson(format, json, json)));
-        return place(encoded, what);
+        return alike(Kind.TEXT, what, () -> registry.encodeJson(format, json), () -> registry.normaliseJson(format, json),
+                () -> registry.equalJson(format, json, json));
+    }
+
+    private static String formatPlace(Registry registry, String format, String what) throws BcsException {
+        byte[] none = new byte[0];
+        return alike(Kind.FORMAT, what, () -> { registry.check(format); return null; }, () -> registry.encodeJson(format, "0"),
+                () -> registry.encode(format, 0), () -> registry.decodeJson(format, none), () -> registry.decode(format, none),
+                () -> registry.normaliseJson(format, "0"), () -> registry.equalJson(format, "0", "0"),
+                () -> registry.scan(format, none), () -> registry.part(format, none, "."), () -> registry.content(format, none, "."),
+                () -> registry.explain(format, none, Form.WAYS), () -> registry.schema(format), () -> registry.example(format));
+    }
+
+    /** What is said about growth, or about a registry that is refused. */
+    private static String growthPlace(byte[] older, byte[] newer, String what) throws BcsException {
+        try {
+            Registry.grows(older, newer);
+            return NO;
+        } catch (BcsException e) {
+            return switch (e.kind()) {
+                case GROWTH, REGISTRY, NEWER -> place(e, what);
+                default -> throw e;
+            };
+        }
+    }
+
+    private static String pathPlace(Registry registry, String format, byte[] data, String name, String notation, String what)
+            throws BcsException {
+        return alike(Kind.PATH, what, () -> found(registry, format, data, name, notation),
+                () -> found(registry, format, data, name, "content " + notation));
+    }
+
+    private static Optional<Part> found(Registry registry, String format, byte[] data, String name, String notation)
+            throws BcsException {
+        return switch (notation) {
+            case "steps" -> registry.part(format, data, name);
+            case "name" -> registry.partByName(format, data, name);
+            case "pointer" -> registry.partByPointer(format, data, name);
+            case "content steps" -> registry.content(format, data, name);
+            case "content name" -> registry.contentByName(format, data, name);
+            default -> registry.contentByPointer(format, data, name);
+        };
     }
 
     /** Asks three calls. {@code scan} accepts bytes behind the value. */
     private static String stopPlace(Registry registry, String format, byte[] data, String what) throws BcsException {
-        BcsException decoded = refusal(() -> registry.decodeJson(format, data));
-        BcsException scanned = refusal(() -> registry.scan(format, data));
+        BcsException decoded = refusal(Kind.BYTES, () -> registry.decodeJson(format, data));
+        BcsException scanned = refusal(Kind.BYTES, () -> registry.scan(format, data));
         BcsException damage = registry.explain(format, data, Form.WAYS).damage();
         if (scanned != null) {
             expectAlike(decoded, scanned);
@@ -143,11 +208,7 @@ public final class Driver {
 
     private static String content(Registry registry, String format, byte[] data, String name, String notation) throws BcsException {
         try {
-            return part(switch (notation) {
-                case "steps" -> registry.content(format, data, name);
-                case "name" -> registry.contentByName(format, data, name);
-                default -> registry.contentByPointer(format, data, name);
-            });
+            return part(found(registry, format, data, name, "content " + notation));
         } catch (BcsException e) { // a part without content isn't an invalid path
             if ("NoContent".equals(e.reason())) {
                 return line("refused", e.reason(), 0, 0, new byte[0]);
@@ -190,7 +251,7 @@ public final class Driver {
             case "to_bcs":
                 return output(registry.encodeJson(format, first));
             case "from_bcs":
-                return output(registry.decodeJson(format, first));
+                return output(decoded(registry, format, first));
             case "normalise":
                 return output(registry.normaliseJson(format, first));
             case "compare":
@@ -198,10 +259,9 @@ public final class Driver {
             case "scan":
                 return line("done", "-", 0, registry.scan(format, first), new byte[0]);
             case "part":
-                return part(registry.part(format, first, unicode(words[6])));
+                return part(found(registry, format, first, unicode(words[6]), "steps"));
             case "part_named":
-                return part(words[7].equals("name") ? registry.partByName(format, first, unicode(words[6]))
-                        : registry.partByPointer(format, first, unicode(words[6])));
+                return part(found(registry, format, first, unicode(words[6]), words[7]));
             case "content":
                 return content(registry, format, first, unicode(words[6]), words[7]);
             case "explain_with":
@@ -210,11 +270,28 @@ public final class Driver {
                 return explained(registry.explain(format, first, form(words[6])));
             case "text_place":
                 return textPlace(registry, format, first, words[6]);
+            case "pair_place":
+                return alike(Kind.TEXT, words[7], () -> registry.equalJson(format, first, unhex(words[6])));
             case "stop_place":
                 return stopPlace(registry, format, first, words[6]);
+            case "path_place":
+                return pathPlace(registry, format, first, unicode(words[6]), words[7], words[8]);
+            case "schema":
+                return output(registry.schema(format));
+            case "example":
+                return output(registry.example(format, unicode(words[5]), words[6].equals("full")));
             default:
                 throw new AssertionError("no such call: " + words[0]);
         }
+    }
+
+    /** The value at the beginning of longer bytes is the same. */
+    private static String decoded(Registry registry, String format, byte[] data) throws BcsException {
+        String json = registry.decodeJson(format, data);
+        if (!registry.decodePrefixJson(format, Arrays.copyOf(data, data.length + 1)).equals(new Prefix<>(json, data.length))) {
+            throw new AssertionError("the prefix isn't " + json);
+        }
+        return json;
     }
 
     /** The types, which the line has one below the other. */
@@ -229,39 +306,53 @@ public final class Driver {
             case "grows":
                 Registry.grows(unhex(words[1]), unhex(words[2]));
                 return DONE;
+            case "growth_list":
+                return output(Registry.differences(unhex(words[1]), unhex(words[2])).stream().map(it -> it + "\n").collect(joining()));
+            case "growth_place":
+                return growthPlace(unhex(words[1]), unhex(words[2]), words[3]);
+            case "show":
+                return output(open(words[1]).show(unicode(words[2]), form(words[3])));
             case "registry_place":
-                return place(refusal(() -> Registry.open(unhex(words[1]))), words[2]);
+                return alike(Kind.REGISTRY, words[2], () -> Registry.open(unhex(words[1])));
             case "registry_of_modules":
                 MadeRegistry made = Registry.registryOfModules(unhex(words[1]), lines(words[2]));
                 return output(made.notes().isEmpty() ? made.json() : made.json() + "\n" + made.notes());
             case "modules_place":
                 List<String> types = lines(words[2]);
-                return place(refusal(() -> Registry.registryOfModules(unhex(words[1]), types)), words[3]);
+                return alike(Kind.MODULES, words[3], () -> Registry.registryOfModules(unhex(words[1]), types));
         }
         String format = unicode(words[2]);
         if (!format.startsWith("{") && !format.startsWith("\"")) {
             throw new Unsayable(); // such a format is a name
         }
         Limits limits = new Limits(Long.parseLong(words[3]), Long.parseLong(words[4]));
+        if (words[0].equals("format_place")) {
+            return formatPlace(open(words[1]).withLimits(limits), format, words[5]);
+        }
         byte[] first = words.length > 5 ? unhex(words[5]) : new byte[0];
         return answerOn(open(words[1]).withLimits(limits), format, first, words);
     }
 
-    public static void main(String[] arguments) throws IOException {
-        BufferedReader lines = new BufferedReader(new InputStreamReader(System.in, StandardCharsets.US_ASCII));
-        for (String line = lines.readLine(); line != null; line = lines.readLine()) {
-            String told;
-            try {
-                told = answer(line.split("\t", -1));
-            } catch (BcsException e) {
-                told = refused(e);
-            } catch (OutOfMemoryError e) {
-                told = line("memory", "-", 0, 0, new byte[0]);
-            } catch (Unsayable e) {
-                told = "unsayable";
-            }
-            System.out.print(told + "\n");
-            System.out.flush();
+    private static String told(String line) {
+        String[] words = line.split("\t", -1);
+        try {
+            return answer(words);
+        } catch (BcsException e) {
+            return refused(e, words[0]);
+        } catch (OutOfMemoryError e) {
+            return line("memory", "-", 0, 0, new byte[0]);
+        } catch (Unsayable e) {
+            return "unsayable";
         }
+    }
+
+    /** On a thread with stack for each row. */
+    public static void main(String[] arguments) {
+        new Thread(null, () -> {
+            new BufferedReader(new InputStreamReader(System.in, StandardCharsets.US_ASCII)).lines().forEach(line -> {
+                System.out.print(told(line) + "\n");
+                System.out.flush();
+            });
+        }, "driver", 16 << 20).start();
     }
 }

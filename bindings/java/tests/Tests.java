@@ -2,11 +2,9 @@ import static java.util.stream.Collectors.joining;
 
 import bcsproved.BcsException;
 import bcsproved.BcsException.Kind;
-import bcsproved.Explanation;
 import bcsproved.Form;
 import bcsproved.Limits;
 import bcsproved.MadeRegistry;
-import bcsproved.Part;
 import bcsproved.Prefix;
 import bcsproved.Registry;
 import bcsproved.Views;
@@ -17,7 +15,6 @@ import java.util.ArrayList;
 import java.util.Arrays;
 import java.util.HexFormat;
 import java.util.List;
-import java.util.Optional;
 import java.util.concurrent.atomic.AtomicInteger;
 import java.util.stream.IntStream;
 
@@ -36,121 +33,40 @@ public final class Tests extends Check {
         equal(registry.decodeJson(format, data), normal);
         equal(registry.normaliseJson(format, json), normal);
         equal(registry.equalJson(format, json, normal), true);
-        byte[] more = Arrays.copyOf(data, data.length + 2);
-        equal(registry.scan(format, more), data.length);
-        Part part = registry.part(format, more, ".").get();
-        equal(part.place(), 0);
-        equal(HexFormat.of().formatHex(part.data()), digits);
     }
 
-    private static void values() throws BcsException {
+    /** The calls that take a string of Java. The rows of tests/rows go through the others. */
+    private static void strings() throws BcsException {
         try (Registry registry = Registry.open(SHAPES)) {
             value(registry, "Point", " {\"~/\": [\"00FF\", \"\"], \"x\": 7} ", "07020200ff00", "{\"x\":7,\"~/\":[\"00ff\",\"\"]}");
-            value(registry, "Shape", "\"Dot\"", "00", "\"Dot\"");
-            value(registry, "Shape", "{\"Circle\": 5000}", "028813000000000000", "{\"Circle\":\"5000\"}");
-            value(registry, "\"UNIT\"", "null", "", "null");
-            value(registry, "{\"SEQ\":\"U16\"}", "[]", "00", "[]");
             value(registry, "\"STR\"", "\"\ud83d\ude00é\"", "06f09f9880c3a9", "\"\ud83d\ude00é\"");
             equal(registry.equalJson("Shape", "\"Dot\"", "{\"Circle\":1}"), false);
-            equal(registry.part("Point", unhex("070202000100"), "inner/2"), Optional.empty());
-            Part part = registry.part("Point", unhex("070202000100"), "inner/1/0").get();
-            equal(part.place() + " " + HexFormat.of().formatHex(part.data()), "2 020001");
-            part = registry.partByName("Point", unhex("070202000100"), ".~/[0]").get();
-            equal(part.place() + " " + HexFormat.of().formatHex(part.data()), "2 020001");
-            part = registry.partByPointer("Point", unhex("070202000100"), "/~0~1/1").get();
-            equal(part.place() + " " + HexFormat.of().formatHex(part.data()), "5 00");
-            equal(registry.partByName("Point", unhex("070202000100"), ".y"), Optional.empty());
-            equal(registry.partByPointer("Point", unhex("070202000100"), "/~0~1/2"), Optional.empty());
+            equal(registry.example("Shape"), "\"Dot\"");
         }
         String name = "a\"b\\c\u0000\u001f é";
         Registry odd = Registry.open("{\"a\\\"b\\\\c\\u0000\\u001f é\":{\"STRUCT\":[{\"x\":\"U8\"}]}}");
         value(odd, name, "{\"x\":1}", "01", "{\"x\":1}");
-        Registry.grows("{}".getBytes(StandardCharsets.UTF_8), SHAPES.getBytes(StandardCharsets.UTF_8));
     }
 
-    private static void documents() throws BcsException {
-        Registry ring = Registry.open("{\"R\":{\"ENUM\":{\"0\":{\"Dot\":\"UNIT\"},\"1\":{\"Ring\":{\"NEWTYPE\":{\"OPTION\":\"U64\"}}}}}}");
-        equal(ring.example("R"), "\"Dot\"");
-        equal(ring.example("R", "Ring", true), "{\"Ring\":{\"some\":\"0\"}}");
-        equal(ring.schema("\"BOOL\"").contains("\"boolean\""), true);
-        equal(ring.show("R", Form.WAYS).contains("1 Ring: U64?"), true);
-        equal(ring.show("", Form.WAYS), ring.show("R", Form.WAYS));
-        equal(ring.show("", Form.JSON).startsWith("{\"R\":{\"ENUM\""), true);
-        equal(ring.decodePrefixJson("\"U16\"", new byte[] {1, 2, 3}), new Prefix<>("513", 2));
-        equal(ring.withLimits(Limits.STANDARD).decodePrefixJson("\"UNIT\"", NOTHING), new Prefix<>("null", 0));
-        equal(thrown(BcsException.class, () -> ring.decodePrefixJson("{\"SEQ\":\"UNIT\"}", unhex("ffffffff07"))).reason(), "TooManyNodes");
-    }
-
+    /** More of them are rows of tests/rows. */
     private static void refusals() throws BcsException {
         Registry registry = Registry.open(SHAPES);
-        String expected = "expected an integer from 0 to 255 (U8)";
-        byte[] shapes = SHAPES.getBytes(StandardCharsets.UTF_8), none = "{}".getBytes(StandardCharsets.UTF_8);
-        refused(Kind.TEXT, "BadHex", -1, "/~0~1/1", "an odd number of digits; each byte has two",
-                () -> registry.encodeJson("Point", "{\"x\":1,\"~/\":[\"\",\"0\"]}"));
-        refused(Kind.TEXT, "BadNumber", -1, "/x", "found 256, " + expected,
-                () -> registry.normaliseJson("Point", "{\"x\":256,\"~/\":[]}"));
-        refused(Kind.TEXT, "BadNumber", -1, "/x", "found \"\", " + expected + "; the string is empty",
+        refused(Kind.TEXT, "BadNumber", -1, "/x", "found \"\", expected an integer from 0 to 255 (U8); the string is empty",
                 () -> registry.equalJson("Point", "{\"x\":1,\"~/\":[]}", "{\"x\":\"\",\"~/\":[]}"));
-        refused(Kind.TEXT, "MissingField", -1, "", "no member is called ~/", () -> registry.encodeJson("Point", "{\"x\":1}"));
-        refused(Kind.BYTES, "EndOfInput", 4, ".~/[0]", "expected 2 bytes of BYTES, found the end of the input", () -> registry.decodeJson("Point", unhex("07010205")));
-        refused(Kind.BYTES, "EndOfInput", 0, ".", "expected BOOL, found the end of the input", () -> registry.decodeJson("\"BOOL\"", NOTHING));
-        refused(Kind.BYTES, "UnknownVariant", 0, ".", "expected the number of a variant; found 1; variants: 0 Dot, 2 Circle",
-                () -> registry.scan("Shape", new byte[] {1}));
-        refused(Kind.BYTES, "BadBool", 1, "[0]", "expected BOOL, 00 or 01, found 02", () -> registry.part("{\"SEQ\":\"BOOL\"}", new byte[] {1, 2}, "."));
-        refused(Kind.PATH, "BadPath", -1, "step 2", "an empty step", () -> registry.part("Point", unhex("0700"), "1/"));
         refused(Kind.PATH, "BadPath", -1, null, "expected a name such as .payload.args[1]",
                 () -> registry.partByName("Point", unhex("0700"), "x"));
-        refused(Kind.PATH, "BadPath", -1, null, "expected a JSON Pointer such as /payload/args/1",
-                () -> registry.partByPointer("Point", unhex("0700"), "/~2"));
-        refused(Kind.FORMAT, "BadShape", -1, "/SEQ", "expected a format, found \"U7\"; for a container of that name, write {\"TYPENAME\":\"U7\"}", () -> registry.check("{\"SEQ\":\"U7\"}"));
-        refused(Kind.FORMAT, "UnknownName", -1, "", "no container is called x: UnknownName: y",
-                () -> registry.decodeJson("{\"SEQ\":{\"TYPENAME\":\"x: UnknownName: y\"}}", none));
         refused(Kind.FORMAT, "UnknownName", -1, "", "no container is called Circle", () -> registry.show("Circle", Form.WAYS));
         refused(Kind.EXAMPLE, "NoValue", -1, null, null, () -> registry.example("\"F32\""));
-        refused(Kind.EXAMPLE, "UnknownVariant", -1, null, null, () -> registry.example("Point", "Oval", false));
         refused(Kind.LIMITS, null, -1, null, "the depth is above 500", () -> registry.withLimits(new Limits(501, 1)).check("Point"));
-        byte[] odd = "{\"a: Missing: b\":\"UNITSTRUCT\"}".getBytes(StandardCharsets.UTF_8);
-        refused(Kind.GROWTH, "Missing", -1, "a: Missing: b", "the newer registry has no container of that name",
-                () -> Registry.grows(odd, none));
-        byte[] odder = "{\"é\\u0000: Missing: b\":\"UNITSTRUCT\"}".getBytes(StandardCharsets.UTF_8);
-        refused(Kind.GROWTH, "Missing", -1, "é\0: Missing: b", "the newer registry has no container of that name",
-                () -> Registry.grows(odder, none));
-        refused(Kind.PATH, "BadPath", -1, "step 2 é\0x", "expected a number, inner, or key: and hexadecimal digits",
-                () -> registry.part("Point", unhex("0700"), "1/é\0x"));
-        equal(thrown(BcsException.class, () -> Registry.grows(shapes, none)).reason(), "Missing");
-        equal(Registry.differences(odd, none), List.of("a: Missing: b: Missing"));
-        equal(thrown(BcsException.class, () -> Registry.differences(none, NOTHING)).kind(), Kind.NEWER);
-        equal(thrown(BcsException.class, () -> Registry.grows(NOTHING, none)).kind(), Kind.REGISTRY);
-        equal(thrown(BcsException.class, () -> Registry.grows(none, NOTHING)).kind(), Kind.NEWER);
-        BcsException unknown = thrown(BcsException.class, () -> Registry.open("{\"A\":{\"STRUCT\":[{\"x\":{\"TYPENAME\":\"B\"}}]}}"));
-        equal(unknown.reason() + " " + unknown.at(), "UnknownName A, field x");
-        equal(thrown(BcsException.class, () -> registry.decodeJson("Point", unhex("07010205"))).getMessage(),
-                "refused: EndOfInput at byte 4, .~/[0]: expected 2 bytes of BYTES, found the end of the input");
     }
 
     /** More of them are rows of tests/rows/modules.py. */
     private static void modules() throws BcsException {
         String strings = "{\"0x1::string::String\":{\"NEWTYPESTRUCT\":\"STR\"},\"u8\":{\"NEWTYPESTRUCT\":\"U8\"}}";
-        String module = """
-                {"address":"0x1","name":"m","structs":[{"name":"S","is_native":false,"generic_type_params":[{}],
-                 "fields":[{"name":"a","type":"vector<T0>"},{"name":"b","type":"&u8"}]}]}""";
         equal(Registry.registryOfModules("[]", List.of("0x1::string::String", "u8")), new MadeRegistry(strings, ""));
-        equal(Registry.registryOfModules("[]".getBytes(StandardCharsets.UTF_8), List.of("0x01::string::String", "u8")),
-                new MadeRegistry(strings, "\"0x01::string::String\": the container is called 0x1::string::String"));
-        equal(Registry.registryOfModules("[]", List.of()), new MadeRegistry("{}", ""));
-        Registry.open(strings).check("0x1::string::String");
-        ofModules("NotModules", "/0", "this isn't the JSON of a module of Aptos or Sui, which has the member structs", "[7]", "u8");
-        ofModules("NoBytes", "/structs/0/fields/1/type", "a reference has no bytes", module, "0x1::m::S<u8>");
-        ofModules("NoBytes", "signer", "a signer has no bytes", "[]", "signer");
         ofModules("BadType", "", "\"\" isn't a type", "[]", "");
         ofModules("BadType", "u8\nu16", "a type has no line feed", "[]", "u8\nu16");
         ofModules("BadType", "u8\n", "a type has no line feed", "[]", "u8\n");
-        String odd = "{\"é\\u0000\":[{\"b\":1,\"b\":2}]}";
-        equal(thrown(BcsException.class, () -> Registry.registryOfModules(odd, List.of("u8"))).at(), "/é\0/0/b");
-        equal(thrown(BcsException.class, () -> Registry.registryOfModules("[]", List.of("u8\r"))).at(), "u8\r");
-        equal(thrown(BcsException.class, () -> Registry.registryOfModules(NOTHING, List.of("u8"))).reason(), "NotJson");
-        equal(thrown(BcsException.class, () -> Registry.registryOfModules("[]", List.of("signer"))).getMessage(),
-                "refused: NoBytes at signer: a signer has no bytes");
     }
 
     /** One of two types is refused. */
@@ -163,23 +79,11 @@ public final class Tests extends Check {
              "f":{"STRUCT":[{"arg0":"U16"}]},"f::arg0":{"NEWTYPESTRUCT":"U16"},
              "Account":{"NEWTYPESTRUCT":{"TUPLEARRAY":{"CONTENT":"U8","SIZE":32}}}}""";
 
-    /** The lines of an explanation, with one blank for many. */
-    private static String lines(Explanation explanation) {
-        return explanation.text().strip().lines().map(line -> line.strip().replaceAll(" +", " ")).collect(joining(" / "));
-    }
-
     /** The rows of tests/rows/explain_views.rows and contents.py have more. */
     private static void views() throws BcsException {
         Registry registry = Registry.open(NOTED);
         byte[] data = unhex("010701020102");
-        Views both = Views.NONE.withInside(".memo", "\"U8\"").withCall(".args", "f");
-        equal(lines(registry.explain("Note", data, Form.WAYS, both)), "0 01 BYTES, 1 byte .memo / 1 07 U8 7 .memo[bcs] / "
-                + "2 01 SEQ, 1 element .args / 3 02 BYTES, 2 bytes .args[0] / 4 0102 U16 513 .args[0][bcs]");
         equal(registry.explain("Note", data, Form.PATHS, Views.NONE), registry.explain("Note", data, Form.PATHS));
-        byte[] account = unhex("ff".repeat(32));
-        equal(lines(registry.explain("Account", account, Form.WAYS, Views.NONE.withI256("Account"))), "0 " + "ff".repeat(32) + " -1 .");
-        equal(lines(registry.explain("Account", account, Form.WAYS, Views.NONE.withAddress("Account"))).endsWith(" 0x" + "f".repeat(64) + " ."), true);
-        equal(lines(registry.explain("Account", new byte[32], Form.WAYS, Views.NONE.withU256("Account"))), "0 " + "00".repeat(32) + " 0 .");
         // The value is damaged behind the byte string, too.
         Views bool = Views.NONE.withInside(".args[0]", "\"BOOL\"");
         BcsException damage = registry.explain("Note", unhex("000201070102"), Form.WAYS, bool).damage();
@@ -205,16 +109,8 @@ public final class Tests extends Check {
     private static void contents() throws BcsException {
         Registry registry = Registry.open(NOTED);
         byte[] data = unhex("01070009");
-        for (Part part : List.of(registry.content("Note", data, "inner/0").get(), registry.contentByName("Note", data, ".memo").get(),
-                registry.contentByPointer("Note", data, "/memo").get())) {
-            equal(part.place() + " " + HexFormat.of().formatHex(part.data()), "1 07");
-        }
-        equal(registry.content("Note", data, "inner/0/1"), Optional.empty());
         refused(Kind.PATH, "NoContent", -1, null, "expected a part that is BYTES, STR, or a list or an array of U8",
                 () -> registry.content("Note", data, "inner/1"));
-        refused(Kind.PATH, "BadPath", -1, "step 2 x", "expected a number, inner, or key: and hexadecimal digits",
-                () -> registry.content("Note", data, "inner/x"));
-        refused(Kind.PATH, "BadPath", -1, null, "expected a name such as .payload.args[1]", () -> registry.contentByName("Note", data, "x"));
         thrown(NullPointerException.class, () -> registry.content("Note", null, "."));
         registry.close();
         thrown(IllegalStateException.class, () -> registry.content("Note", data, "."));
@@ -250,22 +146,6 @@ public final class Tests extends Check {
         }
     }
 
-    private static void explanations() throws Exception {
-        Registry registry = Registry.open(Files.readString(examples.resolve("aptos_registry.json")));
-        for (String name : List.of("aptos_transfer", "aptos_transfer_damaged")) {
-            byte[] data = unhex(Files.readString(examples.resolve(name + ".hex")));
-            String wanted = Files.readString(examples.resolve(name + ".explained"));
-            Explanation explanation = registry.explain("RawTransaction", data, Form.WAYS);
-            equal(explanation.damage() != null, name.endsWith("damaged"));
-            if (explanation.damage() != null) {
-                wanted = wanted.substring(0, wanted.lastIndexOf("refused: "));
-                equal(explanation.damage().getMessage(),
-                        thrown(BcsException.class, () -> registry.decodeJson("RawTransaction", data)).getMessage());
-            }
-            equal(explanation.text(), wanted);
-        }
-    }
-
     /** Five bytes encode a list of 4294967295 values that need no bytes. */
     private static void limits() throws BcsException {
         Registry registry = Registry.open("{}");
@@ -273,7 +153,7 @@ public final class Tests extends Check {
         String format = "{\"SEQ\":\"UNIT\"}";
         // Without a limit, decoding would take all memory, so the others come first.
         List<Test> tests = List.of(() -> registry.scan(format, units), () -> registry.part(format, units, "."),
-                () -> registry.decodeJson(format, units));
+                () -> registry.decodeJson(format, units), () -> registry.decodePrefixJson(format, units));
         for (Test test : tests) {
             equal(thrown(BcsException.class, test).reason(), "TooManyNodes");
         }
@@ -438,8 +318,8 @@ public final class Tests extends Check {
     public static void main(String[] words) throws Exception {
         examples = Path.of(words[0]);
         List<Test> tests = words.length > 1 ? List.of(Tests::memory)
-                : List.of(Tests::values, Tests::documents, Tests::refusals, Tests::modules, Tests::views, Tests::contents, Tests::arguments, Tests::explanations, Tests::limits,
-                        Tests::sharing, Tests::closing, Tests::collecting, Tests::stacks);
+                : List.of(Tests::strings, Tests::refusals, Tests::modules, Tests::views, Tests::contents, Tests::arguments,
+                        Tests::limits, Tests::sharing, Tests::closing, Tests::collecting, Tests::stacks);
         for (Test test : tests) {
             test.run();
         }

@@ -37,32 +37,33 @@ def check(registry: Registry, format: bytes, limits: Limits) -> Answer:
     return Answer("done")
 
 
-def part(registry: Registry, format: bytes, limits: Limits, data: bytes, path: bytes) -> Answer:
-    found = registry.part(format, data, path.decode("utf-8", "surrogateescape"), limits)
-    if found is None:
-        return Answer("no")
-    assert data[found.place :].startswith(found.data)
-    return Answer("done", place=found.place, length=len(found.data))
+def from_bcs(registry: Registry, format: bytes, limits: Limits, data: bytes) -> Answer:
+    text = registry.decode_json(format, data, limits)
+    assert registry.decode_prefix_json(format, data + b"\xff", limits) == (text, len(data))
+    return output(text.encode())
 
 
-def part_named(registry: Registry, format: bytes, limits: Limits, data: bytes, name: bytes, notation: str) -> Answer:
-    by = registry.part_by_name if notation == "name" else registry.part_by_pointer
-    found = by(format, data, name.decode("utf-8", "surrogateescape"), limits)
-    if found is None:
-        return Answer("no")
-    assert data[found.place :].startswith(found.data)
-    return Answer("done", place=found.place, length=len(found.data))
-
-
+PARTS = {"steps": Registry.part, "name": Registry.part_by_name, "pointer": Registry.part_by_pointer}
 CONTENTS = {"steps": Registry.content, "name": Registry.content_by_name, "pointer": Registry.content_by_pointer}
 
 
-def content(registry: Registry, format: bytes, limits: Limits, data: bytes, name: bytes, notation: str) -> Answer:
-    found = CONTENTS[notation](registry, format, data, name.decode("utf-8", "surrogateescape"), limits)
+def found_in(data: bytes, found: Optional[bcs_proved.Part]) -> Answer:
     if found is None:
         return Answer("no")
     assert data[found.place :].startswith(found.data)
     return Answer("done", place=found.place, length=len(found.data))
+
+
+def part(registry: Registry, format: bytes, limits: Limits, data: bytes, path: bytes) -> Answer:
+    return part_named(registry, format, limits, data, path, "steps")
+
+
+def part_named(registry: Registry, format: bytes, limits: Limits, data: bytes, name: bytes, notation: str) -> Answer:
+    return found_in(data, PARTS[notation](registry, format, data, name.decode("utf-8", "surrogateescape"), limits))
+
+
+def content(registry: Registry, format: bytes, limits: Limits, data: bytes, name: bytes, notation: str) -> Answer:
+    return found_in(data, CONTENTS[notation](registry, format, data, name.decode("utf-8", "surrogateescape"), limits))
 
 
 WORDS = {"inside": "inside", "call": "calls", "address": "addresses", "u256": "u256s", "i256": "i256s"}
@@ -106,16 +107,16 @@ def explain(
     return Answer("done", end.get("refused", "-"), place, len(text.encode()), text.encode())
 
 
-def refused_by(call: Callable[[], object]) -> Optional[bcs_proved.BcsError]:
-    """What a call raises of its input. What is wrong with what is asked for is raised."""
+INPUTS = (bcs_proved.RegistryError, bcs_proved.TextError, bcs_proved.BytesError, bcs_proved.ModulesError)
+
+
+def refused_by(
+    call: Callable[[], object], errors: tuple[type[bcs_proved.BcsError], ...] = INPUTS
+) -> Optional[bcs_proved.BcsError]:
+    """What a call raises of its input, or of what these errors are for. Anything else is raised."""
     try:
         call()
-    except (
-        bcs_proved.RegistryError,
-        bcs_proved.TextError,
-        bcs_proved.BytesError,
-        bcs_proved.ModulesError,
-    ) as fault:
+    except errors as fault:
         return fault
     return None
 
@@ -123,18 +124,31 @@ def refused_by(call: Callable[[], object]) -> Optional[bcs_proved.BcsError]:
 def place(fault: Optional[bcs_proved.BcsError], what: str) -> Answer:
     if fault is None:
         return Answer("no")
-    return output((fault.at if what == "where" else fault.message).encode())
+    told = {"where": fault.at, "wanted": fault.message, "kind": fault.kind, "line": str(fault)}[what].encode()
+    if what != "line":
+        return output(told)
+    return Answer("done", fault.reason, fault.place or 0, len(told), told)
+
+
+def alike(calls: list[Callable[[], object]], errors: tuple[type[bcs_proved.BcsError], ...], what: str) -> Answer:
+    """Each call is refused alike."""
+    first, *others = (refused_by(call, errors) for call in calls)
+    for other in others:
+        assert (type(other), other and other.args) == (type(first), first and first.args), f"{other}, {first}"
+    return place(first, what)
 
 
 def text_place(registry: Registry, format: bytes, limits: Limits, text: bytes, what: str) -> Answer:
-    """Each call that reads JSON reports the same."""
-    encoded = refused_by(lambda: registry.encode_json(format, text, limits))
-    for other in (
-        refused_by(lambda: registry.normalise_json(format, text, limits)),
-        refused_by(lambda: registry.equal_json(format, text, text, limits)),
-    ):
-        assert (other and other.args) == (encoded and encoded.args), f"{other}, {encoded}"
-    return place(encoded, what)
+    calls: list[Callable[[], object]] = [
+        lambda: registry.encode_json(format, text, limits),
+        lambda: registry.normalise_json(format, text, limits),
+        lambda: registry.equal_json(format, text, text, limits),
+    ]
+    return alike(calls, INPUTS, what)
+
+
+def pair_place(registry: Registry, format: bytes, limits: Limits, first: bytes, second: bytes, what: str) -> Answer:
+    return place(refused_by(lambda: registry.equal_json(format, first, second, limits)), what)
 
 
 def stop_place(registry: Registry, format: bytes, limits: Limits, data: bytes, what: str) -> Answer:
@@ -145,11 +159,51 @@ def stop_place(registry: Registry, format: bytes, limits: Limits, data: bytes, w
     return place(decoded, what)
 
 
+def format_place(registry: Registry, format: bytes, limits: Limits, what: str) -> Answer:
+    calls: list[Callable[[], object]] = [
+        lambda: registry.check(format),
+        lambda: registry.encode_json(format, b"0", limits),
+        lambda: registry.encode(format, 0, limits),
+        lambda: registry.decode_json(format, b"", limits),
+        lambda: registry.decode(format, b"", limits),
+        lambda: registry.normalise_json(format, b"0", limits),
+        lambda: registry.equal_json(format, b"0", b"0", limits),
+        lambda: registry.scan(format, b"", limits),
+        lambda: registry.part(format, b"", ".", limits),
+        lambda: registry.content(format, b"", ".", limits),
+        lambda: registry.explain_text(format, b"", limits=limits),
+        lambda: registry.schema(format, limits),
+        lambda: registry.example_json(format, limits),
+    ]
+    return alike(calls, (bcs_proved.FormatError,), what)
+
+
+def path_place(
+    registry: Registry, format: bytes, limits: Limits, data: bytes, path: bytes, notation: str, what: str
+) -> Answer:
+    name = path.decode("utf-8", "surrogateescape")
+    finds = [finds_of[notation] for finds_of in (PARTS, CONTENTS)]
+    calls: list[Callable[[], object]]
+    calls = [functools.partial(find, registry, format, data, name, limits) for find in finds]
+    return alike(calls, (bcs_proved.PathError,), what)
+
+
+def schema(registry: Registry, format: bytes, limits: Limits) -> Answer:
+    return output(json.dumps(registry.schema(format, limits)).encode())
+
+
+def example(registry: Registry, format: bytes, limits: Limits, variant: bytes, form: str) -> Answer:
+    words: dict[str, Any] = {"variant": variant.decode(), "full": form == "full"}
+    text = registry.example_json(format, limits, **words)
+    assert registry.encode(format, registry.example(format, limits, **words)) == registry.encode_json(format, text)
+    return output(text.encode())
+
+
 # What takes a registry, a format, limits and what comes behind them.
 CALLS: dict[str, Callable[..., Answer]] = {
     "check": check,
     "to_bcs": lambda registry, *words: output(registry.encode_json(words[0], words[2], words[1])),
-    "from_bcs": lambda registry, *words: output(registry.decode_json(words[0], words[2], words[1]).encode()),
+    "from_bcs": from_bcs,
     "normalise": lambda registry, *words: output(registry.normalise_json(words[0], words[2], words[1]).encode()),
     "compare": lambda registry, *words: truth(registry.equal_json(words[0], words[2], words[3], words[1])),
     "scan": lambda registry, *words: Answer("done", length=registry.scan(words[0], words[2], words[1])),
@@ -159,7 +213,19 @@ CALLS: dict[str, Callable[..., Answer]] = {
     "explain": explain,
     "explain_with": explain_with,
     "text_place": text_place,
+    "pair_place": pair_place,
     "stop_place": stop_place,
+    "format_place": format_place,
+    "path_place": path_place,
+    "schema": schema,
+    "example": example,
+}
+# Which words behind the limits are no hexadecimal digits.
+PLAIN = {
+    **dict.fromkeys(["explain", "explain_with", "text_place", "stop_place", "example"], [1]),
+    **dict.fromkeys(["part_named", "content", "pair_place"], [2]),
+    "path_place": [2, 3],
+    "format_place": [0],
 }
 
 
@@ -174,37 +240,64 @@ def registry_of_modules(modules: bytes, lines: bytes) -> Answer:
     return output((f"{made.json}\n{made.notes}" if made.notes else made.json).encode())
 
 
-def grows(older: bytes, newer: bytes) -> Answer:
+def both(older: bytes, newer: bytes, call: Callable[[Registry, Registry], Answer]) -> Answer:
     first = Registry(older)
     try:
         second = Registry(newer)
     except bcs_proved.RegistryError as fault:
         return Answer("newer", fault.reason)
+    return call(first, second)
+
+
+def grows(first: Registry, second: Registry) -> Answer:
     reason = first.growth_fault(second)
+    assert first.grows(second) == (reason is None)
     return Answer("done") if reason is None else Answer("refused", reason)
 
 
+def growth_place(first: Registry, second: Registry, what: str) -> Answer:
+    return place(refused_by(lambda: first.require_growth(second), (bcs_proved.GrowthError,)), what)
+
+
+def growth_list(first: Registry, second: Registry) -> Answer:
+    return output("".join(f"{line}\n" for line in first.differences(second)).encode())
+
+
+# What takes no question.
+OTHER_CALLS: dict[str, Callable[..., Answer]] = {
+    "grows": lambda older, newer: both(older, newer, grows),
+    "growth_list": lambda older, newer: both(older, newer, growth_list),
+    "growth_place": lambda older, newer, what: both(older, newer, functools.partial(growth_place, what=what)),
+    "show": lambda text, name, form: output(registry_of(text).show(name.decode(), as_json=form == "json").encode()),
+    "registry_place": lambda text, what: place(refused_by(lambda: Registry(text)), what),
+    "registry_of_modules": registry_of_modules,
+    "modules_place": lambda modules, lines, what: place(refused_by(lambda: made_of(modules, lines)), what),
+}
+
+
 def answer(words: list[str]) -> Answer:
-    if words[0] == "grows":
-        return grows(bytes.fromhex(words[1]), bytes.fromhex(words[2]))
-    if words[0] == "registry_place":
-        return place(refused_by(lambda: Registry(bytes.fromhex(words[1]))), words[2])
-    if words[0] == "registry_of_modules":
-        return registry_of_modules(bytes.fromhex(words[1]), bytes.fromhex(words[2]))
-    if words[0] == "modules_place":
-        return place(refused_by(lambda: made_of(bytes.fromhex(words[1]), bytes.fromhex(words[2]))), words[3])
+    call = words[0]
+    if call in OTHER_CALLS:
+        count = 1 if call == "registry_place" else 2
+        return OTHER_CALLS[call](*map(bytes.fromhex, words[1 : count + 1]), *words[count + 1 :])
     registry = registry_of(bytes.fromhex(words[1]))
-    word = {"explain": 1, "text_place": 1, "stop_place": 1, "part_named": 2, "content": 2, "explain_with": 1}.get(
-        words[0]
-    )
-    rest = [text if place == word else bytes.fromhex(text) for place, text in enumerate(words[5:])]
+    plain = PLAIN.get(call, [])
+    rest = [text if place in plain else bytes.fromhex(text) for place, text in enumerate(words[5:])]
     limits = Limits(int(words[3]), int(words[4]))
-    return CALLS[words[0]](registry, bytes.fromhex(words[2]), limits, *rest)
+    return CALLS[call](registry, bytes.fromhex(words[2]), limits, *rest)
 
 
-def refusal(fault: bcs_proved.BcsError) -> Answer:
-    kind = fault.kind if fault.kind in ("registry", "format", "path", "limits", "stack") else "refused"
-    kind = "refused" if fault.reason == "NoContent" else kind
+# The kind of what a call refuses of its input; any other reads bytes.
+KINDS = {
+    **dict.fromkeys(["to_bcs", "normalise", "compare"], "text"),
+    **{"example": "example", "registry_of_modules": "modules", "content": "path"},
+}
+
+
+def refusal(fault: bcs_proved.BcsError, call: str) -> Answer:
+    assert (fault.place is None) == (fault.kind != "bytes" or fault.reason == "TooNested"), fault
+    kind = "refused" if fault.kind == KINDS.get(call, "bytes") and fault.reason != "BadPath" else fault.kind
+    kind = "refused" if call == "content" and kind == "bytes" else kind
     return Answer(kind, fault.reason or "-", fault.place or 0)
 
 
@@ -213,7 +306,7 @@ for line in sys.stdin:
     try:
         told = answer(words).line if words[0] != "fault_name" else "unsayable"
     except bcs_proved.BcsError as fault:
-        told = refusal(fault).line
+        told = refusal(fault, words[0]).line
     except MemoryError:
         told = Answer("memory").line
     print(told, flush=True)

@@ -6,7 +6,7 @@ import threading
 import unittest
 
 import bcs_proved
-from bcs_proved import BytesError, Registry, TextError
+from bcs_proved import Registry
 
 ROOT = pathlib.Path(__file__).resolve().parent.parent.parent.parent
 EXAMPLES = ROOT / "examples"
@@ -27,49 +27,6 @@ def registry_of(name: str) -> Registry:
 
 
 class Examples(unittest.TestCase):
-    def test_transactions(self) -> None:
-        for registry_name, format, name in TRANSACTIONS:
-            with self.subTest(name):
-                registry = registry_of(registry_name)
-                text, normal = text_of(f"{name}.json"), text_of(f"{name}_normal.json").rstrip("\n")
-                data = bytes.fromhex(text_of(f"{name}.hex"))
-                self.assertEqual(registry.encode_json(format, text), data)
-                value = registry.decode(format, data)
-                self.assertEqual(registry.encode(format, value), data)
-                self.assertEqual(registry.decode_json(format, data), normal)
-                self.assertEqual(registry.normalise_json(format, text), normal)
-                self.assertEqual(registry.normalise(format, value), value)
-                self.assertTrue(registry.equal_json(format, text, normal))
-                self.assertEqual(registry.scan(format, data), len(data))
-                self.assertEqual(registry.explain_text(format, data), text_of(f"{name}.explained"))
-                pieces = registry.explain(format, data)
-                self.assertEqual("".join(piece["bytes"] for piece in pieces[:-1]), data.hex())
-                self.assertEqual(pieces[-1], {"end": len(data)})
-
-    def test_damaged_transactions(self) -> None:
-        aptos, sui = registry_of("aptos_registry"), registry_of("sui_registry")
-        with self.assertRaises(TextError) as raised:
-            aptos.encode_json("RawTransaction", text_of("aptos_transfer_damaged.json"))
-        self.assertEqual(raised.exception.reason, "BadHex")
-        with self.assertRaises(TextError) as raised:
-            sui.encode_json("TransactionData", text_of("sui_stake_damaged.json"))
-        self.assertEqual(raised.exception.reason, "MissingField")
-        for registry, format, name, reason, place in [
-            (aptos, "RawTransaction", "aptos_transfer_damaged", "LongForm", 73),
-            (sui, "TransactionData", "sui_stake_damaged", "BadBool", 65),
-        ]:
-            with self.assertRaises(BytesError) as stopped:
-                registry.decode(format, bytes.fromhex(text_of(f"{name}.hex")))
-            self.assertEqual((stopped.exception.reason, stopped.exception.place), (reason, place))
-
-    def test_growth(self) -> None:
-        for older, newer in [
-            ("aptos_registry_before_multisig", "aptos_registry"),
-            ("diem_transaction_before_script_functions", "diem_transaction"),
-        ]:
-            self.assertTrue(registry_of(older).grows(registry_of(newer)))
-            self.assertEqual(registry_of(newer).growth_fault(registry_of(older)), "Missing")
-
     def test_documents(self) -> None:
         """What the module and the README show is what comes out."""
         self.assertGreater(doctest.testmod(bcs_proved).attempted, 3)

@@ -155,6 +155,7 @@ class Handles(unittest.TestCase):
         registry.close()
         with self.assertRaisesRegex(ValueError, "closed"):
             registry.encode(NUMBER, 7)
+        self.assertEqual(registry.differences(Registry({"A": "UNITSTRUCT"})), ["A: container added"])
         self.assertEqual(self.library.counts, (1, 1))
 
     def test_closing_while_a_call_runs(self) -> None:

@@ -96,18 +96,10 @@ class Modules(unittest.TestCase):
             self.assertEqual(raised.exception.args, ("BadType", None, at, message))
 
     def test_refusals(self) -> None:
-        """Their reason, location and message are apart, also if the location has a NUL."""
         rows: list[tuple[bcs_proved.Text, list[str], str, str, str]] = [
             (MODULE, ["0x1::n::S"], "MissingModule", "0x1::n::S", "add these modules: 0x1::n"),
-            ("[7]", ["u8"], "NotModules", "/0", "this isn't the JSON of a module"),
-            (b"\xff", ["u8"], "NotJson", "", "this isn't JSON"),
             ("\ud800", ["u8"], "NotJson", "", "this isn't JSON"),
             (MODULE, ["u8", "\ud800"], "BadType", "", "the types aren't UTF-8"),
-            (MODULE, ["\0"], "BadType", "\0", '"\\u0000" isn\'t a type'),
-            (MODULE, ["a\0b\0"], "BadType", "a\0b\0", '"a\\u0000b\\u0000" isn\'t a type'),
-            (MODULE, ["é🦀"], "BadType", "é🦀", '"\\u00e9'),
-            (MODULE, ["signer"], "NoBytes", "signer", "a signer has no bytes"),
-            (MODULE, ["vector<" * 40 + "u8" + ">" * 40], "TooLarge", "vector<" * 40 + "u8" + ">" * 40, ""),
         ]
         for text, types, reason, at, start in rows:
             with self.assertRaises(ModulesError) as raised:
@@ -117,21 +109,6 @@ class Modules(unittest.TestCase):
             self.assertTrue(fault.message.startswith(start), fault.message)
             self.assertIsInstance(fault, BcsError)
             self.assertTrue(str(fault).startswith(f"refused: {reason}"))
-
-    def test_notes(self) -> None:
-        made = registry_of_modules("[]", ["0x01::string::String", "u8"])
-        self.assertEqual(made.json, '{"0x1::string::String":{"NEWTYPESTRUCT":"STR"},"u8":{"NEWTYPESTRUCT":"U8"}}')
-        self.assertEqual(made.notes, '"0x01::string::String": the container is called 0x1::string::String')
-        self.assertEqual(registry_of_modules("[]", []), MadeRegistry("{}", ""))
-
-    def test_large_registries(self) -> None:
-        """They are longer than the first output."""
-        types = [
-            f"{'vector<' * depth}{inner}{'>' * depth}" for depth in range(1, 30) for inner in ("u8", "u64", "address")
-        ]
-        made = registry_of_modules("[]", types)
-        self.assertGreater(len(made.json), 4096)
-        self.assertEqual({*json.loads(made.json)}, {*types, "address"})
 
     def test_threads(self) -> None:
         found: list[MadeRegistry] = []

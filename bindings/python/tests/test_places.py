@@ -1,4 +1,4 @@
-"""Where something is refused, and what was expected there, as the program `bcs` says it."""
+"""Where values are refused, and what Python's errors say. The rest are rows of tests/rows/places.py."""
 
 import pickle
 import unittest
@@ -28,8 +28,6 @@ REFUSALS: list[type[BcsError]] = [
 KINDS = ["registry", "growth", "format", "limits", "text", "bytes", "path", "example", "value", "stack"]
 
 BAD_BOOL = "expected BOOL, 00 or 01, found 02"
-NO_BYTES = "expected 2 bytes of BYTES, found the end of the input"
-NO_NUMBER = "expected the number of a variant: below 4294967296, in decimal digits without leading zeros"
 
 SHAPES = {
     "Point": {"STRUCT": [{"x": "U8"}, {"~/": {"SEQ": "BYTES"}}]},
@@ -62,60 +60,14 @@ class Places(unittest.TestCase):
             self.tells(TextError, at, message, self.registry.normalise, format, value)
         types = "BYTES takes bytes, or Hex(…) for digits, not int"
         self.tells(ValueTypeError, "/~0~1/1", types, self.registry.encode, "Point", {"x": 1, "~/": [b"", 7]})
-        self.tells(TextError, "", "expected BOOL, true or false", self.registry.encode_json, '"BOOL"', "7")
-        told = self.tells(
-            TextError, "", "line 1, column 1: text belongs in double quotes", self.registry.encode_json, '"U8"', "x"
-        )
-        self.assertEqual(told.reason, "NotJson")
-
-    def test_a_message(self) -> None:
-        told = self.tells(
-            TextError,
-            "/x",
-            "found -1, expected an integer from 0 to 255 (U8)",
-            self.registry.encode,
-            "Point",
-            {"x": -1, "~/": []},
-        )
-        words = "found -1, expected an integer from 0 to 255 (U8)"
-        self.assertEqual(str(told), f"refused: BadNumber at /x: {words}")
-        again = pickle.loads(pickle.dumps(told))
-        self.assertEqual((str(again), again.at, again.reason), (str(told), "/x", "BadNumber"))
+        with self.assertRaises(TypeError):
+            Hex(b"cafe")  # type: ignore[arg-type]
 
     def test_two_texts(self) -> None:
         good, bad = {"x": 1, "~/": []}, {"x": 256, "~/": []}
         expected = "found 256, expected an integer from 0 to 255 (U8)"
         self.tells(TextError, "/x", expected, self.registry.equal, "Point", good, bad)
         self.tells(TextError, "/x", expected, self.registry.equal, "Point", bad, {})
-
-    def test_bytes(self) -> None:
-        damaged = bytes.fromhex("0701020507")
-        told = self.tells(BytesError, ".~/[0]", NO_BYTES, self.registry.decode, "Point", damaged[:-2])
-        self.assertEqual(told.place, 3)
-        self.tells(
-            BytesError,
-            ".",
-            "expected the number of a variant; found 1; variants: 0 Dot, 2 Circle",
-            self.registry.scan,
-            "Shape",
-            b"\1",
-        )
-        self.tells(BytesError, "[0]", BAD_BOOL, self.registry.part, {"SEQ": "BOOL"}, b"\1\2", ".")
-
-    def test_strings_are_strings(self) -> None:
-        """Whether a string is accepted doesn't depend on what it looks like."""
-        registry = Registry({"Note": {"STRUCT": [{"memo": {"SEQ": "U8"}}, {"fee": "U64"}]}})
-        for digits in ["1234", "cafe", "000000", "69b71d", "hello", ""]:
-            with self.assertRaises(ValueTypeError) as raised:
-                registry.encode("Note", {"memo": digits, "fee": 7})
-            words = "SEQ of U8 takes bytes, or Hex(…) for digits, not str"
-            self.assertEqual(str(raised.exception), f"refused: WrongType at /memo: {words}")
-            with self.assertRaises(ValueTypeError) as raised:
-                registry.encode("Note", {"memo": b"", "fee": digits})
-            self.assertEqual(str(raised.exception), "refused: WrongType at /fee: U64 takes an int, not str")
-        self.assertEqual(registry.encode("Note", {"memo": Hex("cafe"), "fee": 7})[:3], b"\2\xca\xfe")
-        with self.assertRaises(TypeError):
-            Hex(b"cafe")  # type: ignore[arg-type]
 
     def test_hints(self) -> None:
         """A format without parts isn't a container's name."""
@@ -143,14 +95,6 @@ class Places(unittest.TestCase):
             (StackError("", message="too little stack"), "refused: too little stack"),
         ]:
             self.assertEqual(str(fault), line)
-
-    def test_registries(self) -> None:
-        for text, at, message in [
-            ('{"S":{"ENUM":{"x":{"A":"UNIT"}}}}', "/S/ENUM/x", NO_NUMBER),
-            ({"S": {"STRUCT": [{"side": {"TYPENAME": "Sid"}}]}}, "S, field side", "no container is called Sid"),
-            ("{", "", "line 1, column 1: the document ends there; } is missing"),
-        ]:
-            self.tells(RegistryError, at, message, Registry, text)
 
 
 if __name__ == "__main__":

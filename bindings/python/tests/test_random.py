@@ -14,7 +14,22 @@ from bcs_proved.values import _slow_json_of, json_of
 
 SEED, REGISTRIES, VALUES = 20260, 4200, 12
 LEAVES = ["UNIT", "BOOL", "STR", "BYTES", *(f"{sign}{width}" for sign in "UI" for width in (8, 16, 32, 64, 128))]
-CHARACTERS = ["a", '"', "\\", "/", "~", "\0", "\n", "\x7f", "\u20ac", "\u2028", "\U0001f600", " 1", "{}"]
+CHARACTERS = [
+    "a",
+    '"',
+    "\\",
+    "/",
+    "~",
+    "\0",
+    "\n",
+    "\x7f",
+    "\u20ac",
+    "\u2028",
+    "\U0001f600",
+    " 1",
+    "{}",
+    "[123456789012345678901",
+]
 NUMPY = {"U8": "u1", "U16": "u2", "U32": "u4", "U64": "u8", "I8": "i1", "I16": ">i2", "I32": "i4", "I64": ">i8"}
 OF_32_BYTES = {"NEWTYPESTRUCT": {"TUPLEARRAY": {"CONTENT": "U8", "SIZE": 32}}}
 # Containers with a form of their own in values, by their names, and the names that the registries are opened with.
@@ -277,7 +292,10 @@ class There(unittest.TestCase):
             nodes = drawn.nodes * 100
             self.assertEqual(json_of(known, value, nodes), _slow_json_of(known, value, nodes), said)
             self.assertEqual(registry.encode(format, value), drawn.data, said)
-        self.assertEqual(registry.decode(format, drawn.data), drawn.native, said)
+        found = registry.decode(format, drawn.data)
+        self.assertEqual(found, drawn.native, said)
+        # (in their types, and with fields in the registry's order)
+        self.assertEqual(repr(found), repr(drawn.native), said)
         self.assertEqual(registry.encode(format, registry.decode(format, drawn.data)), drawn.data, said)
         self.assertTrue(registry.equal(format, drawn.dressed, drawn.native), said)
         self.assertEqual(registry.encode(format, drawn.dressed, Limits(nodes=drawn.nodes)), drawn.data, said)

@@ -1,7 +1,11 @@
-"""Registries from files, the beginning of longer bytes, and options without {"some": ..}."""
+"""Registries from files, their copies, documents on them, the beginning of longer bytes, and options without
+{"some": ..}."""
 
+import copy
+import multiprocessing
 import os
 import pathlib
+import pickle
 import re
 import tempfile
 import unittest
@@ -43,6 +47,7 @@ CONTAINERS = {
     "Tagged": {"ENUM": {"0": {"a": "UNIT"}, "1": {"some": {"NEWTYPE": "U8"}}}},
     "Shape": {"ENUM": {"0": {"Dot": "UNIT"}, "1": {"Circle": {"NEWTYPE": "U8"}}}},
 }
+RING = Registry({"Shape": {"ENUM": {"0": {"Dot": "UNIT"}, "1": {"Ring": {"NEWTYPE": {"OPTION": "U64"}}}}}})
 
 
 class Files(unittest.TestCase):
@@ -81,6 +86,41 @@ class Files(unittest.TestCase):
             self.assertNotIn(HINT, str(raised.exception))
 
 
+def encoded(registry: Registry) -> bytes:
+    return registry.encode("Two", {"some": 1, "x": 2})
+
+
+class Copies(unittest.TestCase):
+    def test_names(self) -> None:
+        self.assertEqual(Registry(CONTAINERS).names, list(CONTAINERS))
+        self.assertEqual(repr(Registry(CONTAINERS)), "<bcs_proved.Registry of 6 containers>")
+        self.assertEqual(repr(Registry({"A": "UNITSTRUCT"})), "<bcs_proved.Registry of 1 container>")
+
+    def test_copies(self) -> None:
+        registry = Registry(CONTAINERS)
+        for other in [pickle.loads(pickle.dumps(registry)), copy.copy(registry), copy.deepcopy(registry)]:
+            self.assertEqual(encoded(other), encoded(registry))
+            other.close()
+        self.assertEqual(encoded(registry), b"\1\2")
+
+    def test_other_processes(self) -> None:
+        registry = Registry(CONTAINERS)
+        with multiprocessing.get_context("spawn").Pool(2) as pool:
+            self.assertEqual(pool.map(encoded, [registry] * 4), [encoded(registry)] * 4)
+
+
+class Documents(unittest.TestCase):
+    def test_example(self) -> None:
+        self.assertEqual(RING.example("Shape", variant="Ring", full=True), {"Ring": {"some": 0}})
+        self.assertEqual(RING.example("Shape", variant="Ring", full=True, plain_options=True), {"Ring": 0})
+
+    def test_show(self) -> None:
+        for name in ["shape", "Shape\0", "\ud800", "é", "Shape "]:
+            with self.assertRaises(FormatError) as raised:
+                RING.show(name)
+            self.assertEqual(raised.exception.args, ("UnknownName", None, "", f"no container is called {name}"))
+
+
 class Prefix(unittest.TestCase):
     def setUp(self) -> None:
         self.registry = Registry(CONTAINERS)
@@ -91,14 +131,6 @@ class Prefix(unittest.TestCase):
             self.assertEqual(self.registry.decode_prefix('"U64"', b"\7" + bytes(7) + rest), (7, 8))
             self.assertEqual(self.registry.decode_prefix('"UNIT"', rest), (None, 0))
         self.assertEqual(self.registry.decode_prefix({"OPTION": "U8"}, b"\1\5x", plain_options=True), (5, 2))
-
-    def test_values_one_after_another(self) -> None:
-        data, found = bytes.fromhex("036162630001ff"), []
-        while data:
-            value, length = self.registry.decode_prefix({"SEQ": "U8"}, data)
-            found.append(value)
-            data = data[length:]
-        self.assertEqual(found, [b"abc", b"", b"\xff"])
 
     def test_refusals(self) -> None:
         with self.assertRaises(BytesError) as raised:

@@ -1,7 +1,8 @@
 //! Makes the calls that standard input names, one a line, and answers each with a line. `tests/rows` starts it, and asks it the
 //! rows of the repository's tests.
 use bcs_proved::{
-    Error, ErrorKind, Explanation, Form, Format, Limits, MadeRegistry, Part, Registry, Views, registry_of_modules,
+    Error, ErrorKind, Example, Explanation, Form, Format, Limits, MadeRegistry, Part, Registry, Views,
+    registry_of_modules,
 };
 use std::io::{self, BufRead, Write};
 
@@ -21,10 +22,16 @@ fn answer(line: &str) -> String {
     let mut words = Words(line.split('\t'));
     let told = match words.next() {
         "fault_name" => return UNSAYABLE.into(),
-        "grows" => grows(words),
-        "registry_place" => place(Registry::read(words.bytes()).err(), words.next()),
+        "grows" => grown(words, |older, newer, _| older.grows(newer).map(|()| Told::done())),
+        "growth_list" => grown(words, |older, newer, _| {
+            let lines = older.differences(newer)?.into_iter().map(|line| line + "\n");
+            Ok(Told::output(lines.collect::<String>().into()))
+        }),
+        "growth_place" => grown(words, |older, newer, what| Ok(place(older.grows(newer).err(), "growth", what))),
+        "show" => show(words).unwrap_or_else(|error| Told::error(error, "registry")),
+        "registry_place" => place(Registry::read(words.bytes()).err(), "registry", words.next()),
         "registry_of_modules" => made(&mut words).map_or_else(|error| Told::error(error, "registry"), Told::made),
-        "modules_place" => place(made(&mut words).err(), words.next()),
+        "modules_place" => place(made(&mut words).err(), "modules", words.next()),
         call => ask(call, words).unwrap_or_else(|error| Told::error(error, "registry")),
     };
     let Told { status, fault, place, length, output } = told;
@@ -95,8 +102,7 @@ impl Told {
             ErrorKind::Format(_) => "format",
             ErrorKind::Limits => "limits",
             ErrorKind::Growth(_) | ErrorKind::Text(_) | ErrorKind::Bytes(_) | ErrorKind::TooNested => "refused",
-            ErrorKind::Modules(_) => "refused",
-            ErrorKind::NoContent => "refused",
+            ErrorKind::Modules(_) | ErrorKind::Example(_) | ErrorKind::NoContent => "refused",
             ErrorKind::Path => "path",
             ErrorKind::Memory => "memory",
             ErrorKind::Stack => "stack",
@@ -106,15 +112,23 @@ impl Told {
     }
 }
 
-fn grows(mut words: Words) -> Told {
+/// Asks about two registries. A call for a place has one more word.
+fn grown(mut words: Words, call: impl Fn(&Registry, &Registry, &str) -> Result<Told, Error>) -> Told {
     let older = match Registry::read(words.bytes()) {
         Ok(older) => older,
         Err(error) => return Told::error(error, "registry"),
     };
-    match Registry::read(words.bytes()).and_then(|newer| older.grows(&newer)) {
-        Ok(()) => Told::done(),
-        Err(error) => Told::error(error, "newer"),
-    }
+    let newer = Registry::read(words.bytes());
+    let what = words.0.next().unwrap_or_default();
+    newer.and_then(|newer| call(&older, &newer, what)).unwrap_or_else(|error| Told::error(error, "newer"))
+}
+
+fn show(mut words: Words) -> Result<Told, Error> {
+    let registry = Registry::read(words.bytes())?;
+    let name = String::from_utf8(words.bytes()).expect("names are UTF-8");
+    let name = (!name.is_empty()).then_some(name.as_str());
+    let text = if words.next() == "json" { registry.show_json(name)? } else { registry.show(name)? };
+    Ok(Told::output(text.into()))
 }
 
 /// The registry for types, which the line has one below the other.
@@ -133,30 +147,89 @@ fn ask(call: &str, mut words: Words) -> Result<Told, Error> {
         registry.check(format)?;
         return Ok(Told::done());
     }
+    if call == "format_place" {
+        return Ok(format_place(&registry, format, words.next()));
+    }
+    if call == "schema" {
+        return Ok(Told::output(registry.schema(format)?.into()));
+    }
     let input = words.bytes();
     Ok(match call {
         "to_bcs" => Told::output(registry.encode_json(format, input)?),
-        "from_bcs" => Told::output(registry.decode_json(format, input)?.into()),
+        "from_bcs" => decode(&registry, format, input)?,
+        "example" => example(&registry, format, input, words.next())?,
+        "path_place" => path_place(&registry, format, &input, &words.bytes(), words.next(), words.next()),
         "normalise" => Told::output(registry.normalise_json(format, input)?.into()),
         "compare" => Told::yes_or_no(registry.equal_json(format, input, words.bytes())?),
         "scan" => Told { length: registry.scan(format, input)?, ..Told::done() },
-        "part" => part(&registry, format, &input, &words.bytes())?,
+        "part" => part_named(&registry, format, &input, &words.bytes(), "steps")?,
         "part_named" => part_named(&registry, format, &input, &words.bytes(), words.next())?,
         "content" => content(&registry, format, &input, &words.bytes(), words.next())?,
         "explain_with" => explain_with(&registry, format, &input, words.next(), &words.bytes())?,
         "explain" => explain(&registry, format, &input, words.next())?,
         "text_place" => text_place(&registry, format, &input, words.next()),
+        "pair_place" => {
+            let refused = registry.equal_json(format, input, words.bytes()).err();
+            place(refused, "text", words.next())
+        }
         "stop_place" => stop_place(&registry, format, &input, words.next()),
         _ => panic!("no call is named {call}"),
     })
 }
 
-/// Each call that takes a text refuses it alike.
+/// The value at the beginning of longer bytes is the same.
+fn decode(registry: &Registry, format: &Format, bytes: Vec<u8>) -> Result<Told, Error> {
+    let text = registry.decode_json(format, &bytes)?;
+    let prefix = registry.decode_prefix_json(format, [&bytes[..], &[0xff]].concat())?;
+    assert_eq!(prefix, (text.clone(), bytes.len()));
+    Ok(Told::output(text.into()))
+}
+
+fn example(registry: &Registry, format: &Format, variant: Vec<u8>, form: &str) -> Result<Told, Error> {
+    let variant = String::from_utf8(variant).expect("names are UTF-8");
+    let example = Example { variant: &variant, full: form == "full" };
+    Ok(Told::output(registry.example(format, example)?.into()))
+}
+
+/// Each call is refused alike.
+fn alike<const N: usize>(refused: [Option<Error>; N], kind: &str, what: &str) -> Told {
+    assert!(refused.iter().all(|error| *error == refused[0]), "{refused:?}");
+    place(refused[0].clone(), kind, what)
+}
+
 fn text_place(registry: &Registry, format: &Format, text: &[u8], what: &str) -> Told {
-    let refused = registry.encode_json(format, text).err();
-    assert_eq!(registry.normalise_json(format, text).err(), refused);
-    assert_eq!(registry.equal_json(format, text, text).err(), refused);
-    place(refused, what)
+    let refused = [
+        registry.encode_json(format, text).err(),
+        registry.normalise_json(format, text).err(),
+        registry.equal_json(format, text, text).err(),
+    ];
+    alike(refused, "text", what)
+}
+
+fn format_place(registry: &Registry, format: &Format, what: &str) -> Told {
+    let refused = [
+        registry.check(format).err(),
+        registry.encode_json(format, "0").err(),
+        registry.decode_json(format, "").err(),
+        registry.normalise_json(format, "0").err(),
+        registry.equal_json(format, "0", "0").err(),
+        registry.scan(format, "").err(),
+        registry.part(format, "", ".").err(),
+        registry.content(format, "", ".").err(),
+        registry.explain(format, "").err(),
+        registry.explain_text(format, "", Form::Ways).err(),
+        registry.schema(format).err(),
+        registry.example(format, Example::default()).err(),
+    ];
+    alike(refused, "format", what)
+}
+
+fn path_place(registry: &Registry, format: &Format, input: &[u8], name: &[u8], notation: &str, what: &str) -> Told {
+    let refused = [
+        part_named(registry, format, input, name, notation).err(),
+        content(registry, format, input, name, notation).err(),
+    ];
+    alike(refused, "path", what)
 }
 
 /// Where the value at the front is refused, `scan` refuses it alike.
@@ -165,31 +238,34 @@ fn stop_place(registry: &Registry, format: &Format, bytes: &[u8], what: &str) ->
     if let Err(error) = registry.scan(format, bytes) {
         assert_eq!(Some(error), refused);
     }
-    place(refused, what)
+    place(refused, "bytes", what)
 }
 
-/// Where something is refused, or what was expected there. What is wrong with the format or the limits has no place.
-fn place(refused: Option<Error>, what: &str) -> Told {
+/// What an error of this kind says about a place. Any other one is the answer.
+fn place(refused: Option<Error>, kind: &str, what: &str) -> Told {
     let Some(error) = refused else {
         return Told::yes_or_no(false);
     };
-    let told = match (error.kind(), what) {
-        (ErrorKind::Format(_) | ErrorKind::Limits | ErrorKind::Memory | ErrorKind::Stack, _) => {
-            return Told::error(error, "registry");
-        }
-        (_, "where") => error.at(),
-        (_, "wanted") => error.at().map(|_| error.message()),
-        _ => panic!("there is no place called {what}"),
+    if error.kind().name() != kind {
+        return Told::error(error, "registry");
+    }
+    let Some(at) = error.at() else {
+        return Told::yes_or_no(false);
     };
-    told.map_or(Told::yes_or_no(false), |words| Told::output(words.into()))
-}
-
-fn part(registry: &Registry, format: &Format, input: &[u8], path: &[u8]) -> Result<Told, Error> {
-    Ok(told_of_part(registry.part(format, input, path)?, input))
+    match what {
+        "where" => Told::output(at.into()),
+        "wanted" => Told::output(error.message().into()),
+        "kind" => Told::output(kind.into()),
+        "line" => {
+            Told { fault: error.reason(), place: error.place().unwrap_or(0), ..Told::output(error.to_string().into()) }
+        }
+        _ => panic!("a place has no {what}"),
+    }
 }
 
 fn part_named(registry: &Registry, format: &Format, input: &[u8], name: &[u8], notation: &str) -> Result<Told, Error> {
     let part = match notation {
+        "steps" => registry.part(format, input, name)?,
         "name" => registry.part_by_name(format, input, name)?,
         "pointer" => registry.part_by_pointer(format, input, name)?,
         _ => panic!("no notation is named {notation}"),

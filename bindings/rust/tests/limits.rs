@@ -1,5 +1,5 @@
 //! Limits: of the depth, and of the nodes.
-use bcs_proved::{ErrorKind, Form, Format, Limits, Reason, Registry, Stop, TextFault};
+use bcs_proved::{ErrorKind, Form, Format, Limits, Reason, Registry, Stop};
 
 mod common;
 use common::plain;
@@ -14,12 +14,6 @@ fn chain(links: usize) -> Vec<u8> {
     [vec![1; links - 1], vec![0]].concat()
 }
 
-/// The text of a chain.
-fn chain_text(links: usize) -> String {
-    let others = links - 1;
-    r#"{"next":{"some":"#.repeat(others) + r#"{"next":null}"# + &"}}".repeat(others)
-}
-
 #[test]
 fn the_standard_limits_are_the_greatest() {
     assert_eq!(Limits::STANDARD, Limits { depth: 500, nodes: Some(u32::MAX) });
@@ -28,33 +22,6 @@ fn the_standard_limits_are_the_greatest() {
     assert_eq!(chains().scan("Chain", chain(500)), Ok(500));
     let stop = Stop { reason: Reason::TooDeep, place: 500 };
     assert_eq!(chains().scan("Chain", chain(501)).unwrap_err(), ErrorKind::Bytes(stop));
-}
-
-#[test]
-fn a_smaller_depth_refuses() {
-    let registry = chains().with_limits(Limits { depth: 2, ..Limits::default() });
-    let stop = Stop { reason: Reason::TooDeep, place: 2 };
-    assert_eq!(registry.decode_json("Chain", chain(2)).unwrap(), chain_text(2));
-    assert_eq!(registry.decode_json("Chain", chain(3)).unwrap_err(), ErrorKind::Bytes(stop));
-    assert_eq!(registry.part("Chain", &chain(3), ".").unwrap_err(), ErrorKind::Bytes(stop));
-    assert_eq!(registry.explain_text("Chain", chain(3), Form::Ways).unwrap().stop, Some(stop));
-    assert_eq!(registry.encode_json("Chain", chain_text(2)).unwrap(), chain(2));
-    assert_eq!(registry.encode_json("Chain", chain_text(3)).unwrap_err(), ErrorKind::Text(TextFault::TooDeep));
-}
-
-#[test]
-fn fewer_nodes_refuse() {
-    // A list is a node, and each of its elements is one.
-    let list = &Format::json(r#"{"SEQ":"U8"}"#);
-    let four = plain().with_limits(Limits { nodes: Some(4), ..Limits::default() });
-    let three = plain().with_limits(Limits { nodes: Some(3), ..Limits::default() });
-    let stop = Stop { reason: Reason::TooManyNodes, place: 3 };
-    assert_eq!(four.decode_json(list, [3, 0, 1, 2]).unwrap(), r#""000102""#);
-    assert_eq!(three.decode_json(list, [3, 0, 1, 2]).unwrap_err(), ErrorKind::Bytes(stop));
-    assert_eq!(four.encode_json(list, "[0,1,2]").unwrap(), [3, 0, 1, 2]);
-    assert_eq!(three.encode_json(list, "[0,1,2]").unwrap_err(), ErrorKind::Text(TextFault::TooManyNodes));
-    assert_eq!(three.normalise_json(list, "[0,1,2]").unwrap_err(), ErrorKind::Text(TextFault::TooManyNodes));
-    assert_eq!(three.equal_json(list, "[0,1,2]", "[]").unwrap_err(), ErrorKind::Text(TextFault::TooManyNodes));
 }
 
 #[test]

@@ -329,21 +329,8 @@ fn lists_are_lists() {
             ("Pair", Fault("BadShape")),
         ],
     );
-    row(
-        "a tuple",
-        (7_u8, true, 9_u8),
-        &[
-            ("(U8, BOOL)", Fault("BadShape")),
-            ("Pair", Fault("BadShape")),
-            ("[U16]", Part("/1", "U16 takes an integer, not a bool")),
-            ("[U8]", Part("/1", "U8 takes an integer, not a bool")),
-            ("[U16; 2]", Part("/1", "U16 takes an integer, not a bool")),
-            ("[U8; 2]", Part("/1", "U8 takes an integer, not a bool")),
-            ("BYTES", Part("/1", "BYTES takes a u8 for each byte, not a bool")),
-            ("{STR: U8}", Part("/0", "MAP takes a pair for each entry, not a u8")),
-            ("{U8: BOOL}", Part("/0", "MAP takes a pair for each entry, not a u8")),
-        ],
-    );
+    let shapes = [("(U8, BOOL)", Fault("BadShape")), ("Pair", Fault("BadShape"))];
+    row("a tuple", (7_u8, true, 9_u8), &shapes.into_iter().chain(cells_of_a_pair().drain(2..)).collect::<Vec<_>>());
     row(
         "a list",
         vec![("a", 1_u8)],
@@ -359,6 +346,16 @@ fn lists_are_lists() {
             ("Pair", Part("/0", "U8 takes an integer, not a tuple")),
         ],
     );
+}
+
+/// A map with keys of a type that no format takes there.
+fn rejected_keys(found: &str) -> Vec<(&'static str, Cell)> {
+    let words = |takes: &str| &*format!("{takes}, not {found}").leak();
+    vec![
+        ("{U8: BOOL}", Part("/0/0", words("U8 takes an integer"))),
+        ("{STR: U8}", Part("/0/0", words("STR takes a string"))),
+        ("Point", Part("", words("STRUCT takes a string for each field's name"))),
+    ]
 }
 
 #[test]
@@ -409,42 +406,10 @@ fn maps_are_maps_and_no_key_becomes_a_string() {
             ("Point", no_name("STRUCT takes a string for each field's name, not a u8")),
         ],
     );
-    row(
-        "a map",
-        BTreeMap::from([(true, true)]),
-        &[
-            ("{U8: BOOL}", Part("/0/0", "U8 takes an integer, not a bool")),
-            ("{STR: U8}", Part("/0/0", "STR takes a string, not a bool")),
-            ("Point", no_name("STRUCT takes a string for each field's name, not a bool")),
-        ],
-    );
-    row(
-        "a map",
-        BTreeMap::from([('x', 1_u8), ('y', 2)]),
-        &[
-            ("{U8: BOOL}", Part("/0/0", "U8 takes an integer, not a char")),
-            ("{STR: U8}", Part("/0/0", "STR takes a string, not a char")),
-            ("Point", no_name("STRUCT takes a string for each field's name, not a char")),
-        ],
-    );
-    row(
-        "a map",
-        BTreeMap::from([((), true)]),
-        &[
-            ("{U8: BOOL}", Part("/0/0", "U8 takes an integer, not ()")),
-            ("{STR: U8}", Part("/0/0", "STR takes a string, not ()")),
-            ("Point", no_name("STRUCT takes a string for each field's name, not ()")),
-        ],
-    );
-    row(
-        "a map",
-        BTreeMap::from([(Some("x"), 1_u8)]),
-        &[
-            ("{U8: BOOL}", Part("/0/0", "U8 takes an integer, not Some")),
-            ("{STR: U8}", Part("/0/0", "STR takes a string, not Some")),
-            ("Point", no_name("STRUCT takes a string for each field's name, not Some")),
-        ],
-    );
+    row("a map", BTreeMap::from([(true, true)]), &rejected_keys("a bool"));
+    row("a map", BTreeMap::from([('x', 1_u8), ('y', 2)]), &rejected_keys("a char"));
+    row("a map", BTreeMap::from([((), true)]), &rejected_keys("()"));
+    row("a map", BTreeMap::from([(Some("x"), 1_u8)]), &rejected_keys("Some"));
     row(
         "a map",
         BTreeMap::<u8, u8>::new(),

@@ -45,19 +45,6 @@ fn views_keep_their_order() {
 }
 
 #[test]
-fn containers_are_shown_as_those_of_move() {
-    let bytes = [vec![255; 32]].concat();
-    let shown = |views: Views| {
-        let pieces = note().explain_with("Account", &bytes, &views).unwrap().pieces;
-        (pieces[0].kind.clone(), pieces[0].value.clone())
-    };
-    assert_eq!(shown(Views::new().i256("Account")), ("i256".to_owned(), "-1".to_owned()));
-    assert_eq!(shown(Views::new().address("Account")), ("address".to_owned(), format!("0x{}", "f".repeat(64))));
-    let greatest = "115792089237316195423570985008687907853269984665640564039457584007913129639935";
-    assert_eq!(shown(Views::new().u256("Account")), ("u256".to_owned(), greatest.to_owned()));
-}
-
-#[test]
 fn views_are_refused() {
     let unknown = ErrorKind::Format(RegistryFault::UnknownName);
     let rows = [
@@ -84,15 +71,11 @@ fn views_are_refused() {
 }
 
 #[test]
-fn content_has_no_length() {
-    let bytes = [1, 7, 0, 9];
-    let content = note().content_by_name("Note", &bytes, ".memo").unwrap().unwrap();
-    assert_eq!((content.place, content.bytes), (1, &bytes[1..2]));
-    let error = note().content("Note", &bytes, "inner/1").unwrap_err();
+fn a_part_without_content_is_refused() {
+    let error = note().content("Note", &[1, 7, 0, 9], "inner/1").unwrap_err();
     assert_eq!((error.kind(), error.kind().name(), error.reason()), (ErrorKind::NoContent, "path", Some("NoContent")));
     assert_eq!(
         error.to_string(),
         "refused: NoContent: expected a part that is BYTES, STR, or a list or an array of U8"
     );
-    assert_eq!(note().content("Note", &bytes, "inner/0/x").unwrap_err().at(), Some("step 3 x"));
 }

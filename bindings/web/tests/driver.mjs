@@ -9,7 +9,9 @@ const bcs = await load(readFileSync(process.argv[2]));
 const decoder = new TextDecoder('utf-8', { fatal: true, ignoreBOM: true });
 const encoder = new TextEncoder();
 
-const STATUSES = { text: 'refused', bytes: 'refused', growth: 'refused', modules: 'refused' };
+// The kind of what a call refuses of its input; any other reads bytes.
+const KINDS = { to_bcs: 'text', normalise: 'text', compare: 'text', grows: 'growth', registry_of_modules: 'modules', example: 'example' };
+const INPUTS = ['registry', 'text', 'bytes', 'modules'];
 
 const DONE = { status: 'done', fault: '-', place: 0, length: 0, output: new Uint8Array() };
 const NO = { ...DONE, status: 'no' };
@@ -26,27 +28,47 @@ function pieces(registry, format, bytes, form, views) {
   return refused === undefined ? put(text) : { ...put(text), fault: refused, place };
 }
 
-/** What a call refuses of its input. What is wrong with what is asked for is thrown. */
-function refusedBy(call) {
+/** What a call refuses of its input, or of what has one of these kinds. Anything else is thrown. */
+function refusedBy(call, kinds = INPUTS) {
   try {
     call();
   } catch (error) {
-    if (!(error instanceof BcsError) || !['registry', 'text', 'bytes', 'modules'].includes(error.kind)) throw error;
+    if (!(error instanceof BcsError) || !kinds.includes(error.kind)) throw error;
     return error;
   }
 }
 
 function place(refused, what) {
-  const told = what === 'where' ? refused?.at : refused?.detail;
-  return told === undefined ? NO : put(told);
+  if (refused?.detail === undefined) return NO;
+  const { at, detail, kind, message, reason, place: offset } = refused;
+  if (what === 'line') return { ...put(message), fault: reason, place: offset ?? 0 };
+  return put({ where: at ?? '', wanted: detail, kind }[what]);
 }
 
-/** Each call that reads JSON reports the same. */
-function textPlace(registry, format, text, what) {
-  const calls = [() => registry.encodeText(format, text), () => registry.normaliseText(format, text), () => registry.equalText(format, text, text)];
-  const [refused, ...others] = calls.map(refusedBy);
+/** Each call is refused alike. */
+function alike(calls, what, kinds) {
+  const [refused, ...others] = calls.map((call) => refusedBy(call, kinds));
   for (const other of others) assert.deepEqual({ ...other }, { ...refused });
   return place(refused, what);
+}
+
+function textPlace(registry, format, text, what) {
+  return alike([() => registry.encodeText(format, text), () => registry.normaliseText(format, text), () => registry.equalText(format, text, text)], what);
+}
+
+function formatPlace(registry, format, what) {
+  const [zero, none] = [bytesOfHex('30'), new Uint8Array()];
+  return alike([
+    () => registry.check(format), () => registry.encodeText(format, zero), () => registry.encode(format, 0),
+    () => registry.decodeText(format, none), () => registry.decode(format, none), () => registry.normaliseText(format, zero),
+    () => registry.equalText(format, zero, zero), () => registry.scan(format, none), () => registry.part(format, none, '.'),
+    () => registry.content(format, none, '.'), () => registry.explainText(format, none), () => registry.schema(format), () => registry.exampleText(format),
+  ], what, ['format']);
+}
+
+function pathPlace(registry, format, bytes, [name, notation, what]) {
+  const calls = [PARTS, CONTENTS].map((finds) => () => registry[finds[notation]](format, bytes, bytesOfHex(name)));
+  return alike(calls, what, ['path']);
 }
 
 /** If the value at the start is refused, `scan` reports the same. */
@@ -60,7 +82,7 @@ function stopPlace(registry, format, bytes, what) {
 const CALLS = {
   check: (registry, format) => (registry.check(format), DONE),
   to_bcs: (registry, format, text) => put(registry.encodeText(format, text)),
-  from_bcs: (registry, format, bytes) => put(registry.decodeText(format, bytes)),
+  from_bcs: decode,
   normalise: (registry, format, text) => put(registry.normaliseText(format, text)),
   compare: (registry, format, first, second) => (registry.equalText(format, first, second) ? DONE : NO),
   scan: (registry, format, bytes) => ({ ...DONE, length: registry.scan(format, bytes) }),
@@ -71,6 +93,14 @@ function found(part) {
   return part === undefined ? NO : { ...DONE, place: part.place, length: part.bytes.length };
 }
 
+/** The value at the beginning of longer bytes is the same. */
+function decode(registry, format, bytes) {
+  const text = registry.decodeText(format, bytes);
+  assert.deepEqual(registry.decodePrefixText(format, [...bytes, 255]), { text, length: bytes.length });
+  return put(text);
+}
+
+const PARTS = { steps: 'part', name: 'partByName', pointer: 'partByPointer' };
 const CONTENTS = { steps: 'content', name: 'contentByName', pointer: 'contentByPointer' };
 const VIEWS = { inside: 'inside', call: 'calls', address: 'addresses', u256: 'u256s', i256: 'i256s' };
 
@@ -94,11 +124,6 @@ function viewsOf(lines) {
   return views;
 }
 
-function partNamed(registry, format, bytes, [name, notation]) {
-  const text = bytesOfHex(name);
-  return found(notation === 'name' ? registry.partByName(format, bytes, text) : registry.partByPointer(format, bytes, text));
-}
-
 /** Makes the registry for types, which the line has one below the other. A type that isn't UTF-8 can't be passed. */
 function made([modules, lines]) {
   const types = decoder.decode(bytesOfHex(lines)).replace(/\n$/, '');
@@ -115,11 +140,19 @@ function answerTo(call, words) {
   if (call === 'registry_of_modules') return made(words);
   if (call === 'modules_place') return place(refusedBy(() => made(words)), words[2]);
   if (call === 'grows') return bcs.grows(...words.map(bytesOfHex)), DONE;
+  if (call === 'growth_place') return place(refusedBy(() => bcs.grows(...words.slice(0, 2).map(bytesOfHex)), ['growth', 'registry', 'newer']), words[2]);
+  if (call === 'growth_list') return put(bcs.differences(...words.map(bytesOfHex)).map((difference) => `${difference}\n`).join(''));
+  if (call === 'show') return put(bcs.registry(bytesOfHex(words[0])).show(decoder.decode(bytesOfHex(words[1])), { json: words[2] === 'json' }));
   const [registryText, formatText, depth, nodes, ...others] = words;
   const registry = bcs.registry(bytesOfHex(registryText)).withLimits({ depth: Number(depth), nodes: Number(nodes) });
   const format = formatOf(decoder.decode(bytesOfHex(formatText)));
-  if (call === 'part_named') return partNamed(registry, format, bytesOfHex(others[0]), others.slice(1));
-  if (call === 'content') return found(registry[CONTENTS[others[2]]](format, bytesOfHex(others[0]), bytesOfHex(others[1])));
+  const finds = { part_named: PARTS, content: CONTENTS }[call];
+  if (finds !== undefined) return found(registry[finds[others[2]]](format, bytesOfHex(others[0]), bytesOfHex(others[1])));
+  if (call === 'pair_place') return place(refusedBy(() => registry.equalText(format, ...others.slice(0, 2).map(bytesOfHex))), others[2]);
+  if (call === 'format_place') return formatPlace(registry, format, others[0]);
+  if (call === 'path_place') return pathPlace(registry, format, bytesOfHex(others[0]), others.slice(1));
+  if (call === 'schema') return put(JSON.stringify(registry.schema(format)));
+  if (call === 'example') return put(registry.exampleText(format, { variant: decoder.decode(bytesOfHex(others[0])), full: others[1] === 'full' }));
   if (call === 'explain_with') return pieces(registry, format, bytesOfHex(others[0]), others[1], viewsOf(bytesOfHex(others[2])));
   const withWord = { explain: pieces, text_place: textPlace, stop_place: stopPlace }[call];
   if (withWord !== undefined) return withWord(registry, format, bytesOfHex(others[0]), others[1]);
@@ -142,7 +175,8 @@ function line(call, words) {
     if (error instanceof Unsayable || error instanceof TypeError) return 'unsayable';
     if (!(error instanceof BcsError)) throw error;
     const { kind, reason, place } = error;
-    const status = reason === 'NoContent' ? 'refused' : STATUSES[kind] ?? kind;
+    assert.equal(place !== undefined, kind === 'bytes' && reason !== 'TooNested', reason);
+    const status = reason === 'NoContent' || kind === (KINDS[call] ?? 'bytes') ? 'refused' : kind;
     return [status, reason ?? '-', place ?? 0, 0, ''].join('\t');
   }
 }
