@@ -6,7 +6,7 @@ It looks at each path `crates/..`, and between backticks at each crate's name, a
 `CRATE/File`, at "the files `a` and `b` of `CRATE`", and at `src/..`, `specs/..`, `proofs/..` and `must-fail/..` of the
 crate that was named last in the same line, or that the document is of. In the README of a crate it also looks at
 `module::item`, also in "`module::item`, `other`", and at tables of the files of `src/`, `specs/` or `proofs/`. And the
-tables of tests/README.md have exactly the files of tests/.
+lists of tests/README.md have exactly the files of tests/.
 """
 
 import pathlib
@@ -112,7 +112,8 @@ def missing_in(file: pathlib.Path) -> list[str]:
 def unlisted() -> list[str]:
     """What is in tests/ and not in the tables of its README, or there and not in tests/."""
     page = (TESTS / "README.md").read_text(encoding="utf-8")
-    names = {name for line in page.splitlines() if line.startswith("| `") for name in CODE.findall(line.split("|")[1])}
+    lines = [line.partition(": ")[0] for line in page.splitlines() if line.startswith("- `")]
+    names = {name for line in lines for name in CODE.findall(line)}
     made = re.compile(r"(.*/)?(\.|__pycache__).*|README\.md")
     found = [path for pattern in ("*", "rows/*") for path in TESTS.glob(pattern) if path != TESTS / "rows"]
     files = {f"{path.relative_to(TESTS)}{'/' if path.is_dir() else ''}" for path in found}
