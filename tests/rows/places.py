@@ -67,8 +67,8 @@ def place_of_job(driver: Driver, name: str, words: list[str], wanted: str) -> tu
     if line is None or UNTOLD.match(line["place"]):
         raise Unsayable
     if name == "from-move":
-        told = as_told(line)
-        return told._replace(where=told.where.removeprefix("TYPE, ")), place_told(
+        right = as_told(line)
+        return right._replace(where=right.where.removeprefix("TYPE, ")), place_told(
             driver, "modules_place", *modules_of(words)
         )
     options = [word for word in words if word in OPTIONS]
