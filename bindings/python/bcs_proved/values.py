@@ -102,8 +102,8 @@ class Format:
         raise NotImplementedError
 
     def quick(self, value: Any, levels: int) -> str:
-        """The JSON that `open` would write, with at most `levels` arrays and objects in one another; or raises _Slow. It
-        reads exact types of Python only, so it runs none of the caller's code."""
+        """The JSON that `open` would write, with at most `levels` arrays and objects in one another; or raises _Slow.
+        It reads exact types of Python only, so it runs none of the caller's code."""
         raise _Slow
 
     def resolved(self) -> Format:

@@ -29,7 +29,7 @@ class RandomSet:
         self._kept: set[tuple[str, bytes]] = set()
 
     def lines(self, count: int) -> Iterator[Line]:
-        """The lines of this number of values: for each, the value, two changes by the rules, and one of a single bit."""
+        """The lines of this number of values: for each the value, two changes by the rules, and one of a single bit."""
         for number in range(count if self._roots else 0):
             format, root = self._roots[number % len(self._roots)]
             candidate = Candidate(self._values.random(root))
