@@ -17,3 +17,4 @@ pub mod Named
 pub mod Holding
 pub mod Places
 pub mod Contents
+pub mod Modules

@@ -1,5 +1,7 @@
 //! Registries that are made from the modules of Move chains, for C.
-ghost use Rattle.std.specs.Prelude.{◌≡◌, ◌≢◌};
+ghost use Rattle.std.specs.Prelude.{◌≡◌, ◌≢◌, IfOk, string_bytes};
+ghost use Rattle.bcs_move.specs.Made.{WritesSome};
+ghost use Rattle.bcs_c.specs.Modules.{AnswersMade, AnswersModulesPlace, IsMade};
 ghost use Rattle.bcs_c.specs.Statuses.{status_number};
 ghost use Rattle.bcs_c.specs.declared.status.Status.TheVariants.{Done};
 
@@ -24,6 +26,7 @@ pub extern "C" fn bcs_c_registry_of_modules(
     types: &[u8],
     out: &mut [u8],
 ) -> Answer
+    ensures answers { AnswersMade out.old out.new result }
     ensures untouched { result.status ≢ status_number Done → out.new ≡ out.old }
 {
     match made_text(alloc, modules, types) {
@@ -43,6 +46,7 @@ pub extern "C" fn bcs_c_modules_place(
     types: &[u8],
     out: &mut [u8],
 ) -> Answer
+    ensures answers { AnswersModulesPlace out.old out.new result }
     ensures untouched { result.status ≢ status_number Done → out.new ≡ out.old }
 {
     match made_text(alloc, modules, types) {
@@ -53,6 +57,7 @@ pub extern "C" fn bcs_c_modules_place(
 }
 
 fn told(alloc: Global, refusal: MoveRefusal, out: &mut [u8]) -> Answer
+    ensures answers { AnswersModulesPlace out.old out.new result }
     ensures untouched { result.status ≢ status_number Done → out.new ≡ out.old }
 {
     let fault = Fault::Move(refusal.name);
@@ -63,17 +68,22 @@ fn told(alloc: Global, refusal: MoveRefusal, out: &mut [u8]) -> Answer
 }
 
 // The registry's JSON, and the notes on a line of their own.
-fn made_text(alloc: Global, modules: &[u8], types: &[u8]) -> Result<Vec<u8>, MoveFault> {
+fn made_text(alloc: Global, modules: &[u8], types: &[u8]) -> Result<Vec<u8>, MoveFault>
+    ensures { IfOk result (λ text. IsMade text.items) }
+{
     let MadeRegistry { json, notes } = made(alloc, modules, types)?;
     let mut text = json.into_bytes();
-    if !notes.is_empty() {
-        text.push(b'\n')?;
-        text.extend_from_slice(&notes_line(alloc, &notes)?)?;
+    if notes.is_empty() {
+        return Ok(text);
     }
+    text.push(b'\n')?;
+    text.extend_from_slice(&notes_line(alloc, &notes)?)?;
     Ok(text)
 }
 
-fn made(alloc: Global, modules: &[u8], types: &[u8]) -> Result<MadeRegistry, MoveFault> {
+fn made(alloc: Global, modules: &[u8], types: &[u8]) -> Result<MadeRegistry, MoveFault>
+    ensures { IfOk result (λ made. WritesSome (string_bytes made.json)) }
+{
     let Ok(lines) = from_utf8(types) else {
         return Err(no_types(alloc));
     };

@@ -1,5 +1,5 @@
 -- Answers with an equal status and equal output, and the parsed request for an input.
-use Rattle.bcs_tool_answers.proofs.Prelude.{◌≡◌, ◌≢◌, ◌≤◌, ◌<◌, ◌⊎◌, ◌++◌, [], Err, List, Ok, arith, inl, inr, length, subst, sym, true, ℕ, Entries, Shape, shape_of, Tree, Bounds, Accepts, StopsAll, Stop, Shows, FromFault, json_fault_name, of, shown, Denotes, RefusesText, nesting_limit, JsonFault, decode_of, FromHexError, OutOfMemory, depth, Answers, AnswersTexts, IsAsked, checked, compared, damaged, decoded, described, made, unmade, different, encoded, equal, exampled, explained, first_refused, found, front_stopped, grown, no_bytes, no_content, normalised, nowhere, refusal_line, refused, refused_early, scan_stopped, scanned, second_refused, stopped, too_nested, unopened, IsAnswer, Places, PrintsWithoutPlace, MayReport, nothing, told, RefusesJobOf, RefusesFormatted, RefusesPart, works_on_values, IsAskedBy, Answer, JobFault, BadPath, Growth, Registry, Asked, size_limit, Work, Command, Check, Show, Example, Schema, FromMove, Encode, Decode, Explain, Normalise, Same, Scan}
+use Rattle.bcs_tool_answers.proofs.Prelude.{◌≡◌, ◌≢◌, ◌≤◌, ◌<◌, ◌⊎◌, ◌++◌, [], Err, List, Ok, arith, inl, inr, length, subst, sym, true, ℕ, Entries, Shape, shape_of, Tree, Bounds, Accepts, StopsAll, Stop, Shows, FromFault, json_fault_name, of, shown, Denotes, RefusesText, nesting_limit, JsonFault, decode_of, FromHexError, OutOfMemory, depth, Answers, AnswersTexts, IsAsked, checked, compared, damaged, decoded, described, made, unmade, different, encoded, equal, exampled, explained, first_refused, found, front_stopped, grown, no_bytes, no_content, normalised, nowhere, refusal_line, refused, refused_early, scan_stopped, scanned, second_refused, stopped, too_nested, unopened, unviewed, IsAnswer, Places, PrintsWithoutPlace, MayReport, nothing, told, RefusesJobOf, RefusesFormatted, RefusesPart, works_on_values, IsAskedBy, Answer, JobFault, BadPath, Growth, Registry, Asked, size_limit, Work, Command, Check, Show, Example, Schema, FromMove, Encode, Decode, Explain, Normalise, Same, Scan}
 use Rattle.bcs_json.specs.declared.from_fault.FromFault.TheVariants as from
 use Rattle.bcs_tool_answers.specs.Answers as answers
 use Rattle.bcs_tool_command_line.specs.declared.command.Command.TheVariants.{Grows, Part}
@@ -114,7 +114,8 @@ status_below work input s p (too_nested r f b c k g a h) = omega arith
 status_below work input s p (explained r f b t c k g h) = omega arith
 status_below work input s p (damaged r f b t e o k g h is) = omega arith
 status_below work input s p (no_bytes c r f o k h) = omega arith
-status_below work input s p (unopened r f b t k g h) = omega arith
+status_below work input s p (unviewed r f b e k g h) = omega arith
+status_below work input s p (unopened r f b t e o k g h is) = omega arith
 status_below work input s p (found r f t b n c x w k i g a h e) = omega arith
 status_below work input s p (no_content r f t b n c x k i g a h e) = omega arith
 status_below work input s p (nowhere r f t b n c k i g a h) = omega arith

@@ -1,5 +1,6 @@
 pub mod Prelude
 pub mod AnswerLemmas
+pub mod ViewingLemmas
 pub mod NotationLemmas
 pub mod PartAnswers
 pub mod PrintedParts

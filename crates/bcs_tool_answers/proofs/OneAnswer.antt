@@ -1,5 +1,5 @@
 -- A job has at most one answer to an input.
-use Rattle.bcs_tool_answers.proofs.Prelude.{◌≡◌, ◌∙◌, ◌⊎◌, ◌++◌, inl, inr, ℕ, List, codes, length, string_bytes, ap, refl, sym, subst, Entries, Grows, IsOrderly, Shape, Step, same_registry, SpellsPath, SpellsSteps, one_path, coding_of, Notation, Work, Command, Check, Encode, Decode, Normalise, IsExact, OneAnswer, json_fault_name, Answers, AnswersTexts, IsAsked, Lists, count_line, line_of, lists, printed, printed_none, printed_part, printed_place, refusal_line, stop_line, IsFormatWord, IsPathOf, IsRegistry, RefusesJobOf, RefusesFormatted, job_fault_name, JobFault}
+use Rattle.bcs_tool_answers.proofs.Prelude.{◌≡◌, ◌∙◌, ◌⊎◌, ◌++◌, inl, inr, ℕ, List, codes, length, string_bytes, ap, refl, sym, subst, Entries, Grows, IsOrderly, Shape, Step, same_registry, SpellsPath, SpellsSteps, one_path, coding_of, Notation, Work, Command, Check, Encode, Decode, Normalise, IsExact, OneAnswer, json_fault_name, Answers, AnswersTexts, IsAsked, Lists, count_line, line_of, lists, printed, printed_none, printed_part, printed_place, refusal_line, stop_line, IsFormatWord, IsPathOf, IsRegistry, RefusesJobOf, RefusesFormatted, job_fault_name, JobFault, view_fault_name}
 use Rattle.bcs_move_types.specs.FaultNames.{move_refusal_name}
 use Rattle.bcs_tool_command_line.specs.declared.command.Command.TheVariants as command
 use Rattle.bcs_tool_answers.specs.Answers as answer
@@ -80,7 +80,8 @@ module _ (work : Work) (input : List ℕ) where
       let path = spelled c r f is a in
       let own = subst (λ (k : Command). IsAsked work input k r f) is a in
       by command.Part 2 (refusal_line (given.input_fault_name (coding_of work))) own.is_command (parted r f path.0 2 (refusal_line (given.input_fault_name (coding_of work))) own path.1 (inr (h, refl, refl)))
-  told (answer.unopened r f b t a g looks) = by command.Explain 2 t a.is_command tt
+  told (answer.unviewed r f b e a g h) = by command.Explain 2 (refusal_line (view_fault_name e)) a.is_command tt
+  told (answer.unopened r f b t e o a g opens is) = by command.Explain 2 t a.is_command tt
   told (answer.found r f path b n c x w a spells g h at has) =
       let own = printed_part work.options.range (coding_of work) (printed_place work.options.content x) w in
       by command.Part 0 own a.is_command

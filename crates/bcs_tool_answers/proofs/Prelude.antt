@@ -65,7 +65,7 @@ pub use Rattle.bcs_registry_model.specs.declared.fault.RegistryFault.{RegistryFa
 pub use Rattle.bcs_registry_model.specs.declared.fault.RegistryFault.TheVariants.{UnknownName}
 pub use Rattle.bcs_registry_model.specs.declared.growth_fault.GrowthFault.{GrowthFault}
 pub use Rattle.bcs_tool_command_line.specs.Files.{size_limit}
-pub use Rattle.bcs_tool_command_line.specs.Jobs.{coding_of, has_views}
+pub use Rattle.bcs_tool_command_line.specs.Jobs.{coding_of}
 pub use Rattle.bcs_tool_command_line.specs.declared.coding.Coding.{Coding}
 pub use Rattle.bcs_tool_command_line.specs.declared.coding.Coding.TheVariants.{Base64, Hexadecimal, Raw}
 pub use Rattle.bcs_tool_command_line.specs.declared.command.Command.{Command}
@@ -82,7 +82,7 @@ pub use Rattle.hex.specs.declared.error.FromHexError.TheVariants.{OutOfMemory}
 pub use Rattle.serde_json.specs.Data.{depth}
 pub use Rattle.serde_json.specs.Written.{compact_text}
 pub use Rattle.bcs_tool_answers.specs.AnswerLaws.{IsExact, OneAnswer, OneAnswerALine, SomeAnswer, SomeAnswerALine}
-pub use Rattle.bcs_tool_answers.specs.Answers.{Answers, AnswersTexts, checked, compared, count_line, damaged, decoded, described, made, unmade, different, encoded, equal, exampled, explained, first_refused, found, front_stopped, grown, IsAsked, IsWithin, line_of, Lists, lists, no_bytes, no_content, normalised, nowhere, printed, printed_none, printed_part, refusal_line, refused, refused_early, scan_stopped, scanned, ScanStops, second_refused, stop_line, stopped, too_nested, unopened}
+pub use Rattle.bcs_tool_answers.specs.Answers.{Answers, AnswersTexts, checked, compared, count_line, damaged, decoded, described, made, unmade, different, encoded, equal, exampled, explained, first_refused, found, front_stopped, grown, IsAsked, IsWithin, line_of, Lists, lists, no_bytes, no_content, normalised, nowhere, printed, printed_none, printed_part, refusal_line, refused, refused_early, scan_stopped, scanned, ScanStops, second_refused, stop_line, stopped, too_nested, unopened, unviewed}
 pub use Rattle.bcs_tool_answers.specs.Input.{GivesBytes, input_fault_name, is_blank, IsBase64Of, without_blanks}
 unfoldable pub use Rattle.bcs_tool_answers.specs.Input.{base64_text}
 pub use Rattle.bcs_tool_answers.specs.JsonRefusals.{HasForm, InForm, IsJsonRefusal, is_digit, is_of_name, place_digits, place_member, refusal_name}
@@ -91,6 +91,7 @@ pub use Rattle.bcs_tool_answers.specs.Notations.{SpellsNoSteps, SpellsSteps}
 pub use Rattle.bcs_tool_answers.specs.PartBytes.{GivesBytesAt, GivesPrinted, printed_bytes, printed_place}
 pub use Rattle.bcs_tool_answers.specs.Places.{IsAnswer, IsPrintable, MayReport, nothing, Places, PrintsWithoutPlace, told}
 pub use Rattle.bcs_tool_answers.specs.Preparing.{IsAskedBy}
+pub use Rattle.bcs_tool_answers.specs.Viewing.{opens_strings, RefusesOptions, view_fault_name}
 pub use Rattle.bcs_tool_answers.specs.Validating.{is_json_word, IsFormatWord, IsPathOf, IsRegistry, job_fault_name, name_of, NamesNone, ReadsInput, RefusesCheck, RefusesEarly, RefusesFormatted, RefusesFormatWord, RefusesGrowth, RefusesJobOf, RefusesPart, works_on_values}
 pub use Rattle.bcs_part_names.specs.declared.contents.NoContent.{NoContent}
 pub use Rattle.bcs_tool_answers.specs.declared.answer.Answer.{Answer}

@@ -11,3 +11,4 @@ pub mod Preparing
 pub use Rattle.bcs_io.specs.Lines
 pub use Rattle.bcs_tool_command_line.specs.Files
 pub use Rattle.bcs_decode_parts.specs.Path
+pub mod Viewing

@@ -1,11 +1,14 @@
 //! The answers of `explain`: the pieces of a value.
-ghost use Rattle.std.specs.Prelude.{◌≡◌, IfErr, IfOk, false, true};
+ghost use Rattle.std.specs.Prelude.{◌≡◌, IfErr, IfOk, List, None, Some, false, true, ℕ};
 ghost use Rattle.bcs_registry_model.specs.View.{shape_of};
 ghost use Rattle.bcs_display_pieces.specs.EndsAt.{EndsAt};
 ghost use Rattle.bcs_display_pieces.specs.IsPlain.{IsPlain};
-ghost use Rattle.bcs_tool_command_line.specs.Jobs.{has_views};
+ghost use Rattle.bcs_decode_spec.specs.declared.stop.Stop as stop;
+ghost use Rattle.bcs_display_refusal.specs.declared.refusal.Refusal as refusal;
+ghost use Rattle.bcs_tool_answers.specs.Answers.{refusal_line, stop_line};
 ghost use Rattle.bcs_tool_answers.specs.Places.{AnswersBytes, MayReport, PrintsWithoutPlace};
 ghost use Rattle.bcs_tool_answers.specs.Preparing.{IsAskedBy};
+ghost use Rattle.bcs_tool_answers.specs.Viewing.{RefusesOptions, names_in, opens_strings, view_fault_name};
 
 use crate::answer::{Answer, placed, refused, stopped, unplaced};
 use crate::places::{place_in_input, place_of_line, reports_place};
@@ -15,6 +18,7 @@ use bcs_decode::Stop;
 use bcs_display_pieces::{Explanation, RefusedView, ViewTexts, Views, explain_text};
 use bcs_display_refusal::Refusal;
 use bcs_display_text::style::Form;
+use bcs_registry::RegistryFault;
 use bcs_tool_command_line::{Command, Work};
 use std::alloc::{AllocError, Global};
 
@@ -42,24 +46,31 @@ fn views_of(
     work: &Work,
     asked: &Asked,
 ) -> Result<Result<Views, RefusedView>, AllocError>
-    ensures plain { IfOk result (λ r. IfOk r (λ views. has_views work.now.options.views ≡ false → IsPlain views)) }
-    ensures given { IfOk result (λ r. IfErr r (λ _. has_views work.now.options.views ≡ true)) }
+    ensures plain { IfOk result (λ r. IfOk r (λ views. opens_strings work.now.options.views ≡ false → IsPlain views)) }
+    ensures refused { IfOk result (λ r. IfErr r (λ refused. RefusesOptions asked.now.registry work.now.options.views refused.fault)) }
 {
     let views = &work.options.views;
     if !views.are_given() {
         return Ok(Ok(Views::none(alloc)));
     }
+    let inside = texts_of(&views.inside);
+    let call = texts_of(&views.calls);
+    let address = texts_of(&views.addresses);
+    let u256 = texts_of(&views.u256s);
+    let i256 = texts_of(&views.i256s);
     let texts = ViewTexts {
-        inside: texts_of(&views.inside),
-        call: texts_of(&views.calls),
-        address: texts_of(&views.addresses),
-        u256: texts_of(&views.u256s),
-        i256: texts_of(&views.i256s),
+        inside,
+        call,
+        address,
+        u256,
+        i256,
     };
     Views::read(alloc, &asked.registry, &texts)
 }
 
-fn texts_of(texts: &Option<Vec<String>>) -> &[String] {
+fn texts_of(texts: &Option<Vec<String>>) -> &[String]
+    ensures { result.now ≡ names_in texts.now }
+{
     match texts {
         Some(texts) => texts.as_slice(),
         None => &[],
@@ -72,11 +83,21 @@ fn answer_refused_view(
     work: &Work,
     refused_view: RefusedView,
 ) -> Result<Answer, AllocError>
-    ensures { IfOk result (λ a. (a.status ≡ 2) × MayReport work.now a.place.items) }
+    ensures { IfOk result (λ a. (a.status ≡ 2) × (a.output.items ≡ refusal_line (view_fault_name refused_view.fault))
+        × MayReport work.now a.place.items) }
 {
-    let RefusedView { refusal, .. } = refused_view;
-    let name = refusal.fault.unwrap_or("BadPath");
-    Ok(placed(refused(alloc, name)?, place_of_view(alloc, work, refusal)))
+    let RefusedView { fault, refusal } = refused_view;
+    let place = place_of_view(alloc, work, refusal);
+    Ok(placed(refused(alloc, fault_name(fault))?, place))
+}
+
+fn fault_name(fault: Option<RegistryFault>) -> &'static str
+    ensures { result.now ≡ view_fault_name fault }
+{
+    match fault {
+        Some(fault) => fault.name(),
+        None => "BadPath",
+    }
 }
 
 // Which option is invalid, or where the bytes in a byte string stop. Empty for a job that reports no places, or if an
@@ -100,7 +121,7 @@ fn answer_pieces(
 ) -> Result<Answer, AllocError>
     requires command { work.now.command ≡ Command.Explain }
     requires asked { IsAskedBy work.now asked.now }
-    requires plain { has_views work.now.options.views ≡ false → IsPlain views.now }
+    requires plain { opens_strings work.now.options.views ≡ false → IsPlain views.now }
     ensures { IfOk result (λ a. AnswersBytes work.now bytes.now a) }
 {
     let Asked {
@@ -149,7 +170,9 @@ fn answer_ended(
 
 // The pieces up to a stop inside a byte string.
 fn answer_unopened(alloc: Global, work: &Work, explained: Explanation) -> Result<Answer, AllocError>
-    ensures { IfOk result (λ a. (a.status ≡ 2) × MayReport work.now a.place.items) }
+    ensures { IfOk result (λ a. (a.status ≡ 2) × MayReport work.now a.place.items
+        × ((x : stop.Stop) (y : refusal.Refusal) → explained.stop ≡ Some x → explained.inner ≡ Some y → work.now.options.json_refusals ≡ true
+        → a.output.items ≡ stop_line x.reason x.place)) }
 {
     let Explanation {
         text,
@@ -160,10 +183,10 @@ fn answer_unopened(alloc: Global, work: &Work, explained: Explanation) -> Result
     let Some(stop) = stop else {
         return with_pieces(alloc, work, 2, text);
     };
-    match inner {
-        Some(refusal) => answer_inner_stop(alloc, work, text, stop, refusal),
-        None => with_pieces(alloc, work, 2, damaged(alloc, work, text, stop)?),
-    }
+    let Some(refusal) = inner else {
+        return with_pieces(alloc, work, 2, text);
+    };
+    answer_inner_stop(alloc, work, text, stop, refusal)
 }
 
 fn answer_inner_stop(
@@ -173,7 +196,8 @@ fn answer_inner_stop(
     stop: Stop,
     refusal: Refusal,
 ) -> Result<Answer, AllocError>
-    ensures { IfOk result (λ a. (a.status ≡ 2) × MayReport work.now a.place.items) }
+    ensures { IfOk result (λ a. (a.status ≡ 2) × MayReport work.now a.place.items
+        × (work.now.options.json_refusals ≡ true → a.output.items ≡ stop_line stop.reason stop.place)) }
 {
     if work.options.json_refusals {
         let place = place_of_view(alloc, work, refusal);
