@@ -516,8 +516,8 @@ const TAKES = {
 };
 
 /**
- * The JSON of a value of this shape with at most so many nodes, as a string or in UTF-8. A value of a wrong type is rejected; all
- * other faults the proved call finds.
+ * The JSON of a value of this shape with at most `nodes` nodes, as a string or in UTF-8. Rejects a value of a wrong type; the
+ * proved call finds all other faults.
  */
 function jsonOfValue(shapes, shape, value, nodes) {
   return new Writer(shapes, nodes).whole(shape, value);
@@ -969,8 +969,8 @@ function isEndOfStack(error) {
   return isOfEngine && /call stack|recursion/.test(error.message);
 }
 
-// The proved calls, which bindings/c/proved.h declares, on an instance of the WebAssembly module: what is handed over is put
-// into its memory, and the answer is read from there.
+// The proved calls, which bindings/c/proved.h declares, on an instance of the WebAssembly module: arguments are copied into its
+// memory, and the answer is read from there.
 
 const STATUSES = ['done', 'short', 'registry', 'format', 'limits', 'refused', 'memory', 'no', 'path', 'newer', 'closed'];
 const FORMS = ['ways', 'paths', 'tree', 'json'];
@@ -979,7 +979,7 @@ const ANSWER_SIZE = 24;
 const SLICE_SIZE = 16;
 const LIMITS_SIZE = 8;
 const HANDLE_SIZE = 8;
-// An instance whose memory grew beyond this is let go, so that its memory goes back to the system.
+// An instance whose memory grew beyond this is dropped, so that its memory goes back to the system.
 const KEPT_MEMORY = 32 << 20;
 // The first output for pieces is no longer than this, since how long they are depends on the names.
 const FIRST_PIECES = 16 << 20;
@@ -987,12 +987,12 @@ const FIRST_PIECES = 16 << 20;
 const FIRST_PLACE = 256;
 // The first output for a schema, an example, a registry in readable form, and the differences of two.
 const FIRST_DOCUMENT = 4096;
-// The least room in the memory that is kept for what calls are handed.
+// The least room in the memory that is kept for the arguments of calls.
 const LEAST_ROOM = 4096;
 
-/** A registry that is read once for many calls. Where an instance was let go, the next call reads it again. */
+/** A registry that is read once for many calls. If its instance was dropped, the next call reads it again. */
 class Opened {
-  /** In which room it is open, if it is in one, and where its handle stands there. */
+  /** The room in which it is open, if any, and where its handle is there. */
   room;
   place;
 
@@ -1001,7 +1001,7 @@ class Opened {
   }
 }
 
-/** An instance of the module, with a piece of its memory for what a call is handed and what it answers. */
+/** An instance of the module, with a piece of its memory for the arguments and the answer of a call. */
 class Room {
   id = Symbol('room');
   #place = 0;
@@ -1036,8 +1036,8 @@ class Room {
   }
 
   /**
-   * Makes a call with these words. A number goes as it is, bytes as a slice, and an object is what is asked for: `slices`,
-   * and then the limits. The output, if there is one, has so many bytes.
+   * Makes a call with these arguments. A number is passed as it is, bytes as a slice, and an object as the parameters: `slices`,
+   * and then the limits. The output, if the call has one, has `outLength` bytes.
    */
   call(name, parts, outLength) {
     let size = ANSWER_SIZE + (outLength ?? 0);
@@ -1156,8 +1156,8 @@ function asked({ format, depth, nodes }) {
 }
 
 /**
- * The calls. What is asked for has `registry`, which is `Opened`, `format`, `depth` and `nodes`. An answer has
- * `status`, `fault` (its number), `place`, `length` and, where there is one, `output`.
+ * The calls. Their parameters are `registry`, which is `Opened`, `format`, `depth` and `nodes`. An answer has `status`, `fault`
+ * (its number), `place`, `length` and, if the call has one, `output`.
  */
 class Calls {
   #module;
@@ -1296,7 +1296,7 @@ class Calls {
     return this.#run((room) => handleCall(room, name, registry, parts, outLength));
   }
 
-  /** One instance serves call after call. A call that was broken off may leave anything behind: its instance is let go. */
+  /** One instance serves call after call. A call that was broken off may leave anything behind, so its instance is dropped. */
   #run(call) {
     try {
       const room = this.#room ?? new Room(this.#module);
@@ -1327,7 +1327,7 @@ const Limits = Object.freeze({
 /**
  * How many nodes bytes may have by default, as `bcs_handle_nodes_for` of the C library computes it: 16 a byte and 65,536. Five
  * bytes can announce two billion; no real value comes near this limit. A decoded value may repeat a name in each node, so a
- * registry with a name of more than 64 bytes gets as many nodes as have that number of bytes in names of 64, but at least 2 a byte.
+ * registry with a name of more than 64 bytes gets the number of nodes whose names of 64 bytes would take as much, but at least 2 a byte.
  */
 function nodesFor(length, longestName) {
   const ordinary = Math.min(16 * length + SPARE_NODES, ALL_NODES);
@@ -1428,7 +1428,7 @@ class Holder {
     return nodesFor(length, this.#longestName);
   }
 
-  /** The format that a caller names. Only so many are kept. This may run the caller's code. */
+  /** The format that a caller names. The number of formats that are kept is limited. This may run the caller's code. */
   format(given) {
     const isString = typeof given === 'string';
     const formats = isString ? this.#formats.ofStrings : this.#formats.ofObjects;
@@ -1481,7 +1481,7 @@ const MISSING = {
 const VIEW_WORDS = { inside: 'inside', calls: 'call', addresses: 'address', u256s: 'u256', i256s: 'i256' };
 
 /**
- * The views that a caller asks for: the member that has each, its name, and its line for the module. `formatOf` finds the format
+ * The views that a caller requests: the member that has each, its name, and its line for the module. `formatOf` finds the format
  * that the caller names.
  */
 function viewsOf(given, formatOf) {
@@ -1973,7 +1973,7 @@ class Bcs {
     return new Registry(this, holder, { depth: MOST_DEPTH });
   }
 
-  /** Returns if the newer registry keeps all that the older one has; else it is refused, the first fault being told. */
+  /** Returns if the newer registry keeps everything in the older one; otherwise it is refused, with its first fault. */
   grows(older, newer) {
     const [first, second] = [bytesOf(older), bytesOf(newer)];
     this.answerOf((calls) => calls.grows(first, second), (calls, { status }) => {

@@ -169,12 +169,12 @@ export interface Piece {
   path: string | null;
 }
 
-/** What stands behind the pieces of a value. */
+/** What follows the pieces of a value. */
 export interface End {
   end: number;
 }
 
-/** What stands behind the pieces where the bytes stop being a value. */
+/** What follows the pieces if the bytes stop being a value. */
 export interface Stop {
   refused: string;
   place: number;
@@ -334,7 +334,7 @@ export function hex(digits: string): Uint8Array;
 /** Bytes by base64 (RFC 4648, section 4), as Sui has them. */
 export function toBase64(bytes: Bytes): string;
 
-/** The bytes of such a text; what is none is a `TypeError`. */
+/** The bytes of such a text; any other text is a `TypeError`. */
 export function fromBase64(text: string): Uint8Array;
 
 /** A type of the engine, if these declarations are used with a library that declares it, such as that of Node or of browsers. */

@@ -1,5 +1,5 @@
-// The proved calls, which bindings/c/proved.h declares, on an instance of the WebAssembly module: what is handed over is put
-// into its memory, and the answer is read from there.
+// The proved calls, which bindings/c/proved.h declares, on an instance of the WebAssembly module: arguments are copied into its
+// memory, and the answer is read from there.
 import { Interruption, interruptionOf } from './interruptions.mjs';
 
 const STATUSES = ['done', 'short', 'registry', 'format', 'limits', 'refused', 'memory', 'no', 'path', 'newer', 'closed'];
@@ -9,7 +9,7 @@ const ANSWER_SIZE = 24;
 const SLICE_SIZE = 16;
 const LIMITS_SIZE = 8;
 const HANDLE_SIZE = 8;
-// An instance whose memory grew beyond this is let go, so that its memory goes back to the system.
+// An instance whose memory grew beyond this is dropped, so that its memory goes back to the system.
 const KEPT_MEMORY = 32 << 20;
 // The first output for pieces is no longer than this, since how long they are depends on the names.
 const FIRST_PIECES = 16 << 20;
@@ -17,12 +17,12 @@ const FIRST_PIECES = 16 << 20;
 const FIRST_PLACE = 256;
 // The first output for a schema, an example, a registry in readable form, and the differences of two.
 const FIRST_DOCUMENT = 4096;
-// The least room in the memory that is kept for what calls are handed.
+// The least room in the memory that is kept for the arguments of calls.
 const LEAST_ROOM = 4096;
 
-/** A registry that is read once for many calls. Where an instance was let go, the next call reads it again. */
+/** A registry that is read once for many calls. If its instance was dropped, the next call reads it again. */
 export class Opened {
-  /** In which room it is open, if it is in one, and where its handle stands there. */
+  /** The room in which it is open, if any, and where its handle is there. */
   room;
   place;
 
@@ -31,7 +31,7 @@ export class Opened {
   }
 }
 
-/** An instance of the module, with a piece of its memory for what a call is handed and what it answers. */
+/** An instance of the module, with a piece of its memory for the arguments and the answer of a call. */
 class Room {
   id = Symbol('room');
   #place = 0;
@@ -66,8 +66,8 @@ class Room {
   }
 
   /**
-   * Makes a call with these words. A number goes as it is, bytes as a slice, and an object is what is asked for: `slices`,
-   * and then the limits. The output, if there is one, has so many bytes.
+   * Makes a call with these arguments. A number is passed as it is, bytes as a slice, and an object as the parameters: `slices`,
+   * and then the limits. The output, if the call has one, has `outLength` bytes.
    */
   call(name, parts, outLength) {
     let size = ANSWER_SIZE + (outLength ?? 0);
@@ -186,8 +186,8 @@ function asked({ format, depth, nodes }) {
 }
 
 /**
- * The calls. What is asked for has `registry`, which is `Opened`, `format`, `depth` and `nodes`. An answer has
- * `status`, `fault` (its number), `place`, `length` and, where there is one, `output`.
+ * The calls. Their parameters are `registry`, which is `Opened`, `format`, `depth` and `nodes`. An answer has `status`, `fault`
+ * (its number), `place`, `length` and, if the call has one, `output`.
  */
 export class Calls {
   #module;
@@ -326,7 +326,7 @@ export class Calls {
     return this.#run((room) => handleCall(room, name, registry, parts, outLength));
   }
 
-  /** One instance serves call after call. A call that was broken off may leave anything behind: its instance is let go. */
+  /** One instance serves call after call. A call that was broken off may leave anything behind, so its instance is dropped. */
   #run(call) {
     try {
       const room = this.#room ?? new Room(this.#module);

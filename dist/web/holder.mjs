@@ -69,7 +69,7 @@ export class Holder {
     return nodesFor(length, this.#longestName);
   }
 
-  /** The format that a caller names. Only so many are kept. This may run the caller's code. */
+  /** The format that a caller names. The number of formats that are kept is limited. This may run the caller's code. */
   format(given) {
     const isString = typeof given === 'string';
     const formats = isString ? this.#formats.ofStrings : this.#formats.ofObjects;

@@ -15,7 +15,7 @@ export const Limits = Object.freeze({
 /**
  * How many nodes bytes may have by default, as `bcs_handle_nodes_for` of the C library computes it: 16 a byte and 65,536. Five
  * bytes can announce two billion; no real value comes near this limit. A decoded value may repeat a name in each node, so a
- * registry with a name of more than 64 bytes gets as many nodes as have that number of bytes in names of 64, but at least 2 a byte.
+ * registry with a name of more than 64 bytes gets the number of nodes whose names of 64 bytes would take as much, but at least 2 a byte.
  */
 export function nodesFor(length, longestName) {
   const ordinary = Math.min(16 * length + SPARE_NODES, ALL_NODES);

@@ -58,7 +58,7 @@ class Bcs {
     return new Registry(this, holder, { depth: MOST_DEPTH });
   }
 
-  /** Returns if the newer registry keeps all that the older one has; else it is refused, the first fault being told. */
+  /** Returns if the newer registry keeps everything in the older one; otherwise it is refused, with its first fault. */
   grows(older, newer) {
     const [first, second] = [bytesOf(older), bytesOf(newer)];
     this.answerOf((calls) => calls.grows(first, second), (calls, { status }) => {

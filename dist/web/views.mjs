@@ -15,7 +15,7 @@ const MISSING = {
 const VIEW_WORDS = { inside: 'inside', calls: 'call', addresses: 'address', u256s: 'u256', i256s: 'i256' };
 
 /**
- * The views that a caller asks for: the member that has each, its name, and its line for the module. `formatOf` finds the format
+ * The views that a caller requests: the member that has each, its name, and its line for the module. `formatOf` finds the format
  * that the caller names.
  */
 export function viewsOf(given, formatOf) {

@@ -36,8 +36,8 @@ const TAKES = {
 };
 
 /**
- * The JSON of a value of this shape with at most so many nodes, as a string or in UTF-8. A value of a wrong type is rejected; all
- * other faults the proved call finds.
+ * The JSON of a value of this shape with at most `nodes` nodes, as a string or in UTF-8. Rejects a value of a wrong type; the
+ * proved call finds all other faults.
  */
 export function jsonOfValue(shapes, shape, value, nodes) {
   return new Writer(shapes, nodes).whole(shape, value);
