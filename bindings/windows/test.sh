@@ -110,7 +110,8 @@ part "memory" run_memory
 compile stack "$root/bindings/c/tests/stack.c" "-DENOUGH=(12*MIB)"
 part "deep values on small stacks" "$wine" "$room/stack.exe" threads "$root/examples"
 
-compile driver "$root/bindings/c/tests/driver.c"
+# (with the stack of Linux and more, so that no row is answered by BCS_STACK)
+compile driver "$root/bindings/c/tests/driver.c" "-Wl,--stack,$((16 << 20))"
 part "the rows of the library" python3 "$root/tests/rows" windows "$wine" "$room/driver.exe"
 part "the rows of the library, on handles" \
     python3 "$root/tests/rows" --without changes windows-handles "$wine" "$room/driver.exe" handle
