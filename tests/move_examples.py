@@ -263,7 +263,7 @@ def test_document(tests: Tests) -> None:
     elif os.environ.get("CI") == "true":
         tests.equal("openssl", "missing", "here")
     else:
-        print("move: the signatures are skipped, which need openssl")
+        print("move: signatures are skipped, since openssl is missing")
 
 
 def main(program: str) -> int:

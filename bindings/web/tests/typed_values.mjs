@@ -133,7 +133,7 @@ function ascii(value) {
   return JSON.stringify(value).replace(/[^ -~]/g, (unit) => `\\u${unit.charCodeAt(0).toString(16).padStart(4, '0')}`);
 }
 
-/** A value, its bytes, and what they are decoded to; or nothing, if two keys are the same or there is no value. */
+/** A value, its bytes, and what they decode to; or nothing, if two keys are equal or the format has no value. */
 function tried(name) {
   const format = { TYPENAME: name };
   try {
