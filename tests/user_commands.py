@@ -16,7 +16,7 @@ import shutil
 import tempfile
 
 import debian
-from harness import ROOT, arguments, end_with, log_of, run
+from harness import ROOT, Failed, arguments, end_with, log_of, run
 
 # for the tests and examples, for reading the manual, for the shells that have completions, and for ./install
 NEEDED = {
@@ -56,17 +56,21 @@ def tree_of_dist(room: pathlib.Path) -> pathlib.Path:
     return tree
 
 
-def test(tree: pathlib.Path, *words: str) -> None:
+def test(tree: pathlib.Path, *words: str) -> list[str]:
     """Runs ./test of a tree, and prints its lines, the last one with a name."""
     *lines, last = log_of(tree / "test", *words).splitlines()
     print(*lines, f"test: in all {last}", sep="\n")
+    return lines
 
 
 def main() -> None:
     program = str(pathlib.Path(arguments(__doc__, "program").program).resolve())
     debian.install(NEEDED)
     with tempfile.TemporaryDirectory() as room:
-        test(tree_of_dist(pathlib.Path(room)), "--program", str(ROOT / "dist/x86_64-linux/bcs"))
+        lines = test(tree_of_dist(pathlib.Path(room)), "--program", str(ROOT / "dist/x86_64-linux/bcs"))
+    # With another program than that of dist/, the examples of Python are skipped, so they have to run here.
+    if skipped := [line for line in lines if "dist/ has another program" in line]:
+        raise Failed("\n".join(skipped))
     test(ROOT, "--quick", "--program", program)
     print(log_of("./test", "--self-test", "--program", program), end="")
     print(log_of("tests/packaging.py", "--all", program), end="")
