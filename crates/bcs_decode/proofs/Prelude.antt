@@ -5,7 +5,7 @@ pub use Rattle.std.proofs.lemmas.Result.{err_from_is_err_and}
 pub use Rattle.std.specs.Io.KnownBytes.{Consumes, IsAtEnd}
 pub use Rattle.bcs_decode_parts.proofs.Skips.{accepted_stands}
 pub use Rattle.bcs_decode_parts.specs.declared.ahead.Ahead.{Ahead}
-pub use Rattle.bcs_decode_slice.specs.Passing.{skip}
+pub use Rattle.bcs_decode_spec.specs.Steps.{skip}
 pub use Rattle.bcs_decode_source.proofs.MemoryFaults.{never_lacks}
 pub use Rattle.bcs_decode_source.proofs.SourceSteps.{Along-gave}
 pub use Rattle.bcs_decode_source.proofs.StreamedRows.{Found}

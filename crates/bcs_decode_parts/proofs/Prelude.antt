@@ -18,8 +18,8 @@ pub use Rattle.std.specs.Str.{bytes_eq}
 pub use Rattle.std.specs.Str.Iter.{split_steps}
 pub use Rattle.std.specs.Str.Parse.{AllDigits, digits_value}
 pub use Rattle.std.specs.Str.Pattern.{FindsChar}
-pub use Rattle.bcs_decode_slice.proofs.Passings.{bare}
-pub use Rattle.bcs_decode_slice.specs.Passing.{skip}
+pub use Rattle.bcs_decode_spec.proofs.ScalarSteps.{bare}
+pub use Rattle.bcs_decode_spec.specs.Steps.{skip}
 pub use Rattle.bcs_decode_slice.specs.declared.cursor.Cursor.{Cursor}
 pub use Rattle.bcs_decode_spec.proofs.Combine.{parts}
 pub use Rattle.bcs_decode_spec.proofs.Decodable.{are_items, are_pairs, decodable, each_is, EachIs, is_each, items_are}

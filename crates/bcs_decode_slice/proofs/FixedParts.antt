@@ -1,8 +1,8 @@
 -- The fixed size of a format's values, derived from the sizes of its parts.
 use Rattle.bcs_decode_slice.proofs.Prelude.{◌≡◌, ℕ, zero, suc, ◌+◌, ◌-◌, ◌*◌, ◌<◌, ◌≤◌, List, drop, refl, ap, ◌∙◌, arith, Shape, Shapes, Entries, Content, of, content_at, Parser, give, items_here, skipping, value_here, shape_here, skip, whole_here, GoesPast, IsFixed, IsFixedInside}
 use Rattle.bcs_registry_model.specs.Shape as shape
-use Rattle.bcs_decode_slice.proofs.Passings.{enter_more, unit_is}
-use Rattle.bcs_decode_slice.proofs.PassingParts.{each, each_end, each_on, tuple_on, named_on, content_past, content_shape, items_end, node_then}
+use Rattle.bcs_decode_spec.proofs.ScalarSteps.{enter_more, unit_is}
+use Rattle.bcs_decode_spec.proofs.PartSteps.{each, each_end, each_on, tuple_on, named_on, content_past, content_shape, items_end, node_then}
 use Rattle.bcs_decode_slice.proofs.WholeRows.{one_on}
 use Rattle.bcs_decode_slice.proofs.Reaching.{Reaches, reaches_on, reaches_end, node_goes, items_reach}
 

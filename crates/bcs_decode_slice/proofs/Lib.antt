@@ -1,7 +1,6 @@
 pub mod Prelude
 pub mod Passings
 pub mod Steps
-pub mod PassingParts
 pub mod Openings
 pub mod WholeRows
 pub mod Reaching

@@ -1,7 +1,7 @@
 -- Opening a container: its layout is determined before its contents are skipped.
 use Rattle.bcs_decode_slice.proofs.Prelude.{◌≡◌, ℕ, ◌≤◌, List, Ok, Err, refl, ap, ◌∙◌, Shape, Entries, Choice, Content, of, one_of, nothing, choice_at, Reason, UnknownVariant, Read, follow, chain, give, fail, fail_here, choice_here, named_here, value_here, skipping, skip, variant_past, chosen_here, opened_here}
-use Rattle.bcs_decode_slice.proofs.Passings.{bare}
-use Rattle.bcs_decode_slice.proofs.PassingParts.{content_past, content_shape, content_nothing, variant_is}
+use Rattle.bcs_decode_spec.proofs.ScalarSteps.{bare}
+use Rattle.bcs_decode_spec.proofs.PartSteps.{content_past, content_shape, content_nothing, variant_is}
 
 module _ (p m : ℕ) (b : List ℕ) where
   pub opened_struct : (k : Content) (s : Shape) → k ≡ of s → opened_here k p m b ≡ Ok (s, p, m, b)

@@ -1,6 +1,6 @@
 -- Parsers that consume a fixed number of bytes and nodes, followed by other parsers.
 use Rattle.bcs_decode_slice.proofs.Prelude.{◌≡◌, ℕ, zero, suc, ◌+◌, ◌-◌, ◌*◌, ◌≤◌, List, length, drop, refl, ◌∙◌, arith, suc-mul, length-drop, drop-drop, Parser, chain, give, node, items_here, skipping, node_here, GoesPast}
-use Rattle.bcs_decode_slice.proofs.Passings.{bare}
+use Rattle.bcs_decode_spec.proofs.ScalarSteps.{bare}
 
 -- if at least `i` bytes and `k` nodes are left, `f` consumes exactly these, and continues as `g`
 abbrev pub Reaches : Parser (Unit {0}) → Parser (Unit {0}) → ℕ → ℕ → Type 0

@@ -1,6 +1,6 @@
 -- Skipping `n` values of `w` bytes each in one step.
 use Rattle.bcs_decode_slice.proofs.Prelude.{◌≡◌, ℕ, zero, suc, ◌+◌, ◌-◌, ◌*◌, ◌<◌, ◌≤◌, List, length, drop, Ok, Err, refl, ap, ◌∙◌, arith, ◌/◌, ◌⊎◌, inl, inr, mul-le-mul_right, suc-mul, le-ltb, lt-ltb, length-drop, drop-drop, Reason, EndOfInput, TooManyNodes, chain, give, node, bytes_here, items_here, skipping, whole_here}
-use Rattle.bcs_decode_slice.proofs.Passings.{bare}
+use Rattle.bcs_decode_spec.proofs.ScalarSteps.{bare}
 
 module _ (w : ℕ) where
   pub one_on : (p m : ℕ) (b : List ℕ) → w ≤ length b → whole_here w p (suc m) b ≡ Ok (tt, p + w, m, drop w b)

@@ -3,7 +3,7 @@ use Rattle.std.specs.Prelude.{◌≡◌, ℕ, ◌+◌, ◌-◌, ◌≤◌, List,
 use Rattle.bcs_registry_model.specs.Shape.{Shape}
 use Rattle.bcs_registry_model.specs.Container.{Entries, Content}
 use Rattle.bcs_decode_spec.specs.Reading.{Parser, content_here, named_here, skipping}
-use Rattle.bcs_decode_slice.specs.Passing.{skip}
+use Rattle.bcs_decode_spec.specs.Steps.{skip}
 
 -- if at least `bytes` bytes and `nodes` nodes are left, `f` succeeds and consumes exactly these, whatever the bytes are
 abbrev pub GoesPast : Parser (Unit {0}) → ℕ → ℕ → Type 0

@@ -1,7 +1,8 @@
 //! A cursor over a slice of bytes. Each function reads one item and advances the cursor.
 ghost use Rattle.std.specs.Prelude.{◌≡◌, ℕ, ◌+◌, ◌<◌, ◌≤◌, ◌^◌, length, take, drop, IfOk};
 ghost use Rattle.bcs_decode_spec.specs.Reading.{number_here, length_here, bytes_here, text_here, flag_here};
-ghost use Rattle.bcs_decode_slice.specs.Passing.{Passes, Onward, node_here};
+ghost use Rattle.bcs_decode_spec.specs.Steps.{node_here};
+ghost use Rattle.bcs_decode_slice.specs.Passing.{Passes, Onward};
 
 use bcs_decode_spec::{Reason, Stop};
 use bcs_num::{LENGTH_LIMIT, NumFault, take_uleb};

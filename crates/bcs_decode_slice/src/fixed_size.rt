@@ -4,7 +4,7 @@ ghost use Rattle.bcs_registry_model.specs.Container.{Entries};
 ghost use Rattle.bcs_registry_model.specs.View.{shape_of};
 ghost use Rattle.bcs_decode_slice.specs.Fixed.{IsFixed};
 
-use crate::integers::integer_width;
+use bcs_decode_spec::integer_width::integer_width;
 use bcs_registry_model::Format;
 
 /// The number of bytes and of nodes of each value of a format.

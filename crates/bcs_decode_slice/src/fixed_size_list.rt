@@ -2,7 +2,8 @@
 ghost use Rattle.std.specs.Prelude.{◌≡◌, ℕ, ◌+◌, ◌-◌, ◌*◌, ◌<◌, ◌≤◌, ◌^◌, length, drop};
 ghost use Rattle.bcs_registry_model.specs.View.{shape_of};
 ghost use Rattle.bcs_decode_spec.specs.Reading.{items_here, skipping};
-ghost use Rattle.bcs_decode_slice.specs.Passing.{Onward, skip};
+ghost use Rattle.bcs_decode_spec.specs.Steps.{skip};
+ghost use Rattle.bcs_decode_slice.specs.Passing.{Onward};
 
 use crate::cursor::{Cursor, advance};
 use crate::fixed_size::FixedSize;

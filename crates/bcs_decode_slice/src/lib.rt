@@ -6,7 +6,6 @@ mod fixed_size;
 pub mod fixed_size_list;
 pub mod integers;
 pub mod measuring;
-pub mod named_container;
 pub mod opening;
 pub mod scanning;
 pub mod shallow;

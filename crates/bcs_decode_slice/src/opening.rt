@@ -5,7 +5,8 @@ ghost use Rattle.bcs_registry_model.specs.Container.{Entries, content_at};
 ghost use Rattle.bcs_registry_model.specs.Layout.{layout_shape};
 ghost use Rattle.bcs_registry_model.specs.View.{container_of};
 ghost use Rattle.bcs_registry_model.specs.WellFormed.{IsWellFormed, levels};
-ghost use Rattle.bcs_decode_slice.specs.Passing.{Passes, Onward, opened_here};
+ghost use Rattle.bcs_decode_spec.specs.Steps.{opened_here};
+ghost use Rattle.bcs_decode_slice.specs.Passing.{Passes, Onward};
 
 use crate::cursor::Cursor;
 use crate::shallow::variant_number;

@@ -9,16 +9,17 @@ ghost use Rattle.bcs_registry_model.specs.View.{shape_of, formats_shapes, field_
 ghost use Rattle.bcs_registry_model.specs.WellFormed.{IsWellFormed};
 ghost use Rattle.bcs_decode_spec.specs.Reading.{content_here, items_here, key_here, named_here, pairs_here, skipping};
 ghost use Rattle.bcs_key_order.specs.Following.{key_bytes};
-ghost use Rattle.bcs_decode_slice.specs.Passing.{Passes, Onward, skip};
+ghost use Rattle.bcs_decode_spec.specs.Steps.{skip};
+ghost use Rattle.bcs_decode_slice.specs.Passing.{Passes, Onward};
 
 use crate::cursor::{Cursor, node};
 use crate::fixed_size_list::skip_fixed_size_list;
-use crate::integers::{integer_width, skip_integers};
-use crate::named_container::named_container;
+use crate::integers::skip_integers;
 use crate::opening::opened;
 use crate::shallow::{
     bytes_value, counted, enter, flag_value, text_value, truth, unsupported, whole,
 };
+use bcs_decode_spec::integer_width::integer_width;
 use bcs_decode_spec::{Reason, Stop};
 use bcs_key_order::following::follows;
 use bcs_registry::{Container, Format, Named, Registry, VariantFormat};
@@ -89,7 +90,7 @@ pub fn elements<'a>(
     if gone == count {
         return Ok(());
     }
-    if let Some(container) = named_container(registry, element) {
+    if let Some(container) = registry.named_container(element) {
         return containers(registry, container, count - gone, depth, cursor);
     }
     for _ in gone..count {

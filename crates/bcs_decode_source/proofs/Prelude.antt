@@ -12,10 +12,10 @@ pub use Rattle.std.specs.Map.{lookup}
 pub use Rattle.std.specs.Option.{option_map_or}
 pub use Rattle.std.specs.Str.{is_utf8, IsValidUpTo}
 pub use Rattle.std.specs.Str.Lossy.{utf8_valid_len}
-pub use Rattle.bcs_decode_slice.proofs.PassingParts.{chained_bare, content_nothing, content_past, content_shape, each, each_end, each_on, each_stop, items_end, items_on, items_same, items_stop, named_on, named_stop, pairs_end, pairs_on, pairs_stop_key, pairs_stop_value, tuple_on, tuple_stop}
-pub use Rattle.bcs_decode_slice.proofs.Passings.{bare, past_scalar, unit_is}
-pub use Rattle.bcs_decode_slice.specs.Passing.{node_here, skip}
-unfoldable pub use Rattle.bcs_decode_slice.specs.Passing.{bytes_past, counted_here, enter_here, text_past, truth_here, unsupported_here, whole_here}
+pub use Rattle.bcs_decode_spec.proofs.PartSteps.{chained_bare, content_nothing, content_past, content_shape, each, each_end, each_on, each_stop, items_end, items_on, items_same, items_stop, named_on, named_stop, pairs_end, pairs_on, pairs_stop_key, pairs_stop_value, tuple_on, tuple_stop}
+pub use Rattle.bcs_decode_spec.proofs.ScalarSteps.{bare, past_scalar, unit_is}
+pub use Rattle.bcs_decode_spec.specs.Steps.{node_here, skip}
+unfoldable pub use Rattle.bcs_decode_spec.specs.Steps.{bytes_past, counted_here, enter_here, text_past, truth_here, unsupported_here, whole_here}
 pub use Rattle.bcs_decode_spec.proofs.LookedUp.{choice_found, choice_missing, content_found, content_missing, field_levels_in, fields_next, formats_next, levels_in}
 pub use Rattle.bcs_decode_spec.specs.Reading.{building, follow, key_after, length_here, Making, number_read, Parser, Read, shifted, skipping, uleb_from}
 unfoldable pub use Rattle.bcs_decode_spec.specs.Reading.{bytes_here, chain, choice_here, content_here, each_here, fail, fail_here, flag_here, give, items_here, key_here, named_here, node, number_here, option_here, pairs_here, shape_here, signed_here, text_here, unsigned_here, value_here, variant_here}

@@ -11,7 +11,7 @@ use Rattle.bcs_num.specs.declared.fault.NumFault.TheVariants as num
 use Rattle.bcs_decode_spec.specs.declared.reason.Reason.TheVariants.{EndOfInput, LongForm, NumberTooLarge, BadBool, BadOption, Unsupported}
 use Rattle.bcs_decode_spec.specs.Reading as Reading
 use Rattle.bcs_decode_spec.specs.Reading.{Parser, Making, node, give, chain, fail_here, bytes_here, length_here, uleb_from, flag_here, text_here, unsigned_here, signed_here, number_here, value_here, items_here, pairs_here, key_here, each_here, named_here, content_here, building}
-use Rattle.bcs_decode_slice.specs.Passing.{node_here, enter_here}
+use Rattle.bcs_decode_spec.specs.Steps.{node_here, enter_here}
 use Rattle.bcs_decode_spec.specs.declared.decode_fault.DecodeFault.{DecodeFault}
 use Rattle.bcs_decode_spec.specs.declared.decode_fault.DecodeFault.TheVariants.{Stop, Read, OutOfMemory}
 use Rattle.bcs_decode_source.specs.declared.progress.Progress.{Progress}

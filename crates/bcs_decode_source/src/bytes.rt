@@ -4,7 +4,7 @@ ghost use Rattle.bcs_decode_spec.specs.Reading.{bytes_here};
 ghost use Rattle.bcs_decode_spec.specs.declared.decode_fault.DecodeFault.TheVariants.{OutOfMemory};
 ghost use Rattle.bcs_decode_source.specs.Kept.{SamePlace};
 ghost use Rattle.bcs_decode_source.specs.Reads.{IsStill, Ready, Reads};
-ghost use Rattle.bcs_decode_slice.specs.Passing.{node_here};
+ghost use Rattle.bcs_decode_spec.specs.Steps.{node_here};
 ghost use Rattle.bcs_decode_source.specs.Sees.{OutOfMemoryOnlyInKey, byte_here};
 
 use crate::progress::Progress;

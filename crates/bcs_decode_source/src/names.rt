@@ -1,7 +1,7 @@
 //! Opens containers and variants.
 ghost use Rattle.std.specs.Prelude.{◌<◌, IfOk};
 ghost use Rattle.bcs_decode_source.specs.Reads.{IsStill, Ready, Reads};
-ghost use Rattle.bcs_decode_slice.specs.Passing.{enter_here};
+ghost use Rattle.bcs_decode_spec.specs.Steps.{enter_here};
 ghost use Rattle.bcs_decode_source.specs.Sees.{OutOfMemoryOnlyInKey, number_node};
 
 use crate::bytes::begin;

@@ -16,7 +16,6 @@ use crate::reader::Reader;
 use crate::room::make_room;
 use crate::slots::finish;
 use crate::values::value;
-use bcs_decode_slice::named_container::named_container;
 use bcs_decode_spec::DecodeFault;
 use bcs_io::ByteSource;
 use bcs_registry::{Container, Format};
@@ -66,7 +65,7 @@ fn row<S: ByteSource>(
     if count == 0 {
         return Ok(());
     }
-    if let Some(container) = named_container(reader.registry, element) {
+    if let Some(container) = reader.registry.named_container(element) {
         return containers(reader, container, count, depth, slot, found);
     }
     for _ in 0..count {

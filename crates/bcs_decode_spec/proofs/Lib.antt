@@ -16,3 +16,5 @@ pub mod Values
 pub mod Verdicts
 pub mod WorkedRows
 pub mod LookedUp
+pub mod ScalarSteps
+pub mod PartSteps

@@ -5,7 +5,7 @@ pub use Rattle.std.proofs.lemmas.Bool.{and_from, and_parts, cases_Bool, cases_eq
 pub use Rattle.std.proofs.lemmas.List.{append-nil, drop_at, drop_more, length-append, length-take, take-append-drop, take_all, take_at}
 pub use Rattle.std.proofs.lemmas.List.Elements.{All-cons, All-head, All-nil, All-tail}
 pub use Rattle.std.specs.Cmp.Lexicographic.{slice_cmp}
-pub use Rattle.std.specs.Int.{byte_len, from_le_bytes, w16, w8, Width}
+pub use Rattle.std.specs.Int.{byte_len, cast_signed, from_le_bytes, w16, w8, Width}
 pub use Rattle.std.specs.Option.{option_map_or}
 pub use Rattle.std.specs.Ordering.{match_ordering, nat_cmp}
 pub use Rattle.std.specs.Str.{is_utf8}
@@ -24,18 +24,26 @@ pub use Rattle.bcs_encode_spec.specs.Sound.{IsSoundAt}
 pub use Rattle.bcs_num.proofs.LeReading.{signed_number, signed_read, signed_written, unsigned_read, unsigned_written}
 pub use Rattle.bcs_num.proofs.Ranges.{holds_signed-is, is-holds_signed}
 pub use Rattle.bcs_num.proofs.UlebReading.{number_at, number_at_fault, number_at_is_fault, number_at_is_number, number_at_number, number_from}
-pub use Rattle.bcs_num.specs.Le.{IsSigned, IsUnsigned, le, le_signed}
+pub use Rattle.bcs_num.specs.Le.{IsSigned, IsUnsigned, le, le_signed, width_of}
 pub use Rattle.bcs_num.specs.Uleb.{IsLongForm, IsTooLarge, uleb}
 pub use Rattle.bcs_num.specs.declared.fault.NumFault.{NumFault}
+pub use Rattle.bcs_num.specs.declared.width.Width.{Width as NumberWidth}
+pub use Rattle.bcs_num.specs.declared.width.Width.TheVariants.{W1, W16, W2, W4, W8}
 pub use Rattle.bcs_registry_model.proofs.Admitted.{choice_at-inside, content_at-inside}
+pub use Rattle.bcs_registry_model.proofs.KindShapes.{shape_seen}
 pub use Rattle.bcs_registry_model.proofs.GrowthLaws.{choice_at-grows, content_at-grows, HasChoices, StaysIn}
 pub use Rattle.bcs_registry_model.specs.Container.{Choice, choice_at, choice_numbered, Container, container_at, Content, content, content_at, Entries, enumeration, field_shapes, field_struct, newtype, newtype_struct, nothing, of, one_of, Payload, payload_shape, tuple_struct, unit, unit_struct}
 pub use Rattle.bcs_registry_model.specs.Grows.{Grows}
+pub use Rattle.bcs_registry_model.specs.Kind.{scalar_shape}
 pub use Rattle.bcs_registry_model.specs.Shape.{no_shapes, Shape, shape, Shapes}
 pub use Rattle.bcs_registry_model.specs.View.{container_of, field_of, formats_shapes, shape_of}
 pub use Rattle.bcs_registry_model.specs.WellFormed.{are_known, has_few_levels, is_known, IsWellFormed, levels, shapes_levels}
+pub use Rattle.bcs_registry_model.specs.Whole.{whole_len, whole_shape}
 pub use Rattle.bcs_registry_model.specs.declared.format.Format.{Format}
+pub use Rattle.bcs_registry_model.specs.declared.integer_kind.IntegerKind.{IntegerKind}
+pub use Rattle.bcs_registry_model.specs.declared.integer_kind.IntegerKind.TheVariants.{Signed, Unsigned}
 pub use Rattle.bcs_registry_model.specs.declared.named.Named.{Named}
+pub use Rattle.bcs_registry_model.specs.declared.scalar.Scalar.{Scalar}
 pub use Rattle.bcs_value_model.proofs.Equivalence.{nat-same, same-refl}
 pub use Rattle.bcs_value_model.proofs.VariantFits.{number_fits, payload_fits}
 pub use Rattle.bcs_value_model.specs.Fits.{all_fit, are_bytes, each_fits, fits, pairs_fit}
@@ -51,3 +59,5 @@ unfoldable pub use Rattle.bcs_decode_spec.specs.Reading.{bytes_here, chain, choi
 pub use Rattle.bcs_decode_spec.specs.Stopping.{AfterLength, AllAre, AllRise, BytesStop, ChoiceStop, ContentStop, EachStop, EntryStop, FailStop, FlagStop, Follows, ItemsStop, last_key, LengthStop, Misplaced, NamedStop, NodeStop, NumberStop, OptionStop, PairsStop, ShapeStop, Stopping, Stops, StopsAll, TextStop, VariantStop}
 pub use Rattle.bcs_decode_spec.specs.declared.reason.Reason.{Reason}
 pub use Rattle.bcs_decode_spec.specs.declared.reason.Reason.TheVariants.{BadBool, BadOption, BadUtf8, EndOfInput, KeyOrder, KeyRepeated, LengthTooLarge, LongForm, NumberTooLarge, TooDeep, TooManyNodes, TrailingBytes, UnknownVariant, Unsupported}
+pub use Rattle.bcs_decode_spec.specs.Steps.{node_here, skip}
+unfoldable pub use Rattle.bcs_decode_spec.specs.Steps.{bytes_past, counted_here, enter_here, flag_past, text_past, truth_here, unsupported_here, variant_past, whole_here}

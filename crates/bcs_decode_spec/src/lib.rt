@@ -3,6 +3,7 @@
 #![tactic(auto)]
 
 mod decode_fault;
+pub mod integer_width;
 pub mod laws;
 mod out_of_memory;
 mod reason;

@@ -6,11 +6,13 @@ pub use Rattle.std.proofs.lemmas.Result.{err_from_is_err_and}
 pub use Rattle.std.specs.Int.{byte_len, cast_signed, from_le_bytes, w8}
 pub use Rattle.std.specs.Str.{is_utf8}
 pub use Rattle.std.specs.Str.Lossy.{utf8_valid_len}
-pub use Rattle.bcs_decode_slice.proofs.PassingParts.{array_on, array_stop, content_nothing, content_past, content_shape, each, each_end, each_on, each_stop, items_end, items_on, items_same, items_stop, list_on, list_stop, map_on, map_stop, named_on, named_past, named_stop, option_none, option_some, option_stop, pairs_end, pairs_on, pairs_stop_key, pairs_stop_value, tuple_on, tuple_stop, variant_on, variant_stop, variant_unknown}
-pub use Rattle.bcs_decode_slice.proofs.Passings.{dropped, passes_from, passes_here, unit_is, unsigned_is}
+pub use Rattle.bcs_decode_spec.proofs.PartSteps.{array_on, array_stop, content_nothing, content_past, content_shape, each, each_end, each_on, each_stop, items_end, items_on, items_same, items_stop, list_on, list_stop, map_on, map_stop, named_on, named_past, named_stop, option_none, option_some, option_stop, pairs_end, pairs_on, pairs_stop_key, pairs_stop_value, tuple_on, tuple_stop, variant_on, variant_stop, variant_unknown}
+pub use Rattle.bcs_decode_spec.proofs.ScalarSteps.{dropped, unit_is, unsigned_is}
+pub use Rattle.bcs_decode_slice.proofs.Passings.{passes_from, passes_here}
 pub use Rattle.bcs_decode_slice.proofs.Reaching.{items_reach}
-pub use Rattle.bcs_decode_slice.specs.Passing.{node_here, Onward, Passes, skip}
-unfoldable pub use Rattle.bcs_decode_slice.specs.Passing.{bytes_past, counted_here, enter_here, flag_past, text_past, unsupported_here, variant_past, whole_here}
+pub use Rattle.bcs_decode_spec.specs.Steps.{node_here, skip}
+pub use Rattle.bcs_decode_slice.specs.Passing.{Onward, Passes}
+unfoldable pub use Rattle.bcs_decode_spec.specs.Steps.{bytes_past, counted_here, enter_here, flag_past, text_past, unsupported_here, variant_past, whole_here}
 pub use Rattle.bcs_decode_slice.specs.declared.cursor.Cursor.{Cursor}
 pub use Rattle.bcs_decode_spec.proofs.Combine.{done, follow_ok, halted, parts}
 pub use Rattle.bcs_decode_spec.proofs.LookedUp.{choice_found, choice_missing, content_found, content_missing, field_levels_in, fields_next, formats_next, levels_in}

@@ -5,7 +5,7 @@ use Rattle.bcs_registry_model.specs.Shape as shape
 use Rattle.bcs_registry_model.specs.Shape.{Shape}
 use Rattle.bcs_decode_spec.specs.declared.reason.Reason.TheVariants.{BadBool}
 use Rattle.bcs_decode_spec.specs.Reading.{Parser, chain, give, bytes_here}
-use Rattle.bcs_decode_slice.specs.Passing.{node_here, flag_past, text_past, bytes_past, unsupported_here}
+use Rattle.bcs_decode_spec.specs.Steps.{node_here, flag_past, text_past, bytes_past, unsupported_here}
 
 -- a node, and then `n` bytes
 unfoldable pub node_and_bytes : ℕ → Parser (List ℕ)

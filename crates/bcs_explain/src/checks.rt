@@ -6,7 +6,8 @@ ghost use Rattle.std.specs.Option.{option_copied};
 ghost use Rattle.std.specs.BTreeMap.{is_at};
 ghost use Rattle.bcs_decode_spec.specs.Reading.{key_after};
 ghost use Rattle.bcs_key_order.specs.Following.{Validates, key_bytes};
-ghost use Rattle.bcs_decode_slice.specs.Passing.{Passes, Onward, node_here, enter_here, unsupported_here, variant_past};
+ghost use Rattle.bcs_decode_spec.specs.Steps.{node_here, enter_here, unsupported_here, variant_past};
+ghost use Rattle.bcs_decode_slice.specs.Passing.{Passes, Onward};
 ghost use Rattle.bcs_explain.specs.Covering.{Covers, ReportsStop, ReportsAnyStop};
 
 use crate::listener::{Expected, Listener};

@@ -6,7 +6,8 @@ ghost use Rattle.bcs_registry_model.specs.Shape.{name as name_shape, tuple as tu
 ghost use Rattle.bcs_registry_model.specs.View.{field_of, payload_of, container_of};
 ghost use Rattle.bcs_registry_model.specs.WellFormed.{IsWellFormed};
 ghost use Rattle.bcs_decode_spec.specs.Reading.{content_here, named_here, skipping};
-ghost use Rattle.bcs_decode_slice.specs.Passing.{Passes, Onward, skip};
+ghost use Rattle.bcs_decode_spec.specs.Steps.{skip};
+ghost use Rattle.bcs_decode_slice.specs.Passing.{Passes, Onward};
 ghost use Rattle.bcs_explain.specs.Covering.{Covers};
 
 use crate::checks::{enter, node, unknown_name, unknown_variant, variant_number, variant_numbered};

@@ -2,7 +2,8 @@
 ghost use Rattle.std.specs.Prelude.{◌≡◌, ℕ, ◌+◌, ◌-◌, ◌<◌, ◌≤◌, ◌^◌, length};
 ghost use Rattle.bcs_registry_model.specs.View.{shape_of};
 ghost use Rattle.bcs_decode_spec.specs.Reading.{items_here, skipping};
-ghost use Rattle.bcs_decode_slice.specs.Passing.{Onward, skip};
+ghost use Rattle.bcs_decode_spec.specs.Steps.{skip};
+ghost use Rattle.bcs_decode_slice.specs.Passing.{Onward};
 
 use bcs_decode_slice::cursor::Cursor;
 use bcs_decode_slice::fixed_size_list::{MAX_FORMATS, MIN_COUNT, sized_row};

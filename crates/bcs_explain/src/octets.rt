@@ -4,7 +4,8 @@ ghost use Rattle.std.specs.Int.{w8};
 ghost use Rattle.bcs_registry_model.specs.Shape as shape;
 ghost use Rattle.bcs_registry_model.specs.View.{shape_of};
 ghost use Rattle.bcs_decode_spec.specs.Reading.{items_here, skipping};
-ghost use Rattle.bcs_decode_slice.specs.Passing.{Passes, Onward, whole_here};
+ghost use Rattle.bcs_decode_spec.specs.Steps.{whole_here};
+ghost use Rattle.bcs_decode_slice.specs.Passing.{Passes, Onward};
 ghost use Rattle.bcs_explain.specs.Covering.{Covers};
 
 use crate::listener::{Counted, Expected, Listener, Meaning};

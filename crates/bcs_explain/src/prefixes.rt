@@ -1,6 +1,7 @@
 //! Reports what precedes the content of a value: its length, or the tag byte of an option.
 ghost use Rattle.std.specs.Prelude.{◌≡◌, ◌+◌, ◌<◌, ◌≤◌, ◌^◌, length};
-ghost use Rattle.bcs_decode_slice.specs.Passing.{Passes, Onward, counted_here, flag_past};
+ghost use Rattle.bcs_decode_spec.specs.Steps.{counted_here, flag_past};
+ghost use Rattle.bcs_decode_slice.specs.Passing.{Passes, Onward};
 ghost use Rattle.bcs_explain.specs.Covering.{Covers};
 
 use crate::listener::{Counted, Expected, Listener, Meaning};

@@ -3,7 +3,8 @@ ghost use Rattle.std.specs.Prelude.{◌≡◌, ◌+◌, ◌<◌, ◌≤◌, ◌^
 ghost use Rattle.std.specs.Int.{byte_len, from_le_bytes};
 ghost use Rattle.bcs_num.specs.Le.{width_of};
 ghost use Rattle.bcs_registry_model.specs.Kind.{scalar_shape};
-ghost use Rattle.bcs_decode_slice.specs.Passing.{Passes, Onward, flag_past};
+ghost use Rattle.bcs_decode_spec.specs.Steps.{flag_past};
+ghost use Rattle.bcs_decode_slice.specs.Passing.{Passes, Onward};
 ghost use Rattle.bcs_explain.specs.ScalarParsing.{discarding, node_and_bytes, scalar_past};
 ghost use Rattle.bcs_explain.specs.Covering.{Covers};
 

@@ -3,7 +3,8 @@ ghost use Rattle.std.specs.Prelude.{◌≡◌, ℕ, ◌+◌, ◌-◌, ◌<◌, �
 ghost use Rattle.bcs_registry_model.specs.Shape.{seq as list_shape, tuple as tuple_shape, array as array_shape};
 ghost use Rattle.bcs_registry_model.specs.View.{shape_of, formats_shapes};
 ghost use Rattle.bcs_decode_spec.specs.Reading.{items_here, skipping};
-ghost use Rattle.bcs_decode_slice.specs.Passing.{Passes, Onward, skip};
+ghost use Rattle.bcs_decode_spec.specs.Steps.{skip};
+ghost use Rattle.bcs_decode_slice.specs.Passing.{Passes, Onward};
 ghost use Rattle.bcs_explain.specs.Covering.{Covers};
 
 use crate::checks::node;

@@ -1,7 +1,8 @@
 //! Reports strings and byte strings: a length, and that number of bytes. These functions are outside the recursion.
 ghost use Rattle.std.specs.Prelude.{◌≡◌, ◌+◌, ◌<◌, ◌≤◌, ◌^◌, length};
 ghost use Rattle.bcs_decode_spec.specs.Reading.{bytes_here, text_here};
-ghost use Rattle.bcs_decode_slice.specs.Passing.{Passes, Onward, bytes_past, text_past};
+ghost use Rattle.bcs_decode_spec.specs.Steps.{bytes_past, text_past};
+ghost use Rattle.bcs_decode_slice.specs.Passing.{Passes, Onward};
 ghost use Rattle.bcs_explain.specs.ScalarParsing.{discarding};
 ghost use Rattle.bcs_explain.specs.Covering.{Covers};
 
@@ -13,7 +14,7 @@ use bcs_decode_slice::cursor::{Cursor, bytes, text};
 use bcs_decode_spec::Stop;
 
 /// Reports a string with its length.
-#[tactic(auto, using(crate::proofs::Covering::covers_then), unfolding(bcs_decode_spec::specs::Reading::chain, bcs_decode_spec::specs::Reading::give, crate::specs::ScalarParsing::discarding, bcs_decode_slice::specs::Passing::text_past))]
+#[tactic(auto, using(crate::proofs::Covering::covers_then), unfolding(bcs_decode_spec::specs::Reading::chain, bcs_decode_spec::specs::Reading::give, crate::specs::ScalarParsing::discarding, bcs_decode_spec::specs::Steps::text_past))]
 pub fn report_string<T: Listener>(
     cursor: &mut Cursor,
     trail: &Trail<'_, '_, '_>,
@@ -29,7 +30,7 @@ pub fn report_string<T: Listener>(
 }
 
 /// Reports a byte string with its length.
-#[tactic(auto, using(crate::proofs::Covering::covers_then), unfolding(bcs_decode_spec::specs::Reading::chain, bcs_decode_spec::specs::Reading::give, crate::specs::ScalarParsing::discarding, bcs_decode_slice::specs::Passing::bytes_past))]
+#[tactic(auto, using(crate::proofs::Covering::covers_then), unfolding(bcs_decode_spec::specs::Reading::chain, bcs_decode_spec::specs::Reading::give, crate::specs::ScalarParsing::discarding, bcs_decode_spec::specs::Steps::bytes_past))]
 pub fn report_byte_string<T: Listener>(
     cursor: &mut Cursor,
     trail: &Trail<'_, '_, '_>,

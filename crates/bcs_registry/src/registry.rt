@@ -1,16 +1,17 @@
 //! Registries: containers by name.
-ghost use Rattle.std.specs.Prelude.{◌≡◌, option_map, length, string_bytes, IfOk};
-ghost use Rattle.bcs_registry_model.specs.Container.{Entries, container_at, variant_number};
+ghost use Rattle.std.specs.Prelude.{◌≡◌, ℕ, List, option_map, length, string_bytes, IfOk, IfSome};
+ghost use Rattle.bcs_registry_model.specs.Container.{Entries, container_at, content, content_at, variant_number};
 ghost use Rattle.bcs_registry_model.specs.Ranges.{IsOrderly};
 ghost use Rattle.bcs_registry_json.specs.Shown.{shown_registry};
 ghost use Rattle.bcs_registry_json.specs.Text.{WritesRegistry};
-ghost use Rattle.bcs_registry_model.specs.View.{container_of, entries_of};
+ghost use Rattle.bcs_registry_model.specs.Shape.{name as name_shape};
+ghost use Rattle.bcs_registry_model.specs.View.{container_of, entries_of, shape_of};
 ghost use Rattle.bcs_registry_model.specs.WellFormed.{IsWellFormed};
 ghost use Rattle.bcs_registry_model.specs.Names.{FindsNumbers};
 ghost use Rattle.serde_json.specs.Written.{compact_text};
 
 use bcs_registry_json::printing::registry_value;
-use bcs_registry_model::{Container, VariantNumbers};
+use bcs_registry_model::{Container, Format, Kind, VariantNumbers};
 use std::alloc::{AllocError, Global};
 use std::collections::BTreeMap;
 use std::marker::Model;
@@ -53,6 +54,25 @@ impl Registry {
         ensures orderly { IsOrderly self.now }
     {
         self.containers.get(name)
+    }
+
+    /// The container that the format names. `None` if it isn't a name, or if there is no such container.
+    #[inline(never)]
+    pub fn named_container(&self, format: &Format) -> Option<&Container>
+        ensures found { IfSome result (λ c. (name : List ℕ) × (shape_of format.now ≡ name_shape name)
+            × (content_at name self.now ≡ content (container_of c.now))) }
+        ensures well_formed { IsWellFormed self.now }
+    {
+        self.recall();
+        match format.kind() {
+            Kind::TypeName(name) => self.container(name),
+            Kind::Scalar(_)
+            | Kind::Opt(_)
+            | Kind::Seq(_)
+            | Kind::Map(_, _)
+            | Kind::Tuple(_)
+            | Kind::TupleArray(_, _) => None,
+        }
     }
 
     /// The number of a variant, by the names of enum and variant. Takes time logarithmic in the number of names.

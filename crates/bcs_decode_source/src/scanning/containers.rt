@@ -5,7 +5,7 @@ ghost use Rattle.bcs_registry_model.specs.Container.{field_shapes, payload_shape
 ghost use Rattle.bcs_registry_model.specs.Shape.{name as name_shape, tuple as tuple_shape};
 ghost use Rattle.bcs_registry_model.specs.View.{container_of, field_of, payload_of};
 ghost use Rattle.bcs_decode_spec.specs.Reading.{content_here, named_here, skipping};
-ghost use Rattle.bcs_decode_slice.specs.Passing.{skip};
+ghost use Rattle.bcs_decode_spec.specs.Steps.{skip};
 ghost use Rattle.bcs_decode_source.specs.Reads.{Ready, Reads};
 ghost use Rattle.bcs_decode_source.specs.Sees.{OutOfMemoryOnlyInKey};
 ghost use Rattle.bcs_decode_source.specs.Known.{IsKnown};

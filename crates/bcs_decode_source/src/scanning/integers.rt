@@ -1,7 +1,7 @@
 //! Skips lists of integers in blocks.
 ghost use Rattle.std.specs.Prelude.{◌≤◌};
 ghost use Rattle.bcs_decode_spec.specs.Reading.{items_here, skipping};
-ghost use Rattle.bcs_decode_slice.specs.Passing.{whole_here};
+ghost use Rattle.bcs_decode_spec.specs.Steps.{whole_here};
 ghost use Rattle.bcs_decode_source.specs.Reads.{Ready, Reads};
 ghost use Rattle.bcs_decode_source.specs.Sees.{OutOfMemoryOnlyInKey};
 

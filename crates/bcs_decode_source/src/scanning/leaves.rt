@@ -1,6 +1,6 @@
 //! Skips what contains no other values. Not inlined, to keep the callers' stack frames small.
 ghost use Rattle.std.specs.Prelude.{◌≤◌};
-ghost use Rattle.bcs_decode_slice.specs.Passing.{truth_here, whole_here, text_past, bytes_past};
+ghost use Rattle.bcs_decode_spec.specs.Steps.{truth_here, whole_here, text_past, bytes_past};
 ghost use Rattle.bcs_decode_source.specs.Reads.{Ready, Reads};
 ghost use Rattle.bcs_decode_source.specs.Sees.{OutOfMemoryOnlyInKey};
 

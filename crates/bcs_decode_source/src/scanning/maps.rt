@@ -2,7 +2,7 @@
 ghost use Rattle.std.specs.Prelude.{◌≡◌, length, None, Some, IfOk};
 ghost use Rattle.bcs_registry_model.specs.View.{shape_of};
 ghost use Rattle.bcs_decode_spec.specs.Reading.{key_here, pairs_here, skipping};
-ghost use Rattle.bcs_decode_slice.specs.Passing.{skip};
+ghost use Rattle.bcs_decode_spec.specs.Steps.{skip};
 ghost use Rattle.bcs_decode_source.specs.Kept.{Stands, last_bytes, key_of};
 ghost use Rattle.bcs_decode_source.specs.Reads.{Ready, Reads, ReadsInMap};
 ghost use Rattle.bcs_decode_source.specs.Sees.{pairs_node};

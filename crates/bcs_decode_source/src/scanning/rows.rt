@@ -3,7 +3,7 @@ ghost use Rattle.std.specs.Prelude.{◌≡◌, true};
 ghost use Rattle.bcs_registry_model.specs.Shape.{tuple as tuple_shape};
 ghost use Rattle.bcs_registry_model.specs.View.{shape_of, formats_shapes};
 ghost use Rattle.bcs_decode_spec.specs.Reading.{items_here, skipping};
-ghost use Rattle.bcs_decode_slice.specs.Passing.{skip};
+ghost use Rattle.bcs_decode_spec.specs.Steps.{skip};
 ghost use Rattle.bcs_decode_source.specs.Reads.{Ready, Reads};
 ghost use Rattle.bcs_decode_source.specs.Sees.{OutOfMemoryOnlyInKey, items_node};
 ghost use Rattle.bcs_decode_source.specs.Reaching.{reaches_no_map};
@@ -13,8 +13,8 @@ use crate::number::row_count;
 use crate::reader::Reader;
 use crate::scanning::integers::skip_integers;
 use crate::scanning::values::value;
-use bcs_decode_slice::integers::integer_width;
 use bcs_decode_spec::DecodeFault;
+use bcs_decode_spec::integer_width::integer_width;
 use bcs_io::ByteSource;
 use bcs_registry::Format;
 

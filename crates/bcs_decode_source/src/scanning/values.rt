@@ -2,7 +2,7 @@
 ghost use Rattle.std.specs.Prelude.{◌≡◌, true};
 ghost use Rattle.bcs_registry_model.specs.View.{shape_of};
 ghost use Rattle.bcs_decode_spec.specs.Reading.{skipping};
-ghost use Rattle.bcs_decode_slice.specs.Passing.{skip};
+ghost use Rattle.bcs_decode_spec.specs.Steps.{skip};
 ghost use Rattle.bcs_decode_source.specs.Reads.{Ready, Reads};
 ghost use Rattle.bcs_decode_source.specs.Sees.{OutOfMemoryOnlyInKey, option_node};
 ghost use Rattle.bcs_decode_source.specs.Reaching.{reaches_no_map};

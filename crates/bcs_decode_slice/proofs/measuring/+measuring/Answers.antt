@@ -1,5 +1,5 @@
 use Rattle.bcs_decode_slice.proofs.Prelude.{◌≡◌, ◌∙◌, ◌+◌, ◌*◌, [], drop, map, ap, sym, arith, drop_all, IfSome_then, Shape, unit_shape, name_shape, tuple_shape, array_shape, of, content, content_seen, layout_shape, row_formats, shape_of, formats_shapes, container_of, content_found, formats_next, fields_row, skip}
-use Rattle.bcs_decode_slice.proofs.PassingParts.{each}
+use Rattle.bcs_decode_spec.proofs.PartSteps.{each}
 use Rattle.bcs_decode_slice.proofs.Reaching.{reaches_on, reaches_as, goes_as}
 use Rattle.bcs_decode_slice.proofs.FixedParts.{tuple_reaches, each_reaches, each_ends, array_goes, empty_array_goes, named_goes, unit_goes, inside_goes}
 use Rattle.bcs_decode_slice.proofs.measuring.+measuring.Goals as goal

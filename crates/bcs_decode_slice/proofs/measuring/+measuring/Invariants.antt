@@ -1,5 +1,5 @@
 use Rattle.bcs_decode_slice.proofs.Prelude.{◌+◌, ◌*◌, ◌<◌, ◌≤◌, drop, tuple_shape, row_formats, formats_shapes, skip}
-use Rattle.bcs_decode_slice.proofs.PassingParts.{each}
+use Rattle.bcs_decode_spec.proofs.PartSteps.{each}
 use Rattle.bcs_decode_slice.proofs.Reaching.{Reaches}
 use Rattle.bcs_decode_slice.proofs.measuring.+measuring.Given as goal
 

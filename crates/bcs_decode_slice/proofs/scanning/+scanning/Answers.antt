@@ -1,6 +1,7 @@
 use Rattle.bcs_decode_slice.proofs.Prelude.{◌≡◌, ℕ, List, ◌∙◌, ◌-◌, [], None, drop, map, ap, sym, arith, drop_all, err_from_is_err_and, Shape, name_shape, Content, nothing, content, field_shapes, content_at, layout_shape, levels, shape_of, formats_shapes, field_of, container_of, items_here, pairs_here, skipping, shape_seen, skip, node_here, truth_here, whole_here, text_past, bytes_past, unsupported_here, content_found, content_missing, levels_in, field_levels_in, formats_next, fields_next}
-use Rattle.bcs_decode_slice.proofs.Passings.{past_scalar, unit_is, passes_from, passes_here}
-use Rattle.bcs_decode_slice.proofs.PassingParts.{option_stop, option_some, option_none, list_stop, list_on, map_stop, map_on, array_stop, array_on, items_stop, items_on, items_end, pairs_stop_key, pairs_stop_value, pairs_on, pairs_end, each, tuple_stop, tuple_on, each_end, each_stop, each_on, named_stop, named_on, content_past, content_nothing, named_past}
+use Rattle.bcs_decode_spec.proofs.ScalarSteps.{past_scalar, unit_is}
+use Rattle.bcs_decode_slice.proofs.Passings.{passes_from, passes_here}
+use Rattle.bcs_decode_spec.proofs.PartSteps.{option_stop, option_some, option_none, list_stop, list_on, map_stop, map_on, array_stop, array_on, items_stop, items_on, items_end, pairs_stop_key, pairs_stop_value, pairs_on, pairs_end, each, tuple_stop, tuple_on, each_end, each_stop, each_on, named_stop, named_on, content_past, content_nothing, named_past}
 use Rattle.bcs_decode_slice.proofs.Openings.{content_stop, content_on}
 use Rattle.bcs_decode_slice.proofs.scanning.+scanning.Goals as goal
 

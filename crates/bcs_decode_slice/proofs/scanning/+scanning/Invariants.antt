@@ -1,5 +1,5 @@
 use Rattle.bcs_decode_slice.proofs.Prelude.{◌≡◌, ℕ, List, ◌+◌, ◌-◌, ◌*◌, ◌<◌, ◌^◌, None, length, max, map, drop, content, content_at, field_shapes, layout_shape, name_shape, shape_of, formats_shapes, field_of, container_of, levels, shapes_levels, items_here, pairs_here, skipping, key_bytes, Onward, skip}
-use Rattle.bcs_decode_slice.proofs.PassingParts.{each}
+use Rattle.bcs_decode_spec.proofs.PartSteps.{each}
 use Rattle.bcs_decode_slice.proofs.scanning.+scanning.Given as goal
 
 -- a format in a registry has at most 33 levels, including those of its container

@@ -1,8 +1,8 @@
 -- Skipping a value that contains values, part by part.
-use Rattle.bcs_decode_slice.proofs.Prelude.{◌≡◌, ℕ, zero, suc, ◌+◌, ◌-◌, ◌<◌, ◌≤◌, List, Option, Some, None, Bool, true, false, if◌then◌else◌, Ok, Err, refl, ap, ◌∙◌, arith, Shape, Shapes, Entries, Choice, Content, of, one_of, nothing, content, content_at, choice_at, container_of, Reason, BadOption, Unsupported, UnknownVariant, Read, Parser, Making, follow, chain, give, fail, fail_here, node, number_here, length_here, key_here, items_here, pairs_here, option_here, shape_here, each_here, choice_here, variant_here, content_here, named_here, value_here, skipping, node_here, skip, counted_here, flag_past, variant_past, enter_here}
+use Rattle.bcs_decode_spec.proofs.Prelude.{◌≡◌, ℕ, zero, suc, ◌+◌, ◌-◌, ◌<◌, ◌≤◌, List, Option, Some, None, Bool, true, false, if◌then◌else◌, Ok, Err, refl, ap, ◌∙◌, arith, Shape, Shapes, Entries, Choice, Content, of, one_of, nothing, content, content_at, choice_at, container_of, Reason, BadOption, Unsupported, UnknownVariant, Read, Parser, Making, follow, chain, give, fail, fail_here, node, number_here, length_here, key_here, items_here, pairs_here, option_here, shape_here, each_here, choice_here, variant_here, content_here, named_here, value_here, skipping, node_here, skip, counted_here, flag_past, variant_past, enter_here}
 use Rattle.bcs_registry_model.specs.Shape as shape
 use Rattle.bcs_registry_model.specs.declared.container.Container as declared
-use Rattle.bcs_decode_slice.proofs.Passings.{node_is, bare, counted_is}
+use Rattle.bcs_decode_spec.proofs.ScalarSteps.{node_is, bare, counted_is}
 
 -- ---- options, lists, arrays and maps
 

@@ -1,6 +1,6 @@
-use Rattle.bcs_decode_slice.proofs.Prelude.{ap, sym, ◌∙◌, arith, shape_seen, whole_here}
-use Rattle.bcs_decode_slice.proofs.Passings.{past_scalar, nothing_is, whole_len-small}
-use Rattle.bcs_decode_slice.proofs.integers.integer_width.Goals as goal
+use Rattle.bcs_decode_spec.proofs.Prelude.{ap, sym, ◌∙◌, arith, shape_seen, whole_here}
+use Rattle.bcs_decode_spec.proofs.ScalarSteps.{past_scalar, nothing_is, whole_len-small}
+use Rattle.bcs_decode_spec.proofs.integer_width.integer_width.Goals as goal
 
 pub returns-in-Scalar-Unit : goal.returns-in-Scalar-Unit
 returns-in-Scalar-Unit c =
