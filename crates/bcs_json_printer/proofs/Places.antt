@@ -1,18 +1,21 @@
 -- The members of an object by the indices of its fields.
-use Rattle.bcs_json_printer.proofs.Prelude.{◌≡◌, ◌∙◌, ◌<◌, ◌+◌, ℕ, zero, suc, List, [], ◌∷◌, length, get_or, drop, map, String, Global, Ordering, Less, Equal, Greater, string_bytes, string_cmp, refl, ap, arith, insert_entry, match_ordering, Data, null, put, Entries, shape_of, field_of, Format, Named, tree_of, items_trees, Value, of, shown, shown_fields, name_of, placed, put_from}
+use Rattle.bcs_json_printer.proofs.Prelude.{◌≡◌, ◌∙◌, ◌<◌, ◌+◌, ℕ, zero, suc, List, [], ◌∷◌, length, get_or, drop, map, Bor, Ordering, Less, Equal, Greater, nat_cmp, slice_cmp, refl, ap, arith, insert_entry, match_ordering, Data, null, put, Entries, shape_of, field_of, Format, Named, tree_of, items_trees, Value, of, shown, shown_fields, name_of, placed, put_from}
 use Rattle.bcs_json_printer.proofs.PrintedRows.{left_at}
 
 abbrev Entry : Type 0
-Entry = String Global × ℕ
+Entry = Bor (List ℕ) × ℕ
+
+abbrev pub by_text : Bor (List ℕ) → Bor (List ℕ) → Ordering
+by_text a b = slice_cmp nat_cmp a.now b.now
 
 placed-match_ordering : (at : ℕ → Data) (o : Ordering) (a b c : List Entry) → placed at (match_ordering o a b c) ≡ match_ordering o (placed at a) (placed at b) (placed at c)
 placed-match_ordering at Less a b c = refl
 placed-match_ordering at Equal a b c = refl
 placed-match_ordering at Greater a b c = refl
 
-pub placed-insert_entry : (at : ℕ → Data) (es : List Entry) (k : String Global) (n : ℕ) → placed at (insert_entry string_cmp es k n) ≡ put (string_bytes k) (at n) (placed at es)
+pub placed-insert_entry : (at : ℕ → Data) (es : List Entry) (k : Bor (List ℕ)) (n : ℕ) → placed at (insert_entry by_text es k n) ≡ put k.now (at n) (placed at es)
 placed-insert_entry at [] k n = refl
-placed-insert_entry at (e ∷ es) k n = placed-match_ordering at (string_cmp k e.0) _ _ _ ∙ rw (placed-insert_entry at es k n)
+placed-insert_entry at (e ∷ es) k n = placed-match_ordering at (by_text k e.0) _ _ _ ∙ rw (placed-insert_entry at es k n)
 
 -- one field before those that have an index
 pub put_from_more : (at : ℕ → Data) (fs : List (Named Format)) (n : ℕ) (f : Named Format) → n < length fs → f ≡ get_or fs n f

@@ -1,5 +1,5 @@
 -- Imports of the proofs: definitions and lemmas of other crates, and definitions of this one.
-pub use Rattle.std.proofs.Common.{[], ap, arith, Bor, Box, BTreeMap, drop, Equal, false, get_or, Global, Greater, IfOk, length, Less, List, map, max, nat_le, None, Option, option_map, Ordering, refl, rules, Some, String, string_bytes, string_cmp, subst, suc, sym, true, true≢false, Vec, zero, ℕ, ◌&&◌, ◌*◌, ◌++◌, ◌+◌, ◌-◌, ◌<◌, ◌∙◌, ◌∷◌, ◌≡◌, ◌≤◌}
+pub use Rattle.std.proofs.Common.{[], ap, arith, Bor, Box, BTreeMap, drop, Equal, false, get_or, Global, Greater, IfOk, length, Less, List, map, max, nat_le, None, Option, option_map, Ordering, refl, rules, Some, string_bytes, subst, suc, sym, true, true≢false, Vec, zero, ℕ, ◌&&◌, ◌*◌, ◌++◌, ◌+◌, ◌-◌, ◌<◌, ◌∙◌, ◌∷◌, ◌≡◌, ◌≤◌}
 pub use Rattle.std.proofs.Math.Nat.{max-le}
 pub use Rattle.std.proofs.lemmas.Bool.{and_parts}
 pub use Rattle.std.proofs.lemmas.Grind.{common_steps}
@@ -8,6 +8,7 @@ pub use Rattle.std.proofs.lemmas.Map.Views.{All-values-insert_entry}
 pub use Rattle.std.proofs.lemmas.Result.{IfOk-weaker, on_ok_weaker}
 pub use Rattle.std.proofs.lemmas.Str.{IsUtf8-string_bytes}
 pub use Rattle.std.specs.BTreeMap.{insert_entry, is_at}
+pub use Rattle.std.specs.Cmp.Lexicographic.{slice_cmp}
 pub use Rattle.std.specs.Int.{w8}
 pub use Rattle.std.specs.List.{All, list_all}
 pub use Rattle.std.specs.Map.{lookup, values_of}
@@ -36,8 +37,7 @@ pub use Rattle.bcs_value_model.specs.Fits.{all_fit, are_bytes, each_fits, Fits, 
 pub use Rattle.bcs_value_model.specs.Tree.{items, nodes, pairs, pairs_nodes, present, Tree, tree, Trees, trees_nodes, variant}
 pub use Rattle.bcs_value_model.specs.View.{entries_pairs, items_trees, tree_of}
 pub use Rattle.bcs_value_model.specs.declared.value.Value.{Items, Pairs, Present, the_lemmas, Value, Variant}
-pub use Rattle.serde.specs.Event.{field_key, Log, Logs, map_begins, seq_begins}
-pub use Rattle.serde.specs.declared.name.Case.TheVariants.{AsIs}
+pub use Rattle.serde.specs.Event.{Log, Logs, map_begins, seq_begins}
 pub use Rattle.serde_json.proofs.FreeTexts.{text_of_value}
 pub use Rattle.serde_json.specs.Data.{array, Data, depth, items_depth, member, Members, members_depth, null, object, put}
 pub use Rattle.serde_json.specs.Events.{items_len, members_len, SendsItems, SendsMembers, SendsValue}

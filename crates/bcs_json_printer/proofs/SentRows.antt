@@ -1,5 +1,5 @@
 -- Lists that are sent one part after another.
-use Rattle.bcs_json_printer.proofs.Prelude.{◌≡◌, ◌<◌, ◌≤◌, ℕ, zero, suc, List, [], ◌∷◌, length, get_or, map, true, false, true≢false, String, Global, refl, sym, ap, arith, subst, and_parts, All, values_of, Data, items_len, members_len, Entries, field_shapes, at_format, Shape, field_of, formats_shapes, shape_of, Format, Named, each_fits, fits, nodes, pairs_nodes, trees_nodes, entries_pairs, items_trees, tree_of, Value, shown_all, shown_each, shown_pairs, placed}
+use Rattle.bcs_json_printer.proofs.Prelude.{◌≡◌, ◌<◌, ◌≤◌, ℕ, zero, suc, List, [], ◌∷◌, length, get_or, map, true, false, true≢false, Bor, refl, sym, ap, arith, subst, and_parts, All, values_of, Data, items_len, members_len, Entries, field_shapes, at_format, Shape, field_of, formats_shapes, shape_of, Format, Named, each_fits, fits, nodes, pairs_nodes, trees_nodes, entries_pairs, items_trees, tree_of, Value, shown_all, shown_each, shown_pairs, placed}
 
 -- a part of a list has at most as many nodes as the list
 pub part_nodes : (xs : List Value) (i : ℕ) (x : Value) → i < length xs → x ≡ get_or xs i x → nodes (tree_of x) ≤ trees_nodes (items_trees xs)
@@ -31,7 +31,7 @@ pub pairs_len : (r : Entries) (ps : List (Value × Value)) (k v : Shape) → ite
 pairs_len r [] k v = refl
 pairs_len r (p ∷ ps) k v = ap suc (pairs_len r ps k v)
 
-pub placed_len : (at : ℕ → Data) (es : List (String Global × ℕ)) → members_len (placed at es) ≡ length es
+pub placed_len : (at : ℕ → Data) (es : List (Bor (List ℕ) × ℕ)) → members_len (placed at es) ≡ length es
 placed_len at [] = refl
 placed_len at (e ∷ es) = ap suc (placed_len at es)
 
@@ -45,8 +45,8 @@ module _ (r : Entries) where
   field_fits (y ∷ xs) (e ∷ fs) (suc n) x f h g is found fit = field_fits xs fs n x f (omega arith) (omega arith) is found (and_parts _ _ fit).1
 
 -- the next index, and those after it
-pub next_within : (es : List (String Global × ℕ)) (e : String Global × ℕ) (rest : List (String Global × ℕ)) (n : ℕ) → es ≡ e ∷ rest → All (λ i. i < n) (values_of es)
+pub next_within : (es : List (Bor (List ℕ) × ℕ)) (e : Bor (List ℕ) × ℕ) (rest : List (Bor (List ℕ) × ℕ)) (n : ℕ) → es ≡ e ∷ rest → All (λ i. i < n) (values_of es)
     → (e.1 < n) × All (λ i. i < n) (values_of rest)
 next_within es e rest n is h =
-    let all : All (λ i. i < n) (e.1 ∷ values_of rest) = subst (λ (xs : List (String Global × ℕ)). All (λ i. i < n) (values_of xs)) is h in
+    let all : All (λ i. i < n) (e.1 ∷ values_of rest) = subst (λ (xs : List (Bor (List ℕ) × ℕ)). All (λ i. i < n) (values_of xs)) is h in
     (all 0 0 (omega arith), λ k d lt. all (suc k) d (omega arith))

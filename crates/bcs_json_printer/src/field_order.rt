@@ -11,10 +11,10 @@ use std::alloc::{AllocError, Global};
 use std::collections::BTreeMap;
 
 /// The place of each field by its name, in the order of the names' bytes. Of fields with one name the first stays.
-pub(crate) fn places_of(
+pub(crate) fn places_of<'a>(
     alloc: Global,
-    fields: &[Named<Format>],
-) -> Result<BTreeMap<String, usize>, AllocError>
+    fields: &'a [Named<Format>],
+) -> Result<BTreeMap<&'a str, usize>, AllocError>
     ensures order { IfOk result (λ m. (at : ℕ → Data) → placed at m.entries ≡ put_from at 0 (map name_of fields.now)) }
     ensures within { IfOk result (λ m. All (λ i. i < length fields.now) (values_of m.entries)) }
 {
@@ -22,19 +22,18 @@ pub(crate) fn places_of(
     let mut left = fields.len();
     while left > 0 {
         left -= 1;
-        let name = String::from_str(alloc, fields[left].name.as_str())?;
-        drop(places.insert(name, left)?);
+        drop(places.insert(fields[left].name.as_str(), left)?);
     }
     Ok(places)
 }
 
 /// The same for a serializer. Want of memory is told by `custom`, the one maker of a serializer's errors.
 #[inline(never)]
-pub(crate) fn sent_places<S: Serializer>(
+pub(crate) fn sent_places<'a, S: Serializer>(
     alloc: Global,
-    fields: &[Named<Format>],
+    fields: &'a [Named<Format>],
     out: &S,
-) -> Result<BTreeMap<String, usize>, S::Error>
+) -> Result<BTreeMap<&'a str, usize>, S::Error>
     ensures order { IfOk result (λ m. (at : ℕ → Data) → placed at m.entries ≡ put_from at 0 (map name_of fields.now)) }
     ensures within { IfOk result (λ m. All (λ i. i < length fields.now) (values_of m.entries)) }
 {

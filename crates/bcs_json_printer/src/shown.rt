@@ -267,7 +267,7 @@ fn send_fields<S: Serializer>(
     open_map(places.len(), out)?;
     for (name, place) in places.iter() {
         let i = *place;
-        send_name(name.as_str(), out)?;
+        send_name(*name, out)?;
         send_value(alloc, registry, &fields[i].value, &items[i], out)?;
     }
     close_map(out)

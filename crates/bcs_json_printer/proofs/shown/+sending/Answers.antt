@@ -1,4 +1,4 @@
-use Rattle.bcs_json_printer.proofs.Prelude.{◌≡◌, ◌∙◌, ◌+◌, ◌∷◌, [], ℕ, List, String, Global, Some, false, drop, length, sym, ap, subst, arith, rules, common_steps, drop_all, on_ok_weaker, Logs, field_key, map_begins, seq_begins, AsIs, array, null, object, SendsItems, SendsMembers, SendsValue, content, payload_shape, at_format, container_of, formats_shapes, payload_of, shape_of, Format, Named, all_fit, fits, nodes, entries_pairs, items_trees, tree_of, Value, json_content, of, shown, shown_all, shown_choice, shown_each, shown_pairs, placed, bytes_again}
+use Rattle.bcs_json_printer.proofs.Prelude.{◌≡◌, ◌∙◌, ◌+◌, ◌∷◌, [], ℕ, List, Bor, Some, false, drop, length, sym, ap, subst, arith, rules, common_steps, drop_all, on_ok_weaker, Logs, map_begins, seq_begins, array, null, object, SendsItems, SendsMembers, SendsValue, content, payload_shape, at_format, container_of, formats_shapes, payload_of, shape_of, Format, Named, all_fit, fits, nodes, entries_pairs, items_trees, tree_of, Value, json_content, of, shown, shown_all, shown_choice, shown_each, shown_pairs, placed, bytes_again}
 use Rattle.bcs_json_printer.proofs.ShownViews.{at_enum, at_map, at_option, choice_named, choice-found, choice-missing, payload_fits}
 use Rattle.bcs_json_printer.proofs.PrintedRows.{all_here, each_here, each_long, fields_long, left_at, pairs_here, shape_of_byte}
 use Rattle.bcs_json_printer.proofs.Places.{shown_at, shown_at-is, shown_fields-places}
@@ -223,7 +223,7 @@ pub send_fields-loop-name-preserved : goal.send_fields-loop-name-preserved
 send_fields-loop-name-preserved g t c =
     let l = c.loop-name in
     let r = c.args.registry.now in
-    let e : String Global × ℕ = (c.in-Some.name.now, c.in-Some.place.now) in
+    let e : Bor (List ℕ) × ℕ = (c.in-Some.name.now, c.in-Some.place.now) in
     let at = shown_at r c.args.items.now c.args.fields.now in
     let next = next_within l.name-iterator e c.next.new.self (length c.args.fields.now) c.in-Some.ensures.steps l.invariant.within in
     let long = fields_long r c.args.items.now c.args.fields.now c.requires.fits in
@@ -233,10 +233,10 @@ send_fields-loop-name-preserved g t c =
     let named = g.S.Serializer.written c.send_name.new.out in
     let valued = g.S.Serializer.written c.send_value.new.out in record {
       whole = λ end after. l.invariant.whole end
-          (subst (λ (es : List (String Global × ℕ)). SendsMembers (placed at es) out end) (sym c.in-Some.ensures.steps) (
+          (subst (λ (es : List (Bor (List ℕ) × ℕ)). SendsMembers (placed at es) out end) (sym c.in-Some.ensures.steps) (
             named,
             valued,
-            subst (λ k. Logs out named (field_key k AsIs)) c.as_str.ensures.value c.in_ok-send_name.ensures,
+            c.in_ok-send_name.ensures,
             subst (λ d. SendsValue d named valued) (sym is) c.in_ok-send_value.ensures,
             after,
           ));
@@ -258,8 +258,8 @@ send_fields-returns g t c =
     on_ok_weaker c.close_map.result (λ e. subst (λ ms. SendsValue (object ms) (g.S.Serializer.written c.args.out.now) end) all (
       opened,
       begun,
-      subst (λ (es : List (String Global × ℕ)). SendsMembers (placed at es) opened end) first
-          (l.invariant.whole end (subst (λ (es : List (String Global × ℕ)). SendsMembers (placed at es) (g.S.Serializer.written l.out) end) (sym c.in-None.ensures.steps.0) e)),
+      subst (λ (es : List (Bor (List ℕ) × ℕ)). SendsMembers (placed at es) opened end) first
+          (l.invariant.whole end (subst (λ (es : List (Bor (List ℕ) × ℕ)). SendsMembers (placed at es) (g.S.Serializer.written l.out) end) (sym c.in-None.ensures.steps.0) e)),
     )) c.close_map.ensures
 
 -- ---- variants
