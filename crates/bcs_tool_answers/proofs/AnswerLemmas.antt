@@ -1,7 +1,8 @@
 -- Answers with an equal status and equal output, and the parsed request for an input.
-use Rattle.bcs_tool_answers.proofs.Prelude.{◌≡◌, ◌≢◌, ◌≤◌, ◌<◌, ◌⊎◌, ◌++◌, [], Err, List, Ok, arith, inl, inr, length, subst, sym, true, ℕ, Entries, Shape, shape_of, Tree, Bounds, Accepts, StopsAll, Stop, Shows, FromFault, json_fault_name, of, shown, Denotes, RefusesText, nesting_limit, JsonFault, decode_of, FromHexError, OutOfMemory, depth, Answers, AnswersTexts, IsAsked, checked, compared, damaged, decoded, described, made, unmade, different, encoded, equal, exampled, explained, first_refused, found, front_stopped, grown, no_bytes, no_content, normalised, nowhere, refusal_line, refused, refused_early, scan_stopped, scanned, second_refused, stopped, too_nested, unopened, IsAnswer, Places, PrintsWithoutPlace, MayReport, nothing, told, RefusesJobOf, RefusesFormatted, RefusesPart, works_on_values, IsAskedBy, Answer, JobFault, BadPath, Growth, Registry, Asked, size_limit, Work, Command, Check, Show, Example, Schema, FromMove, Encode, Decode, Explain, Normalise, Same, Scan}
+use Rattle.bcs_tool_answers.proofs.Prelude.{◌≡◌, ◌≢◌, ◌≤◌, ◌<◌, ◌⊎◌, ◌++◌, [], Err, List, Ok, arith, inl, inr, length, subst, sym, true, ℕ, Entries, Shape, shape_of, Tree, Bounds, Accepts, StopsAll, Stop, Shows, FromFault, json_fault_name, of, shown, Denotes, RefusesText, nesting_limit, JsonFault, decode_of, FromHexError, OutOfMemory, depth, Answers, AnswersTexts, IsAsked, checked, compared, damaged, decoded, described, made, unmade, different, encoded, equal, exampled, explained, first_refused, found, front_stopped, grown, no_bytes, no_content, normalised, nowhere, refusal_line, refused, refused_early, scan_stopped, scanned, second_refused, stopped, too_nested, unopened, IsAnswer, Places, PrintsWithoutPlace, MayReport, nothing, told, RefusesJobOf, RefusesFormatted, RefusesPart, bytes_command, works_on_values, IsAskedBy, Answer, JobFault, BadPath, Growth, Registry, Asked, BytesCommand, size_limit, Work, Command, Check, Show, Example, Schema, FromMove, Encode, Decode, Explain, Normalise, Same, Scan}
 use Rattle.bcs_json.specs.declared.from_fault.FromFault.TheVariants as from
 use Rattle.bcs_tool_answers.specs.Answers as answers
+use Rattle.bcs_tool_answers.specs.declared.value_command.BytesCommand.TheVariants as on_bytes
 use Rattle.bcs_tool_command_line.specs.declared.command.Command.TheVariants.{Grows, Part}
 
 places_of : {work : Work} {input place : List ℕ} → MayReport work place → Places work input place
@@ -43,6 +44,13 @@ with_place work place set same reports = subst (λ (text : List ℕ). MayReport 
 pub is_asked : {work : Work} {asked : Asked} (input : List ℕ) (k : Command) → work.command ≡ k → IsAskedBy work asked → length input ≤ size_limit
     → IsAsked work input k asked.registry (shape_of asked.format)
 is_asked input k is asked within = record { is_command = is; asks = asked.asks; within = λ _. within }
+
+-- the input of the command gives the bytes of a value
+pub takes_bytes : (asked : BytesCommand) (k : Command) → k ≡ bytes_command asked → answers.TakesBytes k
+takes_bytes on_bytes.Decode k is = inl is
+takes_bytes on_bytes.Part k is = inr (inl is)
+takes_bytes on_bytes.Explain k is = inr (inr (inl is))
+takes_bytes on_bytes.Scan k is = inr (inr (inr is))
 
 -- the first of two texts is refused, or else the second
 pub refused_texts : (registry : Entries) (limits : Bounds) (s : Shape) (first second : List ℕ) (fault : JsonFault) → RefusesText registry limits s first fault

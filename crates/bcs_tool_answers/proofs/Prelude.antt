@@ -91,9 +91,10 @@ pub use Rattle.bcs_tool_answers.specs.Notations.{SpellsNoSteps, SpellsSteps}
 pub use Rattle.bcs_tool_answers.specs.PartBytes.{GivesBytesAt, GivesPrinted, printed_bytes, printed_place}
 pub use Rattle.bcs_tool_answers.specs.Places.{IsAnswer, IsPrintable, MayReport, nothing, Places, PrintsWithoutPlace, told}
 pub use Rattle.bcs_tool_answers.specs.Preparing.{IsAskedBy}
-pub use Rattle.bcs_tool_answers.specs.Validating.{is_json_word, IsFormatWord, IsPathOf, IsRegistry, job_fault_name, name_of, NamesNone, ReadsInput, RefusesCheck, RefusesEarly, RefusesFormatted, RefusesFormatWord, RefusesGrowth, RefusesJobOf, RefusesPart, works_on_values}
+pub use Rattle.bcs_tool_answers.specs.Validating.{bytes_command, is_json_word, IsFormatWord, IsPathOf, IsRegistry, job_fault_name, name_of, NamesNone, ReadsInput, RefusesCheck, RefusesEarly, RefusesFormatted, RefusesFormatWord, RefusesGrowth, RefusesJobOf, RefusesPart, works_on_values}
 pub use Rattle.bcs_part_names.specs.declared.contents.NoContent.{NoContent}
 pub use Rattle.bcs_tool_answers.specs.declared.answer.Answer.{Answer}
 pub use Rattle.bcs_tool_answers.specs.declared.job_fault.JobFault.{JobFault}
 pub use Rattle.bcs_tool_answers.specs.declared.job_fault.JobFault.TheVariants.{BadPath, Growth, Registry}
 pub use Rattle.bcs_tool_answers.specs.declared.validating.Asked.{Asked}
+pub use Rattle.bcs_tool_answers.specs.declared.value_command.BytesCommand.{BytesCommand}

@@ -20,6 +20,10 @@ use Rattle.bcs_tool_command_line.specs.Jobs.{coding_of, is_raw}
 use Rattle.bcs_tool_command_line.specs.declared.notation.Notation.{Notation}
 use Rattle.bcs_tool_answers.specs.Notations.{SpellsNoSteps, SpellsSteps}
 use Rattle.bcs_tool_command_line.specs.declared.work.Work.{Work}
+use Rattle.bcs_tool_answers.specs.declared.value_command.BytesCommand.{BytesCommand}
+use Rattle.bcs_tool_answers.specs.declared.value_command.BytesCommand.TheVariants as on_bytes
+use Rattle.bcs_tool_answers.specs.declared.value_command.ValueCommand.{ValueCommand}
+use Rattle.bcs_tool_answers.specs.declared.value_command.ValueCommand.TheVariants as on_values
 
 -- ---- the printed names
 
@@ -85,6 +89,20 @@ works_on_values command.Example = false
 works_on_values command.Schema = false
 works_on_values command.FromMove = false
 works_on_values other = true
+
+-- the command of a job whose input gives bytes
+abbrev pub bytes_command : BytesCommand → Command
+bytes_command on_bytes.Decode = command.Decode
+bytes_command on_bytes.Explain = command.Explain
+bytes_command on_bytes.Part = command.Part
+bytes_command on_bytes.Scan = command.Scan
+
+-- the command of a job that works on values
+abbrev pub command_of : ValueCommand → Command
+command_of on_values.Encode = command.Encode
+command_of on_values.Normalise = command.Normalise
+command_of on_values.Same = command.Same
+command_of (on_values.Bytes asked) = bytes_command asked
 
 -- the command only validates bytes
 abbrev pub is_scan : Command → Bool

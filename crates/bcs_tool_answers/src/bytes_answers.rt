@@ -2,9 +2,10 @@
 ghost use Rattle.std.specs.Prelude.{◌≡◌, ◌≢◌, ◌≤◌, codes, length, IfOk};
 ghost use Rattle.bcs_tool_command_line.specs.Files.{size_limit};
 ghost use Rattle.bcs_tool_command_line.specs.Jobs.{coding_of};
-ghost use Rattle.bcs_tool_answers.specs.Answers.{TakesBytes, refusal_line};
+ghost use Rattle.bcs_tool_answers.specs.Answers.{refusal_line};
 ghost use Rattle.bcs_tool_answers.specs.Places.{AnswersBytes, IsAnswer, MayReport};
 ghost use Rattle.bcs_tool_answers.specs.Preparing.{IsAskedBy};
+ghost use Rattle.bcs_tool_answers.specs.Validating.{bytes_command};
 
 use crate::answer::{Answer, placed, refused, shown};
 use crate::base64_input::bytes_of_base64;
@@ -15,6 +16,7 @@ use crate::part_answers::answer_part;
 use crate::scan_answers::answer_scan;
 use crate::stop_answers::answer_stop;
 use crate::validating::Asked;
+use crate::value_command::BytesCommand;
 use base64::DecodeAllocError;
 use bcs_json::{FromFault, from_bcs};
 use bcs_tool_command_line::{Coding, Command, Work};
@@ -26,17 +28,18 @@ pub fn answer_given(
     alloc: Global,
     work: &Work,
     asked: &Asked,
+    command: BytesCommand,
     input: &[u8],
 ) -> Result<Answer, AllocError>
-    requires command { TakesBytes work.now.command }
+    requires command { work.now.command ≡ bytes_command command }
     requires asked { IsAskedBy work.now asked.now }
     requires within { length input.now ≤ size_limit }
     ensures { IfOk result (λ a. IsAnswer work.now input.now a) }
 {
     match work.coding() {
-        Coding::Hexadecimal => answer_digits(alloc, work, asked, input),
-        Coding::Base64 => answer_base64(alloc, work, asked, input),
-        Coding::Raw => answer_bytes(alloc, work, asked, input),
+        Coding::Hexadecimal => answer_digits(alloc, work, asked, command, input),
+        Coding::Base64 => answer_base64(alloc, work, asked, command, input),
+        Coding::Raw => answer_bytes(alloc, work, asked, command, input),
     }
 }
 
@@ -45,16 +48,17 @@ fn answer_digits(
     alloc: Global,
     work: &Work,
     asked: &Asked,
+    command: BytesCommand,
     input: &[u8],
 ) -> Result<Answer, AllocError>
     requires coding { coding_of work.now ≡ Coding.Hexadecimal }
-    requires command { TakesBytes work.now.command }
+    requires command { work.now.command ≡ bytes_command command }
     requires asked { IsAskedBy work.now asked.now }
     requires within { length input.now ≤ size_limit }
     ensures { IfOk result (λ a. IsAnswer work.now input.now a) }
 {
     match hex::decode(alloc, without_blanks(input)) {
-        Ok(bytes) => answer_bytes(alloc, work, asked, bytes.as_slice()),
+        Ok(bytes) => answer_bytes(alloc, work, asked, command, bytes.as_slice()),
         Err(fault) => refused_digits(alloc, work, input, fault),
     }
 }
@@ -64,16 +68,17 @@ fn answer_base64(
     alloc: Global,
     work: &Work,
     asked: &Asked,
+    command: BytesCommand,
     input: &[u8],
 ) -> Result<Answer, AllocError>
     requires coding { coding_of work.now ≡ Coding.Base64 }
-    requires command { TakesBytes work.now.command }
+    requires command { work.now.command ≡ bytes_command command }
     requires asked { IsAskedBy work.now asked.now }
     requires within { length input.now ≤ size_limit }
     ensures { IfOk result (λ a. IsAnswer work.now input.now a) }
 {
     match bytes_of_base64(alloc, without_blanks(input)) {
-        Ok(bytes) => answer_bytes(alloc, work, asked, bytes.as_slice()),
+        Ok(bytes) => answer_bytes(alloc, work, asked, command, bytes.as_slice()),
         Err(fault) => refused_base64(alloc, work, input, fault),
     }
 }
@@ -123,26 +128,18 @@ fn answer_bytes(
     alloc: Global,
     work: &Work,
     asked: &Asked,
+    command: BytesCommand,
     bytes: &[u8],
 ) -> Result<Answer, AllocError>
-    requires command { TakesBytes work.now.command }
+    requires command { work.now.command ≡ bytes_command command }
     requires asked { IsAskedBy work.now asked.now }
     ensures { IfOk result (λ a. AnswersBytes work.now bytes.now a) }
 {
-    match work.command {
-        Command::Part => answer_part(alloc, work, asked, bytes),
-        Command::Decode => answer_decode(alloc, work, asked, bytes),
-        Command::Explain => answer_explain(alloc, work, asked, bytes),
-        Command::Scan => answer_scan(alloc, work, asked, bytes),
-        Command::Check
-        | Command::Grows
-        | Command::Show
-        | Command::Example
-        | Command::Schema
-        | Command::FromMove
-        | Command::Encode
-        | Command::Normalise
-        | Command::Same => unreachable!(),
+    match command {
+        BytesCommand::Decode => answer_decode(alloc, work, asked, bytes),
+        BytesCommand::Explain => answer_explain(alloc, work, asked, bytes),
+        BytesCommand::Part => answer_part(alloc, work, asked, bytes),
+        BytesCommand::Scan => answer_scan(alloc, work, asked, bytes),
     }
 }
 

@@ -28,13 +28,14 @@ mod stop_answers;
 mod text_places;
 mod validating;
 mod value_answers;
+mod value_command;
 mod word_places;
 
 pub use answer::{Answer, counted, stopped};
 pub use job_fault::JobFault;
 pub use line_answers::answer_line;
 pub use pair_answers::answer_pair;
-pub use preparing::prepare;
+pub use preparing::{Prepared, prepare};
 pub use scan_answers::is_unlimited;
 pub use validating::Asked;
 pub use value_answers::answer_values;

@@ -69,6 +69,7 @@ fn step_of(
         registry,
         format,
         path,
+        ..
     } = asked;
     match (work.options.notation, end) {
         (Notation::Names, Some(end)) => Ok(Some(nowhere_on_name(alloc, &end)?)),

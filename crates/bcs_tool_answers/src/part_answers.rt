@@ -56,39 +56,6 @@ fn answer_scanned(
     requires scanned { (n : ℕ) × (c : Tree) × Accepts asked.now.registry work.now.limits (shape_of asked.now.format) bytes.now n c }
     ensures { IfOk result (λ a. AnswersBytes work.now bytes.now a) }
 {
-    match work.options.notation {
-        Notation::Path => answer_steps(alloc, work, asked, bytes, asked.path.as_slice(), None),
-        Notation::Names => answer_named(alloc, work, asked, bytes),
-        Notation::Pointer => answer_named(alloc, work, asked, bytes),
-    }
-}
-
-// Similarly for names and pointers.
-fn answer_named(
-    alloc: Global,
-    work: &Work,
-    asked: &Asked,
-    bytes: &[u8],
-) -> Result<Answer, AllocError>
-    requires command { work.now.command ≡ Command.Part }
-    requires asked { IsAskedBy work.now asked.now }
-    requires named { work.now.options.notation ≢ Notation.Path }
-    requires scanned { (n : ℕ) × (c : Tree) × Accepts asked.now.registry work.now.limits (shape_of asked.now.format) bytes.now n c }
-    ensures { IfOk result (λ a. AnswersBytes work.now bytes.now a) }
-{
-    let Led { path, nowhere } = led_by_names(alloc, work, asked, bytes)?;
-    answer_steps(alloc, work, asked, bytes, path.as_slice(), nowhere)
-}
-
-// Where the names lead. The contract allows any steps, since which part the names mean is only for display.
-fn led_by_names<'r, 'a>(
-    alloc: Global,
-    work: &Work,
-    asked: &'r Asked,
-    bytes: &'a [u8],
-) -> Result<Led<'r, 'a>, AllocError>
-    requires named { work.now.options.notation ≢ Notation.Path }
-{
     let Asked {
         registry,
         format,
@@ -96,10 +63,34 @@ fn led_by_names<'r, 'a>(
     } = asked;
     let word = work.path.as_str();
     match work.options.notation {
-        Notation::Path => unreachable!(),
-        Notation::Names => path_of_name(alloc, registry, format, &work.limits, bytes, word),
-        Notation::Pointer => path_of_pointer(alloc, registry, format, &work.limits, bytes, word),
+        Notation::Path => answer_steps(alloc, work, asked, bytes, asked.path.as_slice(), None),
+        Notation::Names => {
+            let led = path_of_name(alloc, registry, format, &work.limits, bytes, word)?;
+            answer_named(alloc, work, asked, bytes, led)
+        }
+        Notation::Pointer => {
+            let led = path_of_pointer(alloc, registry, format, &work.limits, bytes, word)?;
+            answer_named(alloc, work, asked, bytes, led)
+        }
     }
+}
+
+// Similarly for names and pointers. The contract allows any steps, since which part the names mean is only for display.
+fn answer_named(
+    alloc: Global,
+    work: &Work,
+    asked: &Asked,
+    bytes: &[u8],
+    led: Led<'_, '_>,
+) -> Result<Answer, AllocError>
+    requires command { work.now.command ≡ Command.Part }
+    requires asked { IsAskedBy work.now asked.now }
+    requires named { work.now.options.notation ≢ Notation.Path }
+    requires scanned { (n : ℕ) × (c : Tree) × Accepts asked.now.registry work.now.limits (shape_of asked.now.format) bytes.now n c }
+    ensures { IfOk result (λ a. AnswersBytes work.now bytes.now a) }
+{
+    let Led { path, nowhere } = led;
+    answer_steps(alloc, work, asked, bytes, path.as_slice(), nowhere)
 }
 
 // The bytes of the part that these steps lead to. If they came from names that lead nowhere, `end` says where those end.

@@ -1,6 +1,6 @@
 //! Validates the arguments of a job before its input is read.
-ghost use Rattle.std.specs.Prelude.{◌≡◌, ℕ, List, IfOk, true};
-ghost use Rattle.bcs_tool_answers.specs.Validating.{works_on_values};
+ghost use Rattle.std.specs.Prelude.{◌≡◌, ℕ, List, IfOk};
+ghost use Rattle.bcs_tool_answers.specs.Validating.{command_of};
 ghost use Rattle.bcs_tool_answers.specs.Places.{IsAnswer};
 ghost use Rattle.bcs_tool_answers.specs.Preparing.{IsPrepared};
 
@@ -12,28 +12,37 @@ use crate::refusing::refused_words;
 use crate::schemas::answer_schema;
 use crate::showing::answer_show;
 use crate::validating::{Asked, validate_asked, validate_check};
+use crate::value_command::{BytesCommand, ValueCommand};
 use bcs_tool_command_line::{Command, Work};
 use std::alloc::{AllocError, Global};
 
-/// Validates the arguments of the job, before any input is read. `Ok`: the parsed request. `Err`: the answer, which doesn't
-/// depend on the input, since the job has none or its arguments are refused.
-pub fn prepare(alloc: Global, work: &Work) -> Result<Result<Asked, Answer>, AllocError>
+/// A job whose arguments have been validated.
+#[derive(Drop)]
+pub enum Prepared {
+    /// Its parsed request: its input is read next.
+    Asked(Asked),
+    /// Its answer, whatever the input, since it has none or its arguments are refused.
+    Answered(Answer),
+}
+
+/// Validates the arguments of the job, before any input is read.
+pub fn prepare(alloc: Global, work: &Work) -> Result<Prepared, AllocError>
     ensures { IfOk result (λ prepared. IsPrepared work.now prepared) }
 {
     match work.command {
-        Command::Check => Ok(Err(answer_check(alloc, work)?)),
-        Command::Grows => Ok(Err(answer_growth(alloc, work)?)),
-        Command::Show => Ok(Err(answer_show(alloc, work)?)),
-        Command::Example => Ok(Err(answer_example(alloc, work)?)),
-        Command::Schema => Ok(Err(answer_schema(alloc, work)?)),
-        Command::FromMove => Ok(Err(answer_from_move(alloc, work)?)),
-        Command::Encode
-        | Command::Decode
-        | Command::Explain
-        | Command::Normalise
-        | Command::Same
-        | Command::Part
-        | Command::Scan => prepare_asked(alloc, work),
+        Command::Check => Ok(Prepared::Answered(answer_check(alloc, work)?)),
+        Command::Grows => Ok(Prepared::Answered(answer_growth(alloc, work)?)),
+        Command::Show => Ok(Prepared::Answered(answer_show(alloc, work)?)),
+        Command::Example => Ok(Prepared::Answered(answer_example(alloc, work)?)),
+        Command::Schema => Ok(Prepared::Answered(answer_schema(alloc, work)?)),
+        Command::FromMove => Ok(Prepared::Answered(answer_from_move(alloc, work)?)),
+        Command::Encode => prepare_asked(alloc, work, ValueCommand::Encode),
+        Command::Normalise => prepare_asked(alloc, work, ValueCommand::Normalise),
+        Command::Same => prepare_asked(alloc, work, ValueCommand::Same),
+        Command::Decode => prepare_asked(alloc, work, ValueCommand::Bytes(BytesCommand::Decode)),
+        Command::Explain => prepare_asked(alloc, work, ValueCommand::Bytes(BytesCommand::Explain)),
+        Command::Part => prepare_asked(alloc, work, ValueCommand::Bytes(BytesCommand::Part)),
+        Command::Scan => prepare_asked(alloc, work, ValueCommand::Bytes(BytesCommand::Scan)),
     }
 }
 
@@ -49,12 +58,12 @@ fn answer_check(alloc: Global, work: &Work) -> Result<Answer, AllocError>
 }
 
 // The parsed request of a job that works on values; or the answer, whatever the input, if its arguments are refused.
-fn prepare_asked(alloc: Global, work: &Work) -> Result<Result<Asked, Answer>, AllocError>
-    requires { works_on_values work.now.command ≡ true }
+fn prepare_asked(alloc: Global, work: &Work, command: ValueCommand) -> Result<Prepared, AllocError>
+    requires { work.now.command ≡ command_of command }
     ensures { IfOk result (λ prepared. IsPrepared work.now prepared) }
 {
-    match validate_asked(alloc, work) {
-        Ok(asked) => Ok(Ok(asked)),
-        Err(fault) => Ok(Err(refused_words(alloc, work, fault)?)),
+    match validate_asked(alloc, work, command) {
+        Ok(asked) => Ok(Prepared::Asked(asked)),
+        Err(fault) => Ok(Prepared::Answered(refused_words(alloc, work, fault)?)),
     }
 }

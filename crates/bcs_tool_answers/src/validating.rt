@@ -1,5 +1,5 @@
 //! Validates a job before its input is read: its registries, then the format, and then the path.
-ghost use Rattle.std.specs.Prelude.{◌≡◌, ◌≢◌, ℕ, length, string_bytes, true, Err, IfOk, IfErr};
+ghost use Rattle.std.specs.Prelude.{◌≡◌, ◌≢◌, ℕ, length, string_bytes, Err, IfOk, IfErr};
 ghost use Rattle.bcs_registry_model.specs.Container.{Entries};
 ghost use Rattle.bcs_registry_model.specs.Shape as shape;
 ghost use Rattle.bcs_registry_model.specs.View.{shape_of};
@@ -7,10 +7,11 @@ ghost use Rattle.bcs_registry_model.specs.WellFormed.{Admits};
 ghost use Rattle.bcs_registry_model.specs.declared.fault.RegistryFault.TheVariants.{OutOfMemory};
 ghost use Rattle.bcs_decode_parts.specs.PathSteps.{all_spelled};
 ghost use Rattle.bcs_tool_answers.specs.Notations.{SpellsNoSteps};
-ghost use Rattle.bcs_tool_answers.specs.Validating.{Asks, IsFormatWord, IsPathOf, IsRegistry, RefusesCheck, RefusesEarly, RefusesFormatWord, RefusesFormatted, RefusesGrowth, is_json_word, works_on_values};
+ghost use Rattle.bcs_tool_answers.specs.Validating.{Asks, IsFormatWord, IsPathOf, IsRegistry, RefusesCheck, RefusesEarly, RefusesFormatWord, RefusesFormatted, RefusesGrowth, command_of, is_json_word};
 
 use crate::job_fault::JobFault;
 use crate::notations::read_steps;
+use crate::value_command::ValueCommand;
 use bcs_decode_parts::{PathFault, PathStep};
 use bcs_registry::{Format, Registry, RegistryFault};
 use bcs_tool_command_line::{Command, Work};
@@ -37,9 +38,10 @@ pub fn validate_pair(alloc: Global, work: &Work) -> Result<(Registry, Registry),
     Ok((older, newer))
 }
 
-/// The parsed request of a job: the registry, the format of its values, and the steps to a part of them.
+/// The parsed request of a job: its command, the registry, the format of its values, and the steps to a part of them.
 #[derive(Drop)]
 pub struct Asked {
+    pub command: ValueCommand,
     pub registry: Registry,
     pub format: Format,
     /// The steps of PATH; empty if the command has no PATH, or if it has names or a pointer instead.
@@ -47,8 +49,9 @@ pub struct Asked {
 }
 
 /// The job's parsed request. The registry's fault comes before the format's, and the format's before that of PATH.
-pub fn validate_asked(alloc: Global, work: &Work) -> Result<Asked, JobFault>
-    requires { works_on_values work.now.command ≡ true }
+pub fn validate_asked(alloc: Global, work: &Work, command: ValueCommand) -> Result<Asked, JobFault>
+    requires { work.now.command ≡ command_of command }
+    ensures command { IfOk result (λ asked. work.now.command ≡ command_of asked.command) }
     ensures ok { IfOk result (λ asked. Asks work.now asked.registry (shape_of asked.format)) }
     ensures admitted { IfOk result (λ asked. Admits asked.registry (shape_of asked.format)) }
     ensures path { IfOk result (λ asked. IsPathOf work.now.command work.now.options.notation (string_bytes work.now.path) (all_spelled asked.path.items)) }
@@ -57,6 +60,7 @@ pub fn validate_asked(alloc: Global, work: &Work) -> Result<Asked, JobFault>
     let (registry, format) = validate_formatted(alloc, work)?;
     let path = validate_path(alloc, work)?;
     Ok(Asked {
+        command,
         registry,
         format,
         path,
@@ -81,18 +85,7 @@ fn validate_path(alloc: Global, work: &Work) -> Result<Vec<PathStep>, PathFault>
 {
     match work.command {
         Command::Part => read_steps(alloc, work.options.notation, work.path.as_str()),
-        Command::Check
-        | Command::Grows
-        | Command::Show
-        | Command::Example
-        | Command::Schema
-        | Command::FromMove
-        | Command::Encode
-        | Command::Decode
-        | Command::Explain
-        | Command::Normalise
-        | Command::Same
-        | Command::Scan => Ok(Vec::new(alloc)),
+        _ => Ok(Vec::new(alloc)),
     }
 }
 

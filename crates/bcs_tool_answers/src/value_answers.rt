@@ -9,6 +9,7 @@ use crate::bytes_answers::answer_given;
 use crate::pair_answers::answer_pair;
 use crate::text_places::{place_of_pair, place_of_refusal};
 use crate::validating::Asked;
+use crate::value_command::ValueCommand;
 use bcs_json::{normalise_or_refusal, to_bcs_or_refusal};
 use bcs_tool_command_line::{Command, Work};
 use std::alloc::{AllocError, Global};
@@ -24,19 +25,11 @@ pub fn answer_values(
     requires within { length input.now ≤ size_limit }
     ensures { IfOk result (λ a. IsAnswer work.now input.now a) }
 {
-    match work.command {
-        Command::Encode => answer_encode(alloc, work, asked, input),
-        Command::Normalise => answer_normalise(alloc, work, asked, input),
-        Command::Same => answer_same(alloc, work, asked, input),
-        Command::Decode | Command::Explain | Command::Part | Command::Scan => {
-            answer_given(alloc, work, asked, input)
-        }
-        Command::Check
-        | Command::Grows
-        | Command::Show
-        | Command::Example
-        | Command::Schema
-        | Command::FromMove => unreachable!(),
+    match asked.command {
+        ValueCommand::Encode => answer_encode(alloc, work, asked, input),
+        ValueCommand::Normalise => answer_normalise(alloc, work, asked, input),
+        ValueCommand::Same => answer_same(alloc, work, asked, input),
+        ValueCommand::Bytes(command) => answer_given(alloc, work, asked, command, input),
     }
 }
 

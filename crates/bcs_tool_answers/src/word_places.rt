@@ -113,18 +113,7 @@ fn registries_refusal(
             Ok(named("NEW", refusal))
         }
         Command::Show => name_refusal(alloc, work),
-        Command::Example
-        | Command::Schema
-        | Command::FromMove
-        | Command::Encode
-        | Command::Decode
-        | Command::Explain
-        | Command::Normalise
-        | Command::Same
-        | Command::Part
-        | Command::Scan => {
-            format_refusal(alloc, work.registry.as_slice(), work.format.as_str(), fault)
-        }
+        _ => format_refusal(alloc, work.registry.as_slice(), work.format.as_str(), fault),
     }
 }
 

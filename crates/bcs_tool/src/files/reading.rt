@@ -134,17 +134,7 @@ fn read_second<R: InputFiles + AllocGlobal>(
     match command {
         Command::Grows => read_registry(rt, word),
         Command::Same => read_file(rt, word),
-        Command::Check
-        | Command::Show
-        | Command::Example
-        | Command::Schema
-        | Command::FromMove
-        | Command::Encode
-        | Command::Decode
-        | Command::Explain
-        | Command::Normalise
-        | Command::Part
-        | Command::Scan => Ok(Vec::new(rt.alloc())),
+        _ => Ok(Vec::new(rt.alloc())),
     }
 }
 

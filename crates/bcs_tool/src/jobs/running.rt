@@ -10,7 +10,7 @@ use crate::jobs::put_answer::put_answer;
 use crate::jobs::scanning::answer_scan;
 use crate::lines::running::answer_lines;
 use bcs_io::{ByteSink, ByteSource, take_all};
-use bcs_tool_answers::{answer_values, is_unlimited, prepare};
+use bcs_tool_answers::{Prepared, answer_values, is_unlimited, prepare};
 use bcs_tool_command_line::limits::SIZE_LIMIT;
 use bcs_tool_command_line::{Origin, Outcome, Work};
 use std::alloc::Global;
@@ -89,8 +89,8 @@ fn validate_and_answer<S: ByteSource, K: ByteSink>(
     ensures untouched { ¬ ReadsInput work.now → input.new ≡ input.old }
 {
     match prepare(alloc, work)? {
-        Err(answer) => put_answer(answer, out),
-        Ok(asked) => {
+        Prepared::Answered(answer) => put_answer(answer, out),
+        Prepared::Asked(asked) => {
             if work.options.lines {
                 answer_lines(alloc, work, &asked, input, out)
             } else if is_unlimited(work) {

@@ -1,5 +1,5 @@
 use Rattle.bcs_tool_answers.proofs.Prelude.{List, refl, subst, sym, ℕ, IfOk-weaker, Answers, no_bytes, refusal_line, GivesBytes, IsBase64Of, input_fault_name, Coding, Base64}
-use Rattle.bcs_tool_answers.proofs.AnswerLemmas.{is_asked, placed_answer}
+use Rattle.bcs_tool_answers.proofs.AnswerLemmas.{is_asked, placed_answer, takes_bytes}
 use Rattle.bcs_tool_answers.proofs.bytes_answers.answer_base64.Goals as goal
 
 pub returns-in-Ok : goal.returns-in-Ok
@@ -18,6 +18,6 @@ returns-in-Err c =
     let none = c.in-Err.ensures.err in
     IfOk-weaker c.refused_base64.result _ _ (λ a is. placed_answer work input 2 _ a is.1 is.2 is.3
     (subst (λ (coding : Coding). Answers work input 2 (refusal_line (input_fault_name coding))) c.requires.coding
-    (no_bytes work.command _ _ c.requires.command (is_asked input work.command refl c.requires.asked c.requires.within)
+    (no_bytes work.command _ _ (takes_bytes c.args.command work.command c.requires.command) (is_asked input work.command refl c.requires.asked c.requires.within)
     (λ bytes gives. none is.0 bytes
     (subst (λ (text : List ℕ). IsBase64Of text bytes) (sym c.without_blanks.ensures) (subst (λ (coding : Coding). GivesBytes coding input bytes) c.requires.coding gives)))))) c.refused_base64.ensures
