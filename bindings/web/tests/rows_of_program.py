@@ -23,7 +23,7 @@ import program  # noqa: E402 (the folder has to be known first)
 from program_rows import Question  # noqa: E402
 
 PROCESSES = 4
-# One row of this number starts Node.
+# Out of this many rows, one starts Node.
 EACH = 20
 # Fewer rows mean that the table wasn't read.
 LEAST, LEAST_STARTS, LEAST_SHARED = 1100, 60, 1000
