@@ -2,10 +2,11 @@
 """Runs `bcs explain` at each row of explain.rows and explain_views.rows, and at the bytes of the examples, whose tables
 are stored beside them.
 
-    tests/explain.py [FOLDER]
+    tests/explain.py [FOLDER [VALUES]]
 
 FOLDER has the program `bcs`; without it, the proved one is tested, as `rt ci` or `rt run` left it. The expected answers
-were made from the rules, and never by the program.
+were made from the rules, and never by the program. tests/paths.py asks about VALUES random values, by default 1,000: of
+the 290 pairs of a container and what is in it, these have 288. One step of the gate asks about 10,000.
 """
 
 import os
@@ -16,7 +17,7 @@ import sys
 from collections.abc import Iterator
 from typing import NamedTuple
 
-from harness import ROOT, end_with, program_in_folder, report
+from harness import PROGRAMS, ROOT, arguments, end_with, program_in, report
 
 sys.path.insert(0, str(ROOT / "tests/rows"))
 from explain_rows import (  # noqa: E402 (the folder has to be known first)
@@ -87,15 +88,17 @@ def faults_by_hand(row: HandWritten) -> Iterator[str]:
         yield f"the bytes by hand at {row.place} of {row.file}"
 
 
-def faults_of_paths() -> Iterator[str]:
+def faults_of_paths(values: int) -> Iterator[str]:
     """The word PATH of each piece leads `part` to it."""
-    ended = subprocess.run(["tests/paths.py"], stdout=subprocess.PIPE, stderr=subprocess.STDOUT, text=True)
+    command = ["tests/paths.py", str(values)]
+    ended = subprocess.run(command, stdout=subprocess.PIPE, stderr=subprocess.STDOUT, text=True)
     if ended.returncode != 0:
         yield ended.stdout
 
 
 def main() -> int:
-    program = program_in_folder(__doc__)
+    args = arguments(__doc__, folder=PROGRAMS, values=1000)
+    program = program_in(args.folder)
     os.chdir(ROOT)
     os.environ["PATH"] = f"{program.parent}:{os.environ['PATH']}"
     rows, by_hand = [*rows_of_table(ROOT), *rows_of_views(ROOT)], list(hand_written())
@@ -103,7 +106,7 @@ def main() -> int:
         *map(faults_of_row, rows),
         *(faults_of_example(name, *words) for name, words in EXAMPLES.items()),
         *map(faults_by_hand, by_hand),
-        faults_of_paths(),
+        faults_of_paths(args.values),
     ]
     faults = [fault for test in tests for fault in test]
     faults += [f"no {what} is found" for what, found in [("row", rows), ("example of BYTES.md", by_hand)] if not found]

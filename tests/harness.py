@@ -17,6 +17,8 @@ from typing import NoReturn
 ROOT = pathlib.Path(__file__).resolve().parent.parent
 # That of the script, in front of each line that it prints.
 NAME = pathlib.Path(sys.argv[0]).stem.replace("_", " ")
+# Where `rt ci` or `rt run` leaves the program.
+PROGRAMS = str(ROOT / "crates/bcs/out")
 
 Word = str | pathlib.Path
 # Variables of the environment to set, or to remove if None.
@@ -71,7 +73,12 @@ def arguments(description: str | None, *names: str, **options: str | int) -> arg
 
 def program_in_folder(description: str | None) -> pathlib.Path:
     """The program `bcs` of the folder that the script's argument names, and without one that of `rt ci` or `rt run`."""
-    program = pathlib.Path(arguments(description, folder=str(ROOT / "crates/bcs/out")).folder).resolve() / "bcs"
+    return program_in(arguments(description, folder=PROGRAMS).folder)
+
+
+def program_in(folder: str) -> pathlib.Path:
+    """The program `bcs` of a folder."""
+    program = pathlib.Path(folder).resolve() / "bcs"
     if not os.access(program, os.X_OK):
         fail(f"{program} isn't a program")
     return program

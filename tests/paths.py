@@ -1,8 +1,8 @@
 #!/usr/bin/env python3
-"""tests/paths.py: whether `bcs explain` is right about each piece, and about each stop.
+"""tests/paths.py VALUES: whether `bcs explain` is right about each piece, and about each stop.
 
-It asks the `bcs` of the variable PATH about every piece of each example that is a value, and of 10,000 random values of
-a registry with all formats, which are the same in each run:
+It asks the `bcs` of the variable PATH about every piece of each example that is a value, and of VALUES random values of
+a registry with all formats. They are the same in each run, and the first 1,000 have every kind of stop:
 
 - The pieces are all of the bytes, without gap or overlap.
 - The word PATH of a piece leads `bcs part` to the part that the piece is of. `explain` cuts a key of more than 32
@@ -35,7 +35,7 @@ VALUES = {
     "sui_stake": ("sui_registry", "TransactionData"),
     "sui_transfer": ("sui_registry", "TransactionData"),
 }
-COUNT = 10_000
+COUNT = int(sys.argv[1])
 # How deep values nest, how many words are asked of all values at once, and how many stops for each reason.
 LEVELS = 3
 SAMPLE = 100

@@ -1,6 +1,7 @@
 """Checks that ./test finds a wrong answer: self_test.py PROGRAM. `./test --self-test` runs this.
 
-PROGRAM is one that passes. Each planted bug changes one of its answers, or answers of the table.
+PROGRAM is one that passes. Each planted bug changes one of its answers, or answers of the table. ./test must report
+each, whether it is alone or not.
 """
 
 import pathlib
@@ -14,26 +15,56 @@ from harness import ROOT, arguments, fail, passed
 
 
 class Planted(NamedTuple):
-    """A program that answers like the tested one, except to the arguments of one test."""
+    """An answer of the tested program to the arguments of one test, which is changed, and the line that reports it."""
 
     name: str
     words: str
     answer: str
+    reported: str
 
 
+# What ./test is tried with: one bug alone, and all the others together.
 PLANTED = [
-    Planted("a wrong output", "check --quiet -- {}", "echo ok 1; exit 0"),
-    Planted("a wrong status", "check --quiet -- {}", "echo ok 0; exit 2"),
-    Planted(
-        "a wrong standard error", "check -- {", "echo refused: NotJson; echo at line 1, column 2: NotJson >&2; exit 2"
-    ),
-    Planted("a wrong table", "explain examples/sui_registry.json TransactionData examples/sui_stake.hex", "exit 0"),
-    Planted(
-        "a missing output", "encode examples/sui_registry.json TransactionData examples/sui_transfer.json", "exit 0"
-    ),
-    Planted(
-        "a wrong example", 'example {"S":{"STRUCT":[{"a":{"OPTION":"U8"}},{"b":{"SEQ":"BOOL"}}]}} S --full', "exit 0"
-    ),
+    [
+        Planted(
+            "a wrong standard error",
+            "check -- {",
+            "echo refused: NotJson; echo at line 1, column 2: NotJson >&2; exit 2",
+            r"rows: FAILED: line \d+ of bcs\.rows: bcs\t--where\tcheck\t\{: standard error has ",
+        )
+    ],
+    [
+        Planted(
+            "a wrong output",
+            "check --quiet -- {}",
+            "echo ok 1; exit 0",
+            r"rows: FAILED: line \d+ of bcs\.rows: bcs\tcheck\t\{\}: the output is 'ok 1",
+        ),
+        Planted(
+            "a wrong status",
+            'check --quiet -- {"S":{"ENUM":{}}}',
+            "echo ok 1; exit 2",
+            r'rows: FAILED: line \d+ of bcs\.rows: bcs\tcheck\t\{"S":\{"ENUM":\{\}\}\}: the status is 2$',
+        ),
+        Planted(
+            "a wrong table",
+            "explain examples/sui_registry.json TransactionData examples/sui_stake.hex",
+            "exit 0",
+            "explain: FAILED: the table of sui_stake: $",
+        ),
+        Planted(
+            "a missing output",
+            "encode examples/sui_registry.json TransactionData examples/sui_transfer.json",
+            "exit 0",
+            r"examples: FAILED: examples/README\.md, line \d+: ",
+        ),
+        Planted(
+            "a wrong example",
+            'example {"S":{"STRUCT":[{"a":{"OPTION":"U8"}},{"b":{"SEQ":"BOOL"}}]}} S --full',
+            "exit 0",
+            "examples: FAILED: the help of example: ",
+        ),
+    ],
 ]
 # Changes of the table: an output, a status, a standard error, parts of usage and of help, and the status of a command
 # line.
@@ -47,21 +78,23 @@ WRONG_ANSWERS = [
 ]
 
 
-def find_planted(planted: Planted, program: str, room: pathlib.Path) -> None:
-    """Checks that ./test fails for exactly one test, and says which."""
+def find_planted(bugs: list[Planted], program: str, room: pathlib.Path) -> None:
+    """Checks that ./test fails for exactly as many tests as there are bugs, and reports each of them."""
     wrong = room / "wrong"
-    condition = f'[ "$*" = {shlex.quote(planted.words)} ]'
-    wrong.write_text(f'#!/bin/sh\nif {condition}; then\n    {planted.answer}\nfi\nexec {shlex.quote(program)} "$@"\n')
+    cases = "".join(f"    {shlex.quote(bug.words)}) {bug.answer} ;;\n" for bug in bugs)
+    wrong.write_text(f'#!/bin/sh\ncase "$*" in\n{cases}esac\nexec {shlex.quote(program)} "$@"\n', encoding="utf-8")
     wrong.chmod(0o755)
     ended = subprocess.run([ROOT / "test", "--quick", "--program", wrong], stdout=subprocess.PIPE, text=True)
     last = ended.stdout.rstrip("\n").rpartition("\n")[2]
+    names = ", ".join(bug.name for bug in bugs)
     if ended.returncode == 0:
-        fail(f"{planted.name} passes")
-    if not re.fullmatch(r"[1-9]\d* passed, 1 failed", last):
-        fail(f"{planted.name}: {last}")
-    if "FAILED" not in ended.stdout:
-        fail(f"{planted.name}: nothing says what failed")
-    passed(f"{planted.name} is found: {last}")
+        fail(f"{names}: passes")
+    if not re.fullmatch(rf"[1-9]\d* passed, {len(bugs)} failed", last):
+        fail(f"{names}: {last}")
+    for bug in bugs:
+        if len(re.findall(f"^{bug.reported}", ended.stdout, re.MULTILINE)) != 1:
+            fail(f"{bug.name}: not one line reports it:\n{ended.stdout}")
+    passed(f"found: {names}: {last}")
 
 
 def find_wrong_table(program: str, room: pathlib.Path) -> None:
@@ -84,8 +117,8 @@ def main() -> None:
     program = arguments(__doc__, "program").program
     with tempfile.TemporaryDirectory() as room:
         find_wrong_table(program, pathlib.Path(room))
-        for planted in PLANTED:
-            find_planted(planted, program, pathlib.Path(room))
+        for bugs in PLANTED:
+            find_planted(bugs, program, pathlib.Path(room))
 
 
 if __name__ == "__main__":

@@ -19,6 +19,11 @@ NO_FILE = (
     "; a value itself goes to standard input, and a registry or a module itself starts with {"
 )
 
+# A limit on addresses with which the heap passes every request to malloc.
+ADDRESSES = 1 << 40
+# Out of this many rows, one is also asked with a region for the heap.
+EACH = 8
+
 
 class Answer(NamedTuple):
     status: int
@@ -70,21 +75,47 @@ def test_program(bench: Bench) -> None:
 
 
 def ask_rows(bench: Bench) -> None:
-    launcher = bench.room / "bcs"
-    launcher.write_text(
-        f'#!/bin/sh\nexec {shlex.join(EMULATOR)} -0 "$0" {shlex.quote(str(bench.built / "bcs"))} "$@"\n',
-        encoding="utf-8",
-    )
-    launcher.chmod(0o755)
+    """The emulator takes ten times as long to reserve the region of the heap (tools/link/program_heap.c) as for the
+    rest of a start. So all rows are asked where addresses are limited and there is no region, and every EACH-th row
+    with one. The heap's own test has a region, too."""
     floors = (ROOT / "tests/rows/floors").read_text(encoding="utf-8")
     floor = re.search(r"^arm64-program (\d+)", floors, re.MULTILINE)
     if not floor:
         fail("tests/rows/floors has no line arm64-program")
-    last = run("the rows of the program", words(ROOT / "tests/rows/program.py", launcher)).splitlines()[-1]
+    table = ROOT / "tests/rows/bcs.rows"
+    # (`ulimit -v` counts KiB)
+    every = passed_rows(bench, "limited", f"ulimit -v {ADDRESSES >> 10} && ", table)
+    if every < int(floor[1]):
+        fail(f"the program has fewer than {floor[1]} rows: {every}")
+    lines = [
+        line for line in table.read_bytes().splitlines(keepends=True) if line.strip() and not line.startswith(b"#")
+    ]
+    some = bench.room / "some.rows"
+    some.write_bytes(b"".join(line for at, line in enumerate(lines) if line.startswith(b"file\t") or at % EACH == 0))
+    with_region = passed_rows(bench, "whole", "", some)
+    if with_region < every // EACH - 1:
+        fail(f"only {with_region} rows of the program with a region for its heap")
+    heap = bench.compile("heap", ROOT / "tests/program_heap.c")
+    run("the heap of the program", words(*EMULATOR, heap, "whole"))
+    passed(
+        f"the program: rows: {every} passed, {with_region} of them with a region for its heap, which has its own test"
+    )
+
+
+def passed_rows(bench: Bench, name: str, before: str, table: pathlib.Path) -> int:
+    """The number of rows of a table, which must all pass, in a shell that runs another command before."""
+    launcher = bench.room / name / "bcs"
+    launcher.parent.mkdir()
+    launcher.write_text(
+        f'#!/bin/sh\n{before}exec {shlex.join(EMULATOR)} -0 "$0" {shlex.quote(str(bench.built / "bcs"))} "$@"\n',
+        encoding="utf-8",
+    )
+    launcher.chmod(0o755)
+    last = run("the rows of the program", words(ROOT / "tests/rows/program.py", launcher, table)).splitlines()[-1]
     counts = re.fullmatch(r"rows: (\d+) passed, 0 failed", last)
-    if not counts or int(counts[1]) < int(floor[1]):
-        fail(f"the program has fewer than {floor[1]} rows: {last}")
-    passed(f"the program: rows: {counts[1]} passed")
+    if not counts:
+        fail(f"the rows of the program: {last}")
+    return int(counts[1])
 
 
 def streams(program: Program) -> None:
@@ -231,7 +262,7 @@ def run_refusing(program: Program, ranges: str, arguments: Sequence[str]) -> tup
     addresses are limited, the program's heap passes every request to malloc."""
     preload = program.bench.room / "refuse.so"
     options = ["-E", f"LD_PRELOAD={preload}", "-E", f"REFUSE={ranges}"]
-    limited = ["prlimit", f"--as={1 << 40}", *EMULATOR]
+    limited = ["prlimit", f"--as={ADDRESSES}", *EMULATOR]
     with open(program.number, "rb") as number:
         found = ask(words(*limited, *options, program.bench.built / "bcs", *arguments), number)
     end = rb"\x1e(\d+) (\d+)\n"
