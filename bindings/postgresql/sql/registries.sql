@@ -1,3 +1,5 @@
+\pset format unaligned
+\pset tuples_only on
 SET search_path = public, bcs;
 INSERT INTO bcs_registries VALUES ('payments', payments());
 SELECT bcs_decode('payments', 'Payment', '\x03626f620700000000000000');

@@ -1,3 +1,5 @@
+\pset format unaligned
+\pset tuples_only on
 -- A registry's text is of the type json, or a constant that isn't a name: such calls are immutable. Others are stable.
 CREATE EXTENSION bcs SCHEMA bcs;
 SET search_path = public, bcs;

@@ -7,59 +7,36 @@ PGHOST and PGUSER name the server.
 
 from __future__ import annotations
 
+import pathlib
+import sys
 import unittest
 from typing import Any
 
 import psycopg2
 from sessions import PAYMENT, PAYMENTS, connect, install, refusal, run, value
 
+sys.path.append(str(pathlib.Path(__file__).resolve().parents[2] / "sql"))
+from values import cells  # noqa: E402
+
 # Types of the arguments of planted functions: each fits a call of the extension's functions in some way.
-SIGNATURES = [
-    "text, text, text",
-    "text, text, bytea",
-    "text, text, bytea, int4",
-    "text, text, bytea, int8",
-    "text, text, bytea, int4, int4",
-    "text, text, json",
-    "text, text, jsonb",
-    "json, text, text",
-    "json, text, bytea",
-    "json, json, json",
-    "jsonb, text, bytea",
-    "varchar, varchar, varchar",
-    "name, name, name",
-    "text, name, bytea",
-    "text, text, text, text",
-    "text, text, bytea, text",
-    "text, text, bytea, text, int4, int4",
-    "anyelement, anyelement, anyelement",
-    "anyelement, text, bytea",
-    "anynonarray, anynonarray, bytea",
-    "VARIADIC text[]",
-    "text, VARIADIC text[]",
-    "regclass, text",
-    "text, text",
-    "name, text",
-    "regclass, unknown_text",
-    "text",
-    "regclass",
-    "internal",
-    "aclitem[]",
-]
+SIGNATURES = cells(
+    """
+    text, text, text  text, text, bytea  text, text, bytea, int4  text, text, bytea, int8
+    text, text, bytea, int4, int4  text, text, json  text, text, jsonb  json, text, text  json, text, bytea
+    json, json, json  jsonb, text, bytea  varchar, varchar, varchar  name, name, name  text, name, bytea
+    text, text, text, text  text, text, bytea, text  text, text, bytea, text, int4, int4
+    anyelement, anyelement, anyelement  anyelement, text, bytea  anynonarray, anynonarray, bytea  VARIADIC text[]
+    text, VARIADIC text[]  regclass, text  text, text  name, text  regclass, unknown_text  text  regclass
+    internal  aclitem[]
+    """
+)
 OPERATORS = ["~", "=", "<>", "->>", "||", "~~", "<", "@>"]
-OPERANDS = [
-    "text, text",
-    "text, varchar",
-    "varchar, text",
-    "name, text",
-    "text, name",
-    "text, bpchar",
-    "json, text",
-    "jsonb, text",
-    "anyelement, anyelement",
-    "anyelement, text",
-    "text, unknown_text",
-]
+OPERANDS = cells(
+    """
+    text, text  text, varchar  varchar, text  name, text  text, name  text, bpchar  json, text  jsonb, text
+    anyelement, anyelement  anyelement, text  text, unknown_text
+    """
+)
 TYPES = ["text", "bytea", "json", "jsonb", "int4", "int8", "bool", "regclass", "trigger", "internal"]
 
 PLANTING = """
@@ -144,17 +121,8 @@ class Rights(unittest.TestCase):
             "and deptype = 'e' and classid = 'pg_proc'::regclass "
             "and refobjid = (select oid from pg_extension where extname = 'bcs')"
         )
-        self.names = value(before, names) + [
-            "pg_extension_config_dump",
-            "int8",
-            "int4",
-            "text",
-            "bytea",
-            "json",
-            "textregexeq",
-            "starts_with",
-            "aclexplode",
-        ]
+        others = "pg_extension_config_dump int8 int4 text bytea json textregexeq starts_with aclexplode"
+        self.names = value(before, names) + others.split()
         before.close()
 
     def forget(self) -> None:
