@@ -133,8 +133,8 @@ def bad_at_the_end(size: int) -> Iterator[tuple[str, bytes, str]]:
 
 
 def cells(table: str) -> list[str]:
-    """What is between two blanks or more, or on another line."""
-    return re.split(r"\s\s+", table.strip())
+    """What is between two bars, or on a line."""
+    return re.split(r" \| |\s*\n\s*", table.strip())
 
 
 FORMATS: list[Any] = [
@@ -154,13 +154,13 @@ TEXTS = [
     *(f'"{number}"' for number in NUMBERS),
     *cells(
         """
-        1.0  1.5  1e3  1E0  1.5e1  1.50e1  10e-1  -0  -0.0  0e0  9007199254740993.0  9.007199254740993e15
-        1.8446744073709551615e19  1e40  1e-40  "1.0"  "1e3"  "07"  "+7"  " 7"  "-0"  ""  "0x07"  "0a"  "0A"  "bob"
-        "true"  "null"  "é"  true  false  null  []  [7]  [7.0]  [256]  ["7"]  [true]  [7,true]  [7,1]  ["a","b"]
-        [["a",7]]  [["b",1],["a",2]]  [["a",1],["a",2]]  {}  {"some":7}  {"some":null}  {"a":7}
-        {"to":"bob","amount":7}  {"amount":"7","to":"bob"}  {"to":"bob"}  {"to":"bob","amount":7.0}
-        {"to":7,"amount":7}  {"to":"bob","amount":7,"more":1}  "Stop"  {"Stop":null}  {"Send":7}  {"Send":"7"}
-        "Send"
+        1.0 | 1.5 | 1e3 | 1E0 | 1.5e1 | 1.50e1 | 10e-1 | -0 | -0.0 | 0e0 | 9007199254740993.0 | 9.007199254740993e15
+        1.8446744073709551615e19 | 1e40 | 1e-40 | "1.0" | "1e3" | "07" | "+7" | " 7" | "-0" | "" | "0x07" | "0a"
+        "0A" | "bob" | "true" | "null" | "é" | true | false | null | [] | [7] | [7.0] | [256] | ["7"] | [true]
+        [7,true] | [7,1] | ["a","b"] | [["a",7]] | [["b",1],["a",2]] | [["a",1],["a",2]] | {} | {"some":7}
+        {"some":null} | {"a":7} | {"to":"bob","amount":7} | {"amount":"7","to":"bob"} | {"to":"bob"}
+        {"to":"bob","amount":7.0} | {"to":7,"amount":7} | {"to":"bob","amount":7,"more":1} | "Stop" | {"Stop":null}
+        {"Send":7} | {"Send":"7"} | "Send"
         """
     ),
 ]

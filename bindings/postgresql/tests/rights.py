@@ -21,20 +21,20 @@ from values import cells  # noqa: E402
 # Types of the arguments of planted functions: each fits a call of the extension's functions in some way.
 SIGNATURES = cells(
     """
-    text, text, text  text, text, bytea  text, text, bytea, int4  text, text, bytea, int8
-    text, text, bytea, int4, int4  text, text, json  text, text, jsonb  json, text, text  json, text, bytea
-    json, json, json  jsonb, text, bytea  varchar, varchar, varchar  name, name, name  text, name, bytea
-    text, text, text, text  text, text, bytea, text  text, text, bytea, text, int4, int4
-    anyelement, anyelement, anyelement  anyelement, text, bytea  anynonarray, anynonarray, bytea  VARIADIC text[]
-    text, VARIADIC text[]  regclass, text  text, text  name, text  regclass, unknown_text  text  regclass
-    internal  aclitem[]
+    text, text, text | text, text, bytea | text, text, bytea, int4 | text, text, bytea, int8
+    text, text, bytea, int4, int4 | text, text, json | text, text, jsonb | json, text, text | json, text, bytea
+    json, json, json | jsonb, text, bytea | varchar, varchar, varchar | name, name, name | text, name, bytea
+    text, text, text, text | text, text, bytea, text | text, text, bytea, text, int4, int4
+    anyelement, anyelement, anyelement | anyelement, text, bytea | anynonarray, anynonarray, bytea | VARIADIC text[]
+    text, VARIADIC text[] | regclass, text | text, text | name, text | regclass, unknown_text | text | regclass
+    internal | aclitem[]
     """
 )
 OPERATORS = ["~", "=", "<>", "->>", "||", "~~", "<", "@>"]
 OPERANDS = cells(
     """
-    text, text  text, varchar  varchar, text  name, text  text, name  text, bpchar  json, text  jsonb, text
-    anyelement, anyelement  anyelement, text  text, unknown_text
+    text, text | text, varchar | varchar, text | name, text | text, name | text, bpchar | json, text | jsonb, text
+    anyelement, anyelement | anyelement, text | text, unknown_text
     """
 )
 TYPES = ["text", "bytea", "json", "jsonb", "int4", "int8", "bool", "regclass", "trigger", "internal"]
