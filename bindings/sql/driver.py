@@ -36,6 +36,9 @@ NO_VALUE = "BCS has no F32, F64 or CHAR; this format can't have a value"
 LIMITS = (4294967295, 500)
 # The calls whose place is only in an error.
 IN_LINES = ("text_place", "pair_place", "registry_place", "modules_place")
+# Which of a call's words behind the limits isn't hexadecimal.
+PLAIN = dict.fromkeys(("explain", "explain_with", "stop_place", "text_place"), 1)
+PLAIN |= dict.fromkeys(("pair_place", "part_named", "content"), 2)
 STATUSES = {" in the registry": "registry", " in the format": "format", " in the path": "path"}
 
 
@@ -329,8 +332,7 @@ def answer(calls: Calls, line: str) -> tuple[str, ...]:
     registry, format = (bytes.fromhex(word) for word in words[:2])
     if format[:1] not in (b"{", b'"'):
         raise Unsayable
-    plain = {"explain": 1, "explain_with": 1, "stop_place": 1, "text_place": 1, "pair_place": 2, "part_named": 2, "content": 2}
-    rest = [word if place == plain.get(call) else bytes.fromhex(word) for place, word in enumerate(words[4:])]
+    rest = [word if place == PLAIN.get(call) else bytes.fromhex(word) for place, word in enumerate(words[4:])]
     told = getattr(calls, call)(
         calls.database.registry(registry), calls.text(format), (int(words[3]), int(words[2])), *rest
     )

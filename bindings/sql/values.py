@@ -113,7 +113,7 @@ def digits_of(format: Any, text: str, is_jsonb: bool = False) -> str | None:
 
 
 def doubling(count: int) -> str:
-    """A registry whose containers each have two of the next one, and the last has no bytes: few bytes have 2 ** count nodes."""
+    """Each container has two of the next, and the last one has no bytes: few bytes have 2 ** count nodes."""
     pair = [{"TYPENAME": f"T{number + 1}"} for number in range(count)]
     registry = {f"T{number}": {"TUPLESTRUCT": [pair[number], pair[number]]} for number in range(count)}
     return json.dumps({**registry, f"T{count}": "UNITSTRUCT"})
@@ -123,8 +123,10 @@ BAD_BOOL = "expected BOOL, 00 or 01, found 02"
 
 
 def bad_at_the_end(size: int) -> Iterator[tuple[str, bytes, str]]:
-    """Formats, bytes whose last one is refused with BAD_BOOL, and how its place ends: a list, and one under a long key, which
-    is part of the path to each of its elements."""
+    """Formats, bytes whose last one is refused with BAD_BOOL, and how its place ends.
+
+    They are a list, and one under a long key, which is part of the path to each of its elements.
+    """
     yield '{"SEQ":"BOOL"}', length(size) + b"\1" * (size - 1) + b"\2", f"[{size - 1}]"
     half = size // 2
     listed = length(half) + b"\1" * (half - 1) + b"\2"
@@ -147,8 +149,11 @@ FORMATS: list[Any] = [
     STRUCT,
     ENUM,
 ]
-POWERS = (2**53 - 1, 2**53, 2**53 + 1, 2**63 - 1, 2**63, -(2**63), -(2**63) - 1, 2**64 - 1, 2**64, 2**128 - 1, 2**128)
-NUMBERS = [*"0 7 -7 127 128 255 256 -128 -129 65535 65536".split(), *map(str, POWERS)]
+NUMBERS = [
+    *"0 7 -7 127 128 255 256 -128 -129 65535 65536".split(),
+    *(str(2**bits + step) for bits in (53, 63, 64, 128) for step in (-1, 0, 1)),
+    *(str(-(2**63) - step) for step in (0, 1)),
+]
 TEXTS = [
     *NUMBERS,
     *(f'"{number}"' for number in NUMBERS),

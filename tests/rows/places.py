@@ -157,7 +157,7 @@ def as_told(line: re.Match[str]) -> Place:
 
 
 def unescaped(place: str) -> str:
-    """The line escapes names, and the calls don't. A place in bytes has its names between double quotes, in both."""
+    """The line escapes names, and the calls don't. A place in bytes has names between double quotes in both."""
     try:
         return str(json.loads(f'"{place}"'))
     except ValueError:
@@ -165,8 +165,10 @@ def unescaped(place: str) -> str:
 
 
 def place_told(driver: Driver, call: str, *words: str | bytes, where: str = "") -> Place | None:
-    """What a call on places tells; nothing where it says that nothing is refused. If a language has a place only in the line of
-    its error, the place is this one or isn't found there."""
+    """What a call on places tells; nothing where it says that nothing is refused.
+
+    If a language has a place only in the line of its error, this finds `where` there or no place.
+    """
     try:
         return place_of_call(driver, call, *words)
     except Unsayable:

@@ -24,21 +24,13 @@ EXTENSION = sys.argv.pop(1)
 ENDLESS = "'{}', '{\"SEQ\":\"UNIT\"}', x'ffffff07'"
 # Each function with the inputs of a bomb, or with other ones.
 FUNCTIONS = {
-    "bcs_decode": ENDLESS,
-    "bcs_is": ENDLESS,
-    "bcs_scan": ENDLESS,
-    "bcs_fault": ENDLESS,
-    "bcs_part": ENDLESS + ", '.'",
-    "bcs_part_place": ENDLESS + ", '.'",
-    "bcs_part_by_name": ENDLESS + ", '.'",
-    "bcs_part_by_pointer": ENDLESS + ", ''",
-    "bcs_content": ENDLESS + ", '.'",
-    "bcs_content_by_name": ENDLESS + ", '.'",
-    "bcs_content_by_pointer": ENDLESS + ", ''",
+    **dict.fromkeys(["bcs_decode", "bcs_is", "bcs_scan", "bcs_fault"], ENDLESS),
+    **dict.fromkeys(["bcs_part", "bcs_part_place", "bcs_part_by_name"], ENDLESS + ", '.'"),
+    **dict.fromkeys(["bcs_content", "bcs_content_by_name"], ENDLESS + ", '.'"),
+    **dict.fromkeys(["bcs_part_by_pointer", "bcs_content_by_pointer"], ENDLESS + ", ''"),
     "bcs_explain": ENDLESS + ", 'ways'",
     "bcs_explain_with": ENDLESS + ", 'ways', ''",
-    "bcs_encode": "'{}', '\"U8\"', 7",
-    "bcs_normalise": "'{}', '\"U8\"', 7",
+    **dict.fromkeys(["bcs_encode", "bcs_normalise"], "'{}', '\"U8\"', 7"),
     "bcs_equal": "'{}', '\"U8\"', 7, 7",
 }
 BOUNDED = FUNCTIONS.keys() - {"bcs_explain", "bcs_explain_with"}
