@@ -214,7 +214,8 @@ static bcs_answer make_at_ends(enum way way, struct job job, uint8_t **out, size
     return answer;
 }
 
-/* Makes the call with more room than it needs, or with less; with a byte too few, so that it writes nothing; and with its room. */
+/* Makes the call with 2000 bytes of room. If it has an output, makes it again with one byte too few, which must write nothing, and
+   with exactly the room that it needs. */
 static bcs_answer make_whole(enum way way, const struct job *job, uint8_t **out) {
     bcs_answer answer = make_at_ends(way, *job, out, 2000);
     if (answer.status == BCS_SHORT || (answer.status == BCS_DONE && has_output(job) && answer.length > 0)) {
@@ -256,8 +257,8 @@ static bool is_whole(enum call call) {
            call == FORMAT_PLACE;
 }
 
-/* Other calls report the same about a text, bytes or a registry: the one with both halves, the one on the input itself, and for a
-   registry the one with a half. */
+/* Checks that other calls report the same about a text, bytes or a registry: the call that returns both halves of the refusal, the
+   call that encodes or decodes the input, and for a registry the call that returns one half. */
 static void check_others(enum way way, struct job job, bcs_answer answer, const uint8_t *out) {
     const bool is_text = job.call == TEXT_PLACE;
     uint8_t *half = malloc(answer.length + 1), *other;

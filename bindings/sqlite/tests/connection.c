@@ -173,7 +173,7 @@ static void answers(void) {
     closed(database);
 }
 
-/* What a column or an argument can't say: texts that aren't Unicode, and what is too long to be shown. */
+/* What the rows don't ask: default limits, bytes that aren't Unicode, and names and places that are too long to be shown. */
 static void hostile(void) {
     sqlite3 *database = opened();
     is_error(database, "select bcs_decode('{}','{\"SEQ\":\"UNIT\"}',x'ffffffff07')",
