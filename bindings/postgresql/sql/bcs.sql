@@ -27,9 +27,11 @@ SELECT bcs_equal(payments(), 'Payment', '{"to":"bob","amount":7}'::json, '{"to":
 -- Formats that are names of containers, and a form.
 SELECT told($$bcs_is('{}', 'Payment', '\x07')$$);
 SELECT told($$bcs_is('{}', '', '\x07')$$);
-SELECT told($$bcs_explain('{}', '"U8"', '\x07', 'xml')$$);
+SELECT told($$bcs_explain('{}', '"U8"', '\x07', 'jsonl')$$);
 -- What was expected is the detail of the error.
 SELECT bcs_encode('{"A":{"STRUCT":[{"a/~":{"SEQ":"BYTES"}}]}}', 'A', '{"a/~":["00","0"]}');
+-- In a definition ~ is a character like others.
+SELECT bcs_is('{"a~é/\u0000":{"STRUCT":[{"\n":{"TYPENAME":"Z"}}]}}', '"U8"', '\x07');
 -- A name is cut at 200 signs, and so long a pointer has more room than at first.
 SELECT replace(told(format($$bcs_encode_json('{"A":{"STRUCT":[{"%1$s":"U8"}]}}', 'A', '{"%1$s":true}')$$, repeat('~', 201))), repeat('~0', 200), '..');
 -- The names of containers are any texts.

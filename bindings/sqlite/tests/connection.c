@@ -169,7 +169,7 @@ static void answers(void) {
     is_error(database, "select bcs_decode('{}','\"U8\"','07')", "bcs: the bytes are no BLOB");
     is_error(database, "select bcs_is('{}','\"U8\"',x'07',4294967296)",
              "bcs: nodes are from 0 to 4294967295, and a depth is from 0 to 500");
-    is_error(database, "select bcs_explain('{}','\"U8\"',x'07','xml')", "bcs: a form is ways, paths, tree or json");
+    is_error(database, "select bcs_explain('{}','\"U8\"',x'07','jsonl')", "bcs: a form is ways, paths, tree or json");
     closed(database);
 }
 
@@ -188,7 +188,9 @@ static void hostile(void) {
     is_error(database, "select bcs_is(x'7b00','\"U8\"',x'07')",
              "bcs: refused: NotJson in the registry: line 1, column 2: a NUL byte; remove it");
     is_error(database, "select bcs_registry_of_modules('[]',cast(x'ff' as text))", "bcs: refused: BadType: the types aren't UTF-8");
-    /* Names are cut at 200 signs, of which ~0 is one. */
+    /* In a definition ~ is a character like others. In a pointer, names are cut at 200 signs, of which ~0 is one. */
+    is_error(database, "select bcs_is('{\"a~\xc3\xa9/\\u0000\":{\"STRUCT\":[{\"\\n\":{\"TYPENAME\":\"Z\"}}]}}','\"U8\"',x'07')",
+             "bcs: refused: UnknownName in the registry at a~\\u00e9/\\u0000, field \\u000a: no container is called Z");
     is_error(database, OF_NAME("replace(hex(zeroblob(100)),'0','~')"),
              "bcs: refused: BadShape at /" TWO_HUNDRED("~0") "/0: found true, expected an integer from 0 to 255 (U8)");
     is_error(database, OF_NAME("replace(hex(zeroblob(98)),'0','b') || '\xc3\xa9' || 'bbb'"),
