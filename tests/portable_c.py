@@ -37,7 +37,7 @@ LEAST = 1146
 # Two trials run at the same time.
 LANES = 2
 # The tests of the package that take little time in an emulator.
-QUICK_TESTS = "tests/calls tests/refusals tests/handles tests/places"
+QUICK_TESTS = "tests/calls tests/handles"
 
 NEEDED = {
     "/usr/bin/wasm2c": "wabt",

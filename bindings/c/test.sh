@@ -105,10 +105,10 @@ readelf -d "$room/example" >"$room/log"
 ! grep -q 'NEEDED.*libbcs' "$room/log" || fail "example.c isn't linked statically"
 echo "c: example.c, linked dynamically and statically"
 
-for name in calls refusals handles places documents beside; do
+for name in calls handles beside; do
     run_sanitized "$name" libbcs.a
 done
-echo "c: all calls, with texts and on handles, and each status and fault, under the sanitizers of addresses and undefined behaviour"
+echo "c: all calls, with texts and on handles, under the sanitizers of addresses and undefined behaviour"
 
 # The layer over the proved code is compiled for a sanitizer only here. It takes precedence over the one in libbcs.a.
 run_sanitized calls libbcs.a "$here/library.c" "$here/heap.c"

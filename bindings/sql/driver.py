@@ -32,17 +32,34 @@ FOUND = (", ", "; ", " in UTF-8, ")
 NUMBERS = ("length of ", "number of a variant")
 # The whole message where bcs_explain expects no value of the format.
 NO_VALUE = "BCS has no F32, F64 or CHAR; this format can't have a value"
+# The limits that most rows have, nodes before the depth.
+LIMITS = (4294967295, 500)
+# The calls whose place is only in an error.
+IN_LINES = ("text_place", "pair_place", "registry_place", "modules_place")
+# Which of a call's words behind the limits isn't hexadecimal.
+PLAIN = dict.fromkeys(("explain", "explain_with", "stop_place", "text_place"), 1)
+PLAIN |= dict.fromkeys(("pair_place", "part_named", "content"), 2)
 STATUSES = {" in the registry": "registry", " in the format": "format", " in the path": "path"}
 
 
 def refusal(message: str) -> Answered:
-    """The answer that an error message contains."""
+    """The answer that an error message contains, and the message."""
     if message.startswith("bcs: nodes are from"):
-        return Answered("limits", "-", "0", "0", "")
+        return Answered("limits", "-", "0", "0", "", message)
     found = re.match(r"bcs: refused: ([A-Za-z0-9]+)( in the [a-z]+)?(?: at byte (\d+))?", message)
     if not found:
         raise SystemExit(f"driver: {message}")
-    return Answered(STATUSES[found[2]] if found[2] else "refused", found[1], found[3] or "0", "0", "")
+    return Answered(STATUSES[found[2]] if found[2] else "refused", found[1], found[3] or "0", "0", "", message)
+
+
+def sqlstate_of(answered: Answered, expression: str) -> str:
+    """As README.md of PostgreSQL has them. JSON may be too deep for its reader, or for the limits of the call."""
+    status, fault, *_, message = answered.args
+    if status != "refused" or fault == "NoContent" or "_of_modules" in expression:
+        return "22023"
+    if fault in ("TooDeep", "TooManyNodes") or (fault == "TooNested" and "bcs_decode" in expression):
+        return "54000"
+    return "22P03" if " at byte " in message else "22P02"
 
 
 class NoUnicode(bytes):
@@ -145,7 +162,11 @@ class Postgresql:
             self.cursor.execute("select " + expression.replace("?", "%s"), arguments)
             value = self.cursor.fetchone()[0]
         except self.error as fault:
-            raise refusal(fault.diag.message_primary) from None
+            detail = fault.diag.message_detail
+            refused = refusal(fault.diag.message_primary + (f": {detail}" if detail else ""))
+            if fault.pgcode != sqlstate_of(refused, expression):
+                raise SystemExit(f"driver: {fault.pgcode} of {refused.args}") from None
+            raise refused from None
         return bytes(value) if isinstance(value, memoryview) else value
 
 
@@ -231,10 +252,38 @@ class Calls:
         return self.written(registry if notes is None else f"{registry}\n{notes}")
 
     def stop_place(self, *question: Any) -> Answer | None:
-        """bcs_fault has both halves as members."""
+        """bcs_fault has both halves as members. The error of bcs_decode has the place."""
         *asked, what = question
-        fault = self.ask("cast(bcs_fault(?, ?, ?, ?, ?) as text)", *asked)
-        return None if fault is None else self.written(json.loads(fault)["at" if what == "where" else "message"])
+        fault = json.loads(self.ask("cast(bcs_fault(?, ?, ?, ?, ?) as text)", *asked) or "null")
+        if fault is None:
+            return None
+        line = f"refused: {fault['refused']} at byte {fault['place']}, {fault['at']}".encode()
+        if self.line_of(lambda: self.from_bcs(*asked)) != (fault["refused"], fault["place"], len(line), line):
+            raise SystemExit(f"driver: bcs_decode doesn't refuse as bcs_fault: {fault}")
+        return self.written(fault["at" if what == "where" else "message"])
+
+    def line_of(self, call: Callable[[], object]) -> Answer | None:
+        """The error of a call, without the words for what is refused. None if it isn't refused."""
+        try:
+            call()
+            return None
+        except Answered as refused:
+            _, fault, place, *_, message = refused.args
+            line = re.sub(r"^bcs: (refused: \w+)(?: in the registry)?", r"\1", message).encode()
+            return fault, int(place), len(line), line
+
+    def text_place(self, *question: Any) -> Answer | None:
+        return self.line_of(lambda: self.to_bcs(*question[:4]))
+
+    def pair_place(self, *question: Any) -> Answer | None:
+        return self.line_of(lambda: self.compare(*question[:5]))
+
+    def registry_place(self, registry: bytes) -> Answer | None:
+        question = self.database.registry(registry), '"UNIT"', LIMITS
+        return self.line_of(lambda: self.check(*question))
+
+    def modules_place(self, modules: bytes, lines: bytes) -> Answer | None:
+        return self.line_of(lambda: self.registry_of_modules(modules, lines))
 
     def explain(self, *question: Any) -> Answer:
         """The text, and for invalid bytes the fault and its place. bcs_fault must report the same."""
@@ -265,7 +314,9 @@ def is_message_of(last: dict[str, Any], message: str) -> bool:
     return message == expected or message.startswith(tuple(expected + found for found in FOUND))
 
 
-def done(told: Answer) -> tuple[str, ...]:
+def answered(told: Answer | None) -> tuple[str, ...]:
+    if told is None:
+        return "no", "-", "0", "0", ""
     fault, place, length, output = told
     return "done", fault, str(place), str(length), output.hex()
 
@@ -273,19 +324,19 @@ def done(told: Answer) -> tuple[str, ...]:
 def answer(calls: Calls, line: str) -> tuple[str, ...]:
     """SQL lacks some calls, and takes a format that isn't JSON for the name of a container."""
     call, *words = line.split("\t")
-    if not hasattr(Calls, call) or words[-1] in ("kind", "line"):
+    if not hasattr(Calls, call) or words[-1] == "kind" or (words[-1] == "line") != (call in IN_LINES):
         raise Unsayable
-    if call == "registry_of_modules":
-        return done(calls.registry_of_modules(*(bytes.fromhex(word) for word in words)))
+    if call in ("registry_of_modules", "modules_place", "registry_place"):
+        words = words[:-1] if call in IN_LINES else words
+        return answered(getattr(calls, call)(*(bytes.fromhex(word) for word in words)))
     registry, format = (bytes.fromhex(word) for word in words[:2])
     if format[:1] not in (b"{", b'"'):
         raise Unsayable
-    plain = {"explain": 1, "explain_with": 1, "stop_place": 1, "part_named": 2, "content": 2}.get(call)
-    rest = [word if place == plain else bytes.fromhex(word) for place, word in enumerate(words[4:])]
+    rest = [word if place == PLAIN.get(call) else bytes.fromhex(word) for place, word in enumerate(words[4:])]
     told = getattr(calls, call)(
         calls.database.registry(registry), calls.text(format), (int(words[3]), int(words[2])), *rest
     )
-    return ("no", "-", "0", "0", "") if told is None else done(told)
+    return answered(told)
 
 
 def connected(kind: str, where: str) -> Database:
@@ -300,7 +351,7 @@ def main() -> None:
         try:
             told = "\t".join(answer(calls, line.rstrip("\n")))
         except Answered as refused:
-            told = "\t".join(refused.args)
+            told = "\t".join(refused.args[:5])
         except Unsayable:
             told = "unsayable"
         except MemoryError:

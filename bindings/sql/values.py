@@ -5,6 +5,7 @@ from __future__ import annotations
 
 import json
 import re
+from collections.abc import Iterator
 from decimal import Decimal
 from typing import Any
 
@@ -111,109 +112,60 @@ def digits_of(format: Any, text: str, is_jsonb: bool = False) -> str | None:
         return None
 
 
+def doubling(count: int) -> str:
+    """Each container has two of the next, and the last one has no bytes: few bytes have 2 ** count nodes."""
+    pair = [{"TYPENAME": f"T{number + 1}"} for number in range(count)]
+    registry = {f"T{number}": {"TUPLESTRUCT": [pair[number], pair[number]]} for number in range(count)}
+    return json.dumps({**registry, f"T{count}": "UNITSTRUCT"})
+
+
+BAD_BOOL = "expected BOOL, 00 or 01, found 02"
+
+
+def bad_at_the_end(size: int) -> Iterator[tuple[str, bytes, str]]:
+    """Formats, bytes whose last one is refused with BAD_BOOL, and how its place ends.
+
+    They are a list, and one under a long key, which is part of the path to each of its elements.
+    """
+    yield '{"SEQ":"BOOL"}', length(size) + b"\1" * (size - 1) + b"\2", f"[{size - 1}]"
+    half = size // 2
+    listed = length(half) + b"\1" * (half - 1) + b"\2"
+    map = '{"MAP":{"KEY":"STR","VALUE":{"SEQ":"BOOL"}}}'
+    yield map, b"\1" + length(half) + b"k" * half + listed, f"[{half - 1}]"
+
+
+def cells(table: str) -> list[str]:
+    """What is between two bars, or on a line."""
+    return re.split(r" \| |\s*\n\s*", table.strip())
+
+
 FORMATS: list[Any] = [
     *(f"{sign}{bits}" for sign in "UI" for bits in (8, 16, 32, 64, 128)),
-    "UNIT",
-    "BOOL",
-    "STR",
-    "BYTES",
-    "F32",
-    "F64",
-    "CHAR",
-    {"OPTION": "U8"},
-    {"OPTION": "UNIT"},
-    {"SEQ": "U8"},
-    {"SEQ": "U16"},
-    {"SEQ": "STR"},
+    *"UNIT BOOL STR BYTES F32 F64 CHAR".split(),
+    *({"OPTION": of} for of in ("U8", "UNIT")),
+    *({"SEQ": of} for of in ("U8", "U16", "STR")),
     {"TUPLE": ["U8", "BOOL"]},
     {"MAP": {"KEY": "STR", "VALUE": "U8"}},
     STRUCT,
     ENUM,
 ]
 NUMBERS = [
-    "0",
-    "7",
-    "-7",
-    "127",
-    "128",
-    "255",
-    "256",
-    "-128",
-    "-129",
-    "65535",
-    "65536",
-    str(2**53 - 1),
-    str(2**53),
-    str(2**53 + 1),
-    str(2**63 - 1),
-    str(2**63),
-    str(-(2**63)),
-    str(-(2**63) - 1),
-    str(2**64 - 1),
-    str(2**64),
-    str(2**128 - 1),
-    str(2**128),
+    *"0 7 -7 127 128 255 256 -128 -129 65535 65536".split(),
+    *(str(2**bits + step) for bits in (53, 63, 64, 128) for step in (-1, 0, 1)),
+    *(str(-(2**63) - step) for step in (0, 1)),
 ]
 TEXTS = [
     *NUMBERS,
     *(f'"{number}"' for number in NUMBERS),
-    "1.0",
-    "1.5",
-    "1e3",
-    "1E0",
-    "1.5e1",
-    "1.50e1",
-    "10e-1",
-    "-0",
-    "-0.0",
-    "0e0",
-    "9007199254740993.0",
-    "9.007199254740993e15",
-    "1.8446744073709551615e19",
-    "1e40",
-    "1e-40",
-    '"1.0"',
-    '"1e3"',
-    '"07"',
-    '"+7"',
-    '" 7"',
-    '"-0"',
-    '""',
-    '"0x07"',
-    '"0a"',
-    '"0A"',
-    '"bob"',
-    '"true"',
-    '"null"',
-    '"é"',
-    "true",
-    "false",
-    "null",
-    "[]",
-    "[7]",
-    "[7.0]",
-    "[256]",
-    '["7"]',
-    "[true]",
-    "[7,true]",
-    "[7,1]",
-    '["a","b"]',
-    '[["a",7]]',
-    '[["b",1],["a",2]]',
-    '[["a",1],["a",2]]',
-    "{}",
-    '{"some":7}',
-    '{"some":null}',
-    '{"a":7}',
-    '{"to":"bob","amount":7}',
-    '{"amount":"7","to":"bob"}',
-    '{"to":"bob"}',
-    '{"to":"bob","amount":7.0}',
-    '{"to":7,"amount":7}',
-    '{"to":"bob","amount":7,"more":1}',
-    '"Stop"',
-    '{"Stop":null}',
-    '{"Send":7}',
-    '{"Send":"7"}',
-    '"Send"',
+    *cells(
+        """
+        1.0 | 1.5 | 1e3 | 1E0 | 1.5e1 | 1.50e1 | 10e-1 | -0 | -0.0 | 0e0 | 9007199254740993.0 | 9.007199254740993e15
+        1.8446744073709551615e19 | 1e40 | 1e-40 | "1.0" | "1e3" | "07" | "+7" | " 7" | "-0" | "" | "0x07" | "0a"
+        "0A" | "bob" | "true" | "null" | "é" | true | false | null | [] | [7] | [7.0] | [256] | ["7"] | [true]
+        [7,true] | [7,1] | ["a","b"] | [["a",7]] | [["b",1],["a",2]] | [["a",1],["a",2]] | {} | {"some":7}
+        {"some":null} | {"a":7} | {"to":"bob","amount":7} | {"amount":"7","to":"bob"} | {"to":"bob"}
+        {"to":"bob","amount":7.0} | {"to":7,"amount":7} | {"to":"bob","amount":7,"more":1} | "Stop" | {"Stop":null}
+        {"Send":7} | {"Send":"7"} | "Send"
+        """
+    ),
 ]

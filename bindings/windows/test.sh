@@ -94,10 +94,10 @@ run() {
 tests_of_c() {
     local name
     x86_64-w64-mingw32-gcc -std=gnu11 -Wall -Wextra -Werror -c "$root/bindings/c/tests/layout.c" -o "$room/layout.o" || return 1
-    for name in calls refusals handles places beside threads; do
+    for name in calls handles beside threads; do
         run "$name" "$root/bindings/c/tests/$name.c" || return 1
     done
-    echo "all calls, with texts and on handles, each status and fault, places, and 40 threads on one handle"
+    echo "all calls, with texts and on handles, and 40 threads on one handle"
 }
 part "the tests of C" tests_of_c
 run_memory() {

@@ -20,7 +20,7 @@ call `bcs_..` of the same name:
     fault_name  NUMBER
 
 The following report where something is refused. WHAT is `where` or `wanted`; or, for the error that the language throws
-or returns, `kind` or `line`.
+or returns, `kind` or `line`. A language that has a place only in an error answers `line` alone.
 
     text_place  QUESTION TEXT WHAT         stop_place  QUESTION BYTES WHAT
     pair_place  QUESTION FIRST SECOND WHAT  (of `compare`)

@@ -13,11 +13,10 @@ from typing import Any
 from driver import STANDARD_LIMITS, Driver, Question, expect
 from named_parts import part_in
 from places import Place, place_told
-from words import format_of
+from words import format_of, in_ascii
 
 FILE = pathlib.Path(__file__).resolve().parent / "hostile_names.json"
 NOT_PLAIN = re.compile(r'[^!-~]|[!"*.:=?\[\\\]]')
-QUOTED = re.compile(r"[^ !#-\[\]-~]")
 # No registry here has it.
 MISSING = {"TYPENAME": "missing: UnknownName: x"}
 NO_CONTAINER = "no container is called missing: UnknownName: x"
@@ -40,13 +39,7 @@ def label(name: str) -> str:
     """A name in a field path."""
     if name and not NOT_PLAIN.search(name):
         return name
-    return '"' + QUOTED.sub(lambda found: escaped(found[0]), name) + '"'
-
-
-def escaped(character: str) -> str:
-    if character in '"\\':
-        return "\\" + character
-    return re.sub("....", r"\\u\g<0>", character.encode("utf-16-be").hex())
+    return f'"{in_ascii(name)}"'
 
 
 def step(name: str) -> str:
@@ -73,9 +66,10 @@ class Hostile:
     def question(self, container: str) -> Question:
         return Question(self.driver, self.registry, format_of(container), [])
 
-    def text_place(self, container: str, value: Any) -> Place | None:
+    def text_place(self, container: str, value: Any, where: str) -> Place | None:
         text = json.dumps(value, ensure_ascii=False).encode()
-        return place_told(self.driver, "text_place", self.registry, format_of(container), *STANDARD_LIMITS, text)
+        question = self.registry, format_of(container), *STANDARD_LIMITS
+        return place_told(self.driver, "text_place", *question, text, where=where)
 
     def stop_place(self, container: str, data: bytes) -> Place | None:
         return place_told(self.driver, "stop_place", self.registry, format_of(container), *STANDARD_LIMITS, data)
@@ -85,7 +79,7 @@ class Hostile:
         right = Place(step(name), NO_BOOL)
         fields = {other: 7 if other == name else False for other in self.names}
         for container, value in [("S", fields), ("E", {name: 7})]:
-            told = self.text_place(container, value)
+            told = self.text_place(container, value, right.where)
             expect(told == right, f"{container}: {told}")
 
     def stops(self, number: int, name: str) -> None:
@@ -118,7 +112,8 @@ class Hostile:
             ),
             ({name: 7}, step(name), "expected a container; this looks like a value, and not like a registry"),
         ]:
-            told = place_told(self.driver, "registry_place", json.dumps(shape, ensure_ascii=False).encode())
+            text = json.dumps(shape, ensure_ascii=False).encode()
+            told = place_told(self.driver, "registry_place", text, where=where)
             expect(told == Place(where, expected), f"{shape}: {told}")
 
 

@@ -150,8 +150,9 @@ def refused_row(driver: Driver, modules: Any, kind: str, name: str) -> None:
 
 
 def place_row(driver: Driver, modules: Any, kind: str, place: str, words: str) -> None:
-    told = place_told(driver, "modules_place", *requested(modules, kind))
-    expect(told is not None and told.where == (kind if place == ARGUMENT else place), f"{told}")
+    where = kind if place == ARGUMENT else place
+    told = place_told(driver, "modules_place", *requested(modules, kind), where=where)
+    expect(told is not None and told.where == where, f"{told}")
     expect(told is not None and words in told.wanted and told.wanted.isascii(), f"{told}")
 
 

@@ -13,7 +13,7 @@ from typing import NamedTuple
 
 from driver import STANDARD_LIMITS, Answer, Driver, expect
 from jobs import BEYOND_CALLS, OPTIONS, modules_of, path_of
-from words import Unsayable, bytes_of, bytes_of_digits, format_of
+from words import Unsayable, bytes_of, bytes_of_digits, format_of, in_ascii
 
 LINE = re.compile(
     r'2 "(?:.*\\n)?refused: (?P<fault>\w+)(?: at \d+)?\\n" '
@@ -68,9 +68,8 @@ def place_of_job(driver: Driver, name: str, words: list[str], wanted: str) -> tu
         raise Unsayable
     if name == "from-move":
         right = as_told(line)
-        return right._replace(where=right.where.removeprefix("TYPE, ")), place_told(
-            driver, "modules_place", *modules_of(words)
-        )
+        right = right._replace(where=right.where.removeprefix("TYPE, "))
+        return right, place_told(driver, "modules_place", *modules_of(words), where=right.where)
     options = [word for word in words if word in OPTIONS]
     if BEYOND_CALLS & set(options):
         raise Unsayable
@@ -79,21 +78,22 @@ def place_of_job(driver: Driver, name: str, words: list[str], wanted: str) -> tu
         return as_told(line), place_told(driver, "growth_place", *map(bytes_of, words))
     if re.match(r"(?:FORMAT|PATH)\b", line["place"]):
         return place_in_arguments(driver, line, words)
-    of_registry = place_told(driver, "registry_place", bytes_of(words[line["of"] == "NEW"]))
+    right = as_told(line)
+    of_registry = place_told(driver, "registry_place", bytes_of(words[line["of"] == "NEW"]), where=right.where)
     if name == "grows":
         expect_in_growth(driver, words, of_registry, "newer" if line["of"] == "NEW" else "registry")
     if name in ON_REGISTRIES or of_registry:
-        return as_told(line), of_registry
+        return right, of_registry
     given = words[3 if name == "part" else 2 :]
     limits = given[2 if name == "same" else 1 :] or STANDARD_LIMITS
     question, data = (bytes_of(words[0]), format_of(words[1]), *limits), bytes_of(given[line["of"] == "B"])
     if name not in ON_BYTES:
-        told = place_told(driver, "text_place", *question, data)
+        told = place_told(driver, "text_place", *question, data, where=right.where)
         if name == "same":
             expect_in_pair(driver, (*question, *map(bytes_of, given[:2])), told)
-        return as_told(line), told
+        return right, told
     data = data if "--raw" in options else bytes_of_digits(data)
-    return Place(line["place"], LIMIT.sub("", line["words"])), place_told(driver, "stop_place", *question, data)
+    return Place(line["place"], right.wanted), place_told(driver, "stop_place", *question, data)
 
 
 def expect_in_growth(driver: Driver, words: list[str], told: Place | None, kind: str) -> None:
@@ -109,7 +109,7 @@ def expect_in_growth(driver: Driver, words: list[str], told: Place | None, kind:
 def expect_in_pair(driver: Driver, words: tuple[str | bytes, ...], told: Place | None) -> None:
     """The call that compares two texts reports the place in the one that is refused."""
     try:
-        in_pair = place_told(driver, "pair_place", *words)
+        in_pair = place_told(driver, "pair_place", *words, where=told.where if told else "")
     except Unsayable:
         return
     expect(in_pair == told, f"{in_pair} in a pair")
@@ -157,13 +157,36 @@ def as_told(line: re.Match[str]) -> Place:
 
 
 def unescaped(place: str) -> str:
-    """The line escapes names, and the calls don't."""
-    name: str = json.loads(f'"{place}"')
-    return name
+    """The line escapes names, and the calls don't. A place in bytes has names between double quotes in both."""
+    try:
+        return str(json.loads(f'"{place}"'))
+    except ValueError:
+        return place
 
 
-def place_told(driver: Driver, call: str, *words: str | bytes) -> Place | None:
-    """What a call on places tells; nothing where it says that nothing is refused."""
+def place_told(driver: Driver, call: str, *words: str | bytes, where: str = "") -> Place | None:
+    """What a call on places tells; nothing where it says that nothing is refused.
+
+    If a language has a place only in the line of its error, this finds `where` there or no place.
+    """
+    try:
+        return place_of_call(driver, call, *words)
+    except Unsayable:
+        return place_in_line(driver.ask(call, *words, "line"), where)
+
+
+def place_in_line(answer: Answer, where: str) -> Place | None:
+    """Lines have names in ASCII, and long ones cut, which isn't asked here."""
+    line, at = answer.output.decode(), f" at {in_ascii(where)}" if where else ""
+    if len(at) > 200:
+        raise Unsayable
+    expect(answer.status in ("done", "no"), f"{answer}")
+    begin = f"refused: {answer.fault}{at}: "
+    told = Place(where, line.removeprefix(begin)) if line.startswith(begin) else Place("", line)
+    return None if answer.status == "no" else told
+
+
+def place_of_call(driver: Driver, call: str, *words: str | bytes) -> Place | None:
     where, wanted = (driver.ask(call, *words, what) for what in ("where", "wanted"))
     expect(where.status == wanted.status and where.status in ("done", "no"), f"{where}, {wanted}")
     for answer in (where, wanted):

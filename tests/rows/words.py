@@ -18,6 +18,17 @@ def unrolled(row: str) -> str:
     return re.sub(r"\((\d+)\*([^)]*)\)", repeated, row)
 
 
+def in_ascii(name: str) -> str:
+    """A name as lines have it, between double quotes: printable ASCII."""
+
+    def escaped(found: re.Match[str]) -> str:
+        if found[0] in '"\\':
+            return "\\" + found[0]
+        return re.sub("....", r"\\u\g<0>", found[0].encode("utf-16-be").hex())
+
+    return re.sub(r"[^ !#-\[\]-~]", escaped, name)
+
+
 def bytes_of(word: str) -> bytes:
     return bytes.fromhex(word[2:]) if word.startswith("0x") else word.encode()
 

@@ -16,7 +16,7 @@ import facts
 FOLDER = facts.ROOT / "bindings/portable"
 C = facts.ROOT / "bindings/c"
 LIBRARY, PROGRAM = "web/bcs_scalar.wasm", "web/bcs_program.wasm"
-TESTS = ["calls.c", "refusals.c", "handles.c", "places.c", "threads.c", "checks.h", "jobs.h"]
+TESTS = ["calls.c", "handles.c", "threads.c", "checks.h", "jobs.h"]
 OWN_TESTS = ["rows.c", "stack.c"]
 
 sys.path.insert(0, str(FOLDER))

@@ -65,9 +65,9 @@ def libraries_need_old_glibc(bench: Bench) -> None:
 
 
 def calls_of_c(bench: Bench) -> None:
-    for name in "calls", "refusals", "handles", "places", "threads":
+    for name in "calls", "handles", "threads":
         bench.test_of_c(name, "libbcs.a")
-    passed("the tests of each call, status and fault, of handles, of places, and of 40 threads on one handle")
+    passed("the tests of each call, of handles, and of 40 threads on one handle")
     jobs = bench.test_of_c("memory", "libbcs.a").splitlines()
     if not jobs:
         fail("tests/memory.c of the C library prints no job")

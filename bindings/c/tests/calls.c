@@ -1,9 +1,11 @@
-/* What each call returns if nothing is refused. The answers are from docs/ENCODING.md and docs/JSON.md. All arguments
-   are at the end of a page. */
+/* What the rows of tests/rows don't ask of the calls: outputs of all lengths, numbers that no language passes, refusals of several
+   arguments at once, the names of all faults by their numbers, and megabytes. The answers are from docs/ENCODING.md and
+   docs/JSON.md. All arguments are at the end of a page. */
 #include "jobs.h"
 
 #define REGISTRY "{\"Payment\":{\"STRUCT\":[{\"to\":\"STR\"},{\"amount\":\"U64\"}]},\"Nothing\":\"UNITSTRUCT\"}"
 #define PAYMENT "{\"TYPENAME\":\"Payment\"}"
+#define U16_OF_5 "     0  0500                                                              U16 5                           .\n"
 #define MAP "{\"MAP\":{\"KEY\":\"STR\",\"VALUE\":\"U8\"}}"
 
 /* A job whose output is this one. */
@@ -17,42 +19,15 @@ struct done {
 
 static const struct done outputs[] = {
     {{ON_VALUE(TO_BCS, PAYMENT, "{\"amount\": 7, \"to\": \"bob\"}")}, OF("\x03" "bob" "\x07\0\0\0\0\0\0\0")},
-    {{ON_VALUE(TO_BCS, "\"I16\"", "-4660")}, OF("\xcc\xed")},
     {{ON_VALUE(TO_BCS, "\"UNIT\"", "null")}, OF("")},
-    {{ON_VALUE(TO_BCS, MAP, "[[\"aa\",2],[\"b\",1]]")}, OF("\x02\x01" "b\x01\x02" "aa\x02")},
     {{ON_VALUE(FROM_BCS, PAYMENT, "\x03" "bob" "\x07\0\0\0\0\0\0\0")}, OF("{\"amount\":\"7\",\"to\":\"bob\"}")},
-    {{ON_VALUE(FROM_BCS, MAP, "\x02\x01" "b\x01\x02" "aa\x02")}, OF("[[\"b\",1],[\"aa\",2]]")},
-    {{ON_VALUE(FROM_BCS, "\"UNIT\"", "")}, OF("null")},
     {{ON_VALUE(NORMALISE, MAP, " [[\"aa\",\"2\"],[\"b\",1]]")}, OF("[[\"b\",1],[\"aa\",2]]")},
-    {{ON_VALUE(NORMALISE, "\"BYTES\"", "\"C0DE\"")}, OF("\"c0de\"")},
-    {{ON_VALUE(EXPLAIN, "{\"SEQ\":\"U16\"}", "\x01\x05\x00"), .number = BCS_WAYS},
-     OF("     0  01                                                                SEQ, 1 element                  .\n"
-        "     1  0500                                                              U16 5                           [0]\n")},
-    {{ON_VALUE(EXPLAIN, "{\"SEQ\":\"U16\"}", "\x01\x05\x00"), .number = BCS_PATHS},
-     OF("     0  01                                                                SEQ, 1 element                  .  .\n"
-        "     1  0500                                                              U16 5                           [0]  0\n")},
-    {{ON_VALUE(EXPLAIN, "{\"SEQ\":{\"OPTION\":\"BOOL\"}}", "\x01\x01\x01"), .number = BCS_TREE},
-     OF("     0  01                                                                SEQ, 1 element                  .\n"
-        "     1  01                                                                OPTION present                  [0]\n"
-        "     2  01                                                                BOOL true                         ?\n")},
     {{ON_VALUE(EXPLAIN, "{\"SEQ\":\"U16\"}", "\x01\x05\x00"), .number = BCS_JSON},
      OF("{\"bytes\":\"01\",\"kind\":\"length\",\"name\":\".\",\"path\":\".\",\"place\":0,\"value\":1,\"what\":\"SEQ\"}\n"
         "{\"bytes\":\"0500\",\"kind\":\"unsigned\",\"name\":\"[0]\",\"path\":\"0\",\"place\":1,\"value\":\"5\",\"what\":\"U16\"}\n"
         "{\"end\":3}\n")},
-    {{ON_VALUE(EXPLAIN, "{\"SEQ\":\"U16\"}", "\x01\x05\x00"), .number = 4},
-     OF("     0  01                                                                SEQ, 1 element                  .\n"
-        "     1  0500                                                              U16 5                           [0]\n")},
-    {{ON_VALUE(EXPLAIN, "{\"SEQ\":\"U16\"}", "\x01\x05\x00"), .number = UINT32_MAX},
-     OF("     0  01                                                                SEQ, 1 element                  .\n"
-        "     1  0500                                                              U16 5                           [0]\n")},
-    {{ON_VALUE(EXPLAIN, "\"UNIT\"", ""), .number = BCS_WAYS}, OF("")},
-    {{ON_VALUE(EXPLAIN_WITH, "{\"SEQ\":\"U16\"}", "\x01\x05\x00"), .number = BCS_JSON},
-     OF("{\"bytes\":\"01\",\"kind\":\"length\",\"name\":\".\",\"path\":\".\",\"place\":0,\"value\":1,\"what\":\"SEQ\"}\n"
-        "{\"bytes\":\"0500\",\"kind\":\"unsigned\",\"name\":\"[0]\",\"path\":\"0\",\"place\":1,\"value\":\"5\",\"what\":\"U16\"}\n"
-        "{\"end\":3}\n")},
-    {{ON_VALUE(EXPLAIN_WITH, "\"BYTES\"", "\x02\x01\x02"), .number = BCS_WAYS, .second = OF("inside .=\"U16\"")},
-     OF("     0  02                                                                BYTES, 2 bytes                  .\n"
-        "     1  0102                                                              U16 513                         [bcs]\n")},
+    {{ON_VALUE(EXPLAIN, "\"U16\"", "\x05\x00"), .number = 4}, OF(U16_OF_5)},
+    {{ON_VALUE(EXPLAIN, "\"U16\"", "\x05\x00"), .number = UINT32_MAX}, OF(U16_OF_5)},
     {{ON_VALUE(EXPLAIN_WITH, "{\"SEQ\":\"BYTES\"}", "\x02\x01\x05\x01\x01"), .number = BCS_JSON,
       .second = OF("\ninside [*]=\"U8\"\n\ninside .nowhere=\"U8\"\n")},
      OF("{\"bytes\":\"02\",\"kind\":\"length\",\"name\":\".\",\"path\":\".\",\"place\":0,\"value\":2,\"what\":\"SEQ\"}\n"
@@ -61,6 +36,16 @@ static const struct done outputs[] = {
         "{\"bytes\":\"01\",\"kind\":\"length\",\"name\":\"[1]\",\"path\":\"1\",\"place\":3,\"value\":1,\"what\":\"BYTES\"}\n"
         "{\"bytes\":\"01\",\"kind\":\"unsigned\",\"name\":\"[1][bcs]\",\"path\":null,\"place\":4,\"value\":\"1\",\"what\":\"U8\"}\n"
         "{\"end\":5}\n")},
+    {{ON_VALUE(EXAMPLE, PAYMENT, ""), .number = BCS_FULL}, OF("{\"amount\":\"0\",\"to\":\"\"}")},
+    {{ON_VALUE(EXAMPLE, PAYMENT, ""), .number = 2}, OF("{\"amount\":\"0\",\"to\":\"\"}")},
+    {{ON_VALUE(SHOW, "", "Nothing"), .number = BCS_JSON}, OF("{\"Nothing\":\"UNITSTRUCT\"}\n")},
+    {{ON_VALUE(SHOW, "", "Nothing"), .number = 4}, OF("Nothing: UNITSTRUCT, 0 bytes, used by no other\n")},
+    {{ON_VALUE(TEXT_PLACE, PAYMENT, "{\"to\":1}"), .number = BCS_WANTED}, OF("expected STR, a string")},
+    {{ON_VALUE(TEXT_PLACE, PAYMENT, "{\"to\":1,\"amount\":7}"), .number = UINT32_MAX}, OF("/to")},
+    {{ON_VALUE(STOP_PLACE, PAYMENT, "\x01"), .number = 2}, OF(".to")},
+    {{.call = REGISTRY_PLACE, .input = OF("{\"S\":7}"), .number = 2}, OF("/S")},
+    {{.call = GROWTH_LIST, .input = OF("{}"), .second = OF("{\"P\":\"UNITSTRUCT\"}")}, OF("P: container added\n")},
+    {{.call = REGISTRY_OF_MODULES, .input = OF("[]"), .second = OF("u8\n")}, OF("{\"u8\":{\"NEWTYPESTRUCT\":\"U8\"}}")},
     {{.call = FAULT_NAME, .number = BCS_STOP_BAD_BOOL}, OF("BadBool")},
 };
 
@@ -96,93 +81,62 @@ static void outputs_of_all_lengths(void) {
     }
 }
 
-static void is_answer(struct job job, uint32_t status, uint64_t place, size_t length) {
-    uint8_t *out = guarded(0);
-    const bcs_answer answer = make_guarded(job, out, 0);
-    CHECK(answer.status == status && answer.fault == BCS_FAULT_NONE && answer.place == place && answer.length == length);
-    unguard(out, 0);
+/* The job has this status, fault and place, and leaves its output unchanged. */
+static void is_answer(struct job job, uint32_t status, uint32_t fault, size_t length) {
+    uint8_t *out = guarded(200);
+    const bcs_answer answer = make_guarded(job, out, 200);
+    CHECK(are_same(answer, (bcs_answer){status, fault, 0, length}) && are_untouched(out, 200));
+    unguard(out, 200);
 }
 
-static void checks_and_growth(void) {
-    is_answer((struct job){ON_VALUE(CHECKS, PAYMENT, "")}, BCS_DONE, 0, 0);
-    is_answer((struct job){ON_VALUE(CHECKS, "\"F64\"", "")}, BCS_DONE, 0, 0);
-    struct job shallow = {ON_VALUE(CHECKS, PAYMENT, "")};
-    shallow.depth = shallow.nodes = 0;
-    is_answer(shallow, BCS_DONE, 0, 0);
-
-    const struct slice none = OF("{}"), more = OF(REGISTRY);
-    is_answer((struct job){.call = GROWS, .input = none, .second = more}, BCS_DONE, 0, 0);
-    is_answer((struct job){.call = GROWS, .input = more, .second = more}, BCS_DONE, 0, 0);
-    is_answer((struct job){.call = GROWS,
-                           .input = OF("{\"E\":{\"ENUM\":{}}}"),
-                           .second = OF("{\"E\":{\"ENUM\":{\"7\":{\"A\":\"UNIT\"}}}}")},
-              BCS_DONE, 0, 0);
+/* The registry is checked before the format, both before the limits, and these before the input. */
+static void refused_in_order(void) {
+    static const enum call calls[] = {CHECKS, TO_BCS,     FROM_BCS, NORMALISE, COMPARE,      SCAN,       PART,
+                                      EXPLAIN, TEXT_PLACE, STOP_PLACE, PART_NAMED, CONTENT, EXPLAIN_WITH, TEXT_REFUSAL,
+                                      STOP_REFUSAL, SCHEMA, EXAMPLE};
+    for (size_t call = 0; call < sizeof calls / sizeof *calls; call++) {
+        struct job job = {calls[call], OF("{"), OF("{"), OF("{"), OF("{"), BCS_DEPTH + 1, BCS_NODES, UINT32_MAX};
+        is_answer(job, BCS_REGISTRY, BCS_REGISTRY_NOT_JSON, 0);
+        job.registry = (struct slice)OF("{}");
+        is_answer(job, BCS_FORMAT, BCS_REGISTRY_NOT_JSON, 0);
+        job.format = (struct slice)OF("\"U8\"");
+        is_answer(job, BCS_LIMITS, BCS_FAULT_NONE, 0);
+        job.depth = UINT32_MAX;
+        is_answer(job, BCS_LIMITS, BCS_FAULT_NONE, 0);
+    }
+    is_answer((struct job){ON_VALUE(PART, "\"U8\"", ""), .second = OF("")}, BCS_PATH, BCS_PATH_BAD_PATH, 0);
+    struct job grows = {.call = GROWS, .input = OF("{\"S\":7}"), .second = OF("{")};
+    is_answer(grows, BCS_REGISTRY, BCS_REGISTRY_BAD_SHAPE, 0);
+    grows.input = (struct slice)OF("{}");
+    is_answer(grows, BCS_NEWER, BCS_REGISTRY_NOT_JSON, 0);
+    /* Of two documents, the first that is refused is reported. */
+    is_answer((struct job){ON_VALUE(COMPARE, "\"U8\"", "7"), .second = OF("x")}, BCS_REFUSED, BCS_TEXT_NOT_JSON, 0);
+    is_answer((struct job){ON_VALUE(COMPARE, "\"U8\"", "null"), .second = OF("x")}, BCS_REFUSED, BCS_TEXT_BAD_SHAPE, 0);
 }
 
-static void comparisons(void) {
-    is_answer((struct job){ON_VALUE(COMPARE, "\"U64\"", "7"), .second = OF("\"7\"")}, BCS_DONE, 0, 0);
-    is_answer((struct job){ON_VALUE(COMPARE, "\"U64\"", "7"), .second = OF("8")}, BCS_NO, 0, 0);
-    is_answer((struct job){ON_VALUE(COMPARE, MAP, "[[\"aa\",2],[\"b\",1]]"), .second = OF("[[\"b\",1],[\"aa\",2]]")},
-              BCS_DONE, 0, 0);
-    is_answer((struct job){ON_VALUE(COMPARE, MAP, "[[\"aa\",2],[\"b\",1]]"), .second = OF("[[\"b\",1],[\"aa\",1]]")},
-              BCS_NO, 0, 0);
-}
-
-/* Bytes behind the value are let stand. */
-static void scans_and_parts(void) {
-    is_answer((struct job){ON_VALUE(SCAN, "\"U16\"", "\x01\x02")}, BCS_DONE, 0, 2);
-    is_answer((struct job){ON_VALUE(SCAN, "\"U16\"", "\x01\x02\x03\x04")}, BCS_DONE, 0, 2);
-    is_answer((struct job){ON_VALUE(SCAN, "\"UNIT\"", "")}, BCS_DONE, 0, 0);
-    is_answer((struct job){ON_VALUE(SCAN, PAYMENT, "\x03" "bob" "\x07\0\0\0\0\0\0\0!")}, BCS_DONE, 0, 12);
-
-    is_answer((struct job){ON_VALUE(PART, PAYMENT, "\x03" "bob" "\x07\0\0\0\0\0\0\0!"), .second = OF(".")}, BCS_DONE, 0, 12);
-    is_answer((struct job){ON_VALUE(PART, PAYMENT, "\x03" "bob" "\x07\0\0\0\0\0\0\0"), .second = OF("inner/0")}, BCS_DONE, 0, 4);
-    is_answer((struct job){ON_VALUE(PART, PAYMENT, "\x03" "bob" "\x07\0\0\0\0\0\0\0"), .second = OF("inner/1")}, BCS_DONE, 4, 8);
-    is_answer((struct job){ON_VALUE(PART, PAYMENT, "\x03" "bob" "\x07\0\0\0\0\0\0\0"), .second = OF("inner/2")}, BCS_NO, 0, 0);
-    is_answer((struct job){ON_VALUE(PART, MAP, "\x02\x01" "b\x01\x02" "aa\x02"), .second = OF("key:026161")}, BCS_DONE, 7, 1);
-    is_answer((struct job){ON_VALUE(PART, MAP, "\x02\x01" "b\x01\x02" "aa\x02"), .second = OF("key:0163")}, BCS_NO, 0, 0);
-}
-
-#define NAMED_PART(its_format, its_input, its_notation, its_name) \
-    (struct job){ON_VALUE(PART_NAMED, its_format, its_input), .number = its_notation, .second = OF(its_name)}
-#define PAID "\x03" "bob" "\x07\0\0\0\0\0\0\0!"
-#define OF_MAP "\x02\x01" "b\x01\x02" "aa\x02"
-
-static void parts_by_names(void) {
-    is_answer(NAMED_PART(PAYMENT, PAID, BCS_NAME, "."), BCS_DONE, 0, 12);
-    is_answer(NAMED_PART(PAYMENT, PAID, BCS_NAME, ".to"), BCS_DONE, 0, 4);
-    is_answer(NAMED_PART(PAYMENT, PAID, BCS_NAME, ".amount"), BCS_DONE, 4, 8);
-    is_answer(NAMED_PART(PAYMENT, PAID, BCS_NAME, ".amoun"), BCS_NO, 0, 0);
-    is_answer(NAMED_PART(PAYMENT, PAID, BCS_NAME, "[0]"), BCS_NO, 0, 0);
-    is_answer(NAMED_PART(MAP, OF_MAP, BCS_NAME, "[key:026161]"), BCS_DONE, 7, 1);
-    is_answer(NAMED_PART(MAP, OF_MAP, BCS_NAME, "[key:0163]"), BCS_NO, 0, 0);
-    is_answer(NAMED_PART("{\"OPTION\":\"U8\"}", "\x01\x07", BCS_NAME, "?"), BCS_DONE, 1, 1);
-
-    is_answer(NAMED_PART(PAYMENT, PAID, BCS_POINTER, ""), BCS_DONE, 0, 12);
-    is_answer(NAMED_PART(PAYMENT, PAID, BCS_POINTER, "/amount"), BCS_DONE, 4, 8);
-    is_answer(NAMED_PART(PAYMENT, PAID, BCS_POINTER, "/"), BCS_NO, 0, 0);
-    is_answer(NAMED_PART(MAP, OF_MAP, BCS_POINTER, "/1/1"), BCS_DONE, 7, 1);
-    is_answer(NAMED_PART(MAP, OF_MAP, BCS_POINTER, "/1/0"), BCS_NO, 0, 0);
-    is_answer(NAMED_PART(MAP, OF_MAP, BCS_POINTER, "/1"), BCS_NO, 0, 0);
-    is_answer(NAMED_PART("{\"OPTION\":\"U8\"}", "\x01\x07", BCS_POINTER, "/some"), BCS_DONE, 1, 1);
-}
-
-#define CONTENT_OF(its_format, its_input, its_notation, its_name) \
-    (struct job){ON_VALUE(CONTENT, its_format, its_input), .number = its_notation, .second = OF(its_name)}
-
-/* What comes after the length, if the part has one. */
-static void contents(void) {
-    is_answer(CONTENT_OF(PAYMENT, PAID, BCS_STEPS, "inner/0"), BCS_DONE, 1, 3);
-    is_answer(CONTENT_OF(PAYMENT, PAID, BCS_NAME, ".to"), BCS_DONE, 1, 3);
-    is_answer(CONTENT_OF(PAYMENT, PAID, BCS_POINTER, "/to"), BCS_DONE, 1, 3);
-    is_answer(CONTENT_OF("\"BYTES\"", "\x02\xc0\xde", BCS_STEPS, "."), BCS_DONE, 1, 2);
-    is_answer(CONTENT_OF("\"BYTES\"", "\0", BCS_STEPS, "."), BCS_DONE, 1, 0);
-    is_answer(CONTENT_OF("\"STR\"", "\0!", BCS_POINTER, ""), BCS_DONE, 1, 0);
-    is_answer(CONTENT_OF("{\"SEQ\":\"U8\"}", "\x03" "abc", BCS_NAME, "."), BCS_DONE, 1, 3);
-    is_answer(CONTENT_OF("{\"TUPLE\":[\"U8\",{\"TUPLEARRAY\":{\"CONTENT\":\"U8\",\"SIZE\":3}}]}", "\x07" "abc", BCS_NAME, "[1]"), BCS_DONE, 1, 3);
-    is_answer(CONTENT_OF("{\"TUPLEARRAY\":{\"CONTENT\":\"U8\",\"SIZE\":0}}", "", BCS_NAME, "."), BCS_DONE, 0, 0);
-    is_answer(CONTENT_OF(PAYMENT, PAID, BCS_STEPS, "inner/2"), BCS_NO, 0, 0);
-    is_answer(CONTENT_OF(PAYMENT, PAID, BCS_NAME, ".amoun"), BCS_NO, 0, 0);
+/* Notations and lines that are none. A name that isn't UTF-8 is refused too. */
+static void no_notations(void) {
+    static const uint32_t notations[] = {BCS_STEPS, 3, UINT32_MAX, BCS_NAME, BCS_POINTER};
+    static const struct slice lines[] = {OF("outside .=\"U8\""), OF("inside"), OF(" "), OF("inside ."), OF("inside .=\"U8\"\n\xff")};
+    for (size_t row = 0; row < sizeof notations / sizeof *notations; row++) {
+        const bool is_notation = notations[row] == BCS_NAME || notations[row] == BCS_POINTER;
+        struct job job = {ON_VALUE(PART_NAMED, "\"U8\"", "\x07"), .number = notations[row], .second = OF(".")};
+        job.second = is_notation ? (struct slice)OF("/\xff") : job.second;
+        is_answer(job, BCS_PATH, BCS_PATH_BAD_PATH, 0);
+        job.call = CONTENT;
+        is_answer(job, notations[row] == BCS_STEPS ? BCS_REFUSED : BCS_PATH,
+                  notations[row] == BCS_STEPS ? BCS_PATH_NO_CONTENT : BCS_PATH_BAD_PATH, 0);
+    }
+    for (size_t row = 0; row < sizeof lines / sizeof *lines; row++) {
+        struct job job = {ON_VALUE(EXPLAIN_WITH, "\"U8\"", "\x07")};
+        job.second = lines[row];
+        is_answer(job, BCS_PATH, BCS_PATH_BAD_PATH, 0);
+    }
+    is_answer((struct job){ON_VALUE(EXPLAIN_WITH, "\"U8\"", "\x07"), .second = OF("u256 Nothing")}, BCS_FORMAT,
+              BCS_REGISTRY_UNKNOWN_NAME, 0);
+    is_answer((struct job){ON_VALUE(SHOW, "", "\xff")}, BCS_FORMAT, BCS_REGISTRY_UNKNOWN_NAME, 0);
+    is_answer((struct job){ON_VALUE(EXAMPLE, PAYMENT, "\xff")}, BCS_REFUSED, BCS_EXAMPLE_UNKNOWN_VARIANT, 0);
+    is_answer((struct job){.call = REGISTRY_OF_MODULES, .input = OF("[]"), .second = OF("\xff")}, BCS_REFUSED, BCS_MOVE_BAD_TYPE, 0);
 }
 
 /* The names of docs/ENCODING.md and docs/JSON.md, by number. */
@@ -222,7 +176,7 @@ static void names_of_faults(void) {
         unguard(out, 20);
     }
     CHECK(row == sizeof names / sizeof *names);
-    is_answer((struct job){.call = FAULT_NAME, .number = UINT32_MAX}, BCS_NO, 0, 0);
+    is_answer((struct job){.call = FAULT_NAME, .number = UINT32_MAX}, BCS_NO, BCS_FAULT_NONE, 0);
 }
 
 /* The greatest nesting of containers, and an input of megabytes. */
@@ -260,11 +214,8 @@ static void large_values(void) {
 
 int main(void) {
     outputs_of_all_lengths();
-    checks_and_growth();
-    comparisons();
-    scans_and_parts();
-    parts_by_names();
-    contents();
+    refused_in_order();
+    no_notations();
     names_of_faults();
     large_values();
     return 0;

@@ -1,4 +1,4 @@
-/* What the tests of the library share: texts, outputs at the end of a page, and checks that name their line. */
+/* What the tests of the library share: memory and outputs at the end of a page, and checks that name their line. */
 #ifndef CHECKS_H
 #define CHECKS_H
 
@@ -52,12 +52,6 @@ static inline struct slice slice_of(const char *bytes, size_t length) {
     }
     return (struct slice){copy, length};
 }
-
-/* The bytes of a text without the null behind it, and of an array of bytes that is spelled as one. */
-static inline struct slice text(const char *words) {
-    return slice_of(words, strlen(words));
-}
-#define DATA(bytes) slice_of((bytes), sizeof(bytes) - 1)
 
 static inline void drop(struct slice slice) {
     unguard(slice.at, slice.length);

@@ -1,5 +1,8 @@
 /* The driver of C: reads lines of calls and answers them, as tests/rows/driver.py says. With the word `handle` it makes the
-   calls on a handle, in which it keeps the registry of the line before open as long as the next line has the same. */
+   calls on a handle, in which it keeps the registry of the line before open as long as the next line has the same.
+
+   It also checks what no line asks: a call reads and writes only the bytes that it is given, writes nothing but its whole output,
+   and rejects a missing handle. */
 #include "jobs.h"
 #include <errno.h>
 
@@ -171,14 +174,55 @@ static bcs_answer make_in(enum way way, const struct job *job, uint8_t *out, siz
     return opened.status == BCS_DONE ? make_on(handle, job, out, room) : opened;
 }
 
-/* Makes the call, and once more with as much room as it says. */
-static bcs_answer make_whole(enum way way, const struct job *job, uint8_t **out, size_t *room) {
-    bcs_answer answer = make_in(way, job, *out, *room);
-    if (answer.status == BCS_SHORT) {
-        *room = answer.length;
-        *out = realloc(*out, *room);
-        CHECK(*out != NULL);
-        answer = make_in(way, job, *out, *room);
+/* Memory that ends at the end of a page, for one argument of each call after the other. */
+struct end {
+    uint8_t *at;
+    size_t room;
+};
+
+static uint8_t *before_end(struct end *end, size_t length) {
+    if (end->at == NULL || length > end->room) {
+        if (end->at != NULL) {
+            unguard(end->at - end->room, end->room);
+        }
+        end->room = 2 * length + 5000;
+        end->at = guarded(end->room) + end->room;
+    }
+    return end->at - length;
+}
+
+static struct slice moved(struct end *end, struct slice bytes) {
+    return (struct slice){memmove(before_end(end, bytes.length), bytes.at, bytes.length), bytes.length};
+}
+
+/* Makes the call with its arguments and its output at the ends of pages. */
+static bcs_answer make_at_ends(enum way way, struct job job, uint8_t **out, size_t room) {
+    static struct end registry, format, input, second, output;
+    job.registry = moved(&registry, job.registry);
+    job.format = moved(&format, job.format);
+    job.input = moved(&input, job.input);
+    job.second = moved(&second, job.second);
+    *out = before_end(&output, room);
+    memset(*out, UNTOUCHED, room);
+    if (way == ON_HANDLE && is_on_registry(&job)) {
+        CHECK(are_same(make_on(NULL, &job, *out, room), (bcs_answer){.status = BCS_CLOSED}));
+        CHECK(are_untouched(*out, room));
+    }
+    const bcs_answer answer = make_in(way, &job, *out, room);
+    const size_t written = answer.status == BCS_DONE && has_output(&job) ? answer.length : 0;
+    CHECK(written <= room && are_untouched(*out + written, room - written));
+    return answer;
+}
+
+/* Makes the call with 2000 bytes of room. If it has an output, makes it again with one byte too few, which must write nothing, and
+   with exactly the room that it needs. */
+static bcs_answer make_whole(enum way way, const struct job *job, uint8_t **out) {
+    bcs_answer answer = make_at_ends(way, *job, out, 2000);
+    if (answer.status == BCS_SHORT || (answer.status == BCS_DONE && has_output(job) && answer.length > 0)) {
+        answer.status = BCS_SHORT;
+        CHECK(are_same(make_at_ends(way, *job, out, answer.length - 1), answer));
+        answer.status = BCS_DONE;
+        CHECK(are_same(make_at_ends(way, *job, out, answer.length), answer));
     }
     return answer;
 }
@@ -213,6 +257,28 @@ static bool is_whole(enum call call) {
            call == FORMAT_PLACE;
 }
 
+/* Checks that other calls report the same about a text, bytes or a registry: the call that returns both halves of the refusal, the
+   call that encodes or decodes the input, and for a registry the call that returns one half. */
+static void check_others(enum way way, struct job job, bcs_answer answer, const uint8_t *out) {
+    const bool is_text = job.call == TEXT_PLACE;
+    uint8_t *half = malloc(answer.length + 1), *other;
+    CHECK(half != NULL);
+    memcpy(half, out, answer.length);
+    const enum call on_input = is_text ? TO_BCS : FROM_BCS;
+    job.call = job.call == REGISTRY_REFUSAL ? REGISTRY_PLACE : is_text ? TEXT_REFUSAL : STOP_REFUSAL;
+    bcs_answer told = make_whole(way, &job, &other);
+    if (job.call != REGISTRY_PLACE && told.status == BCS_DONE) {
+        uint8_t *unused;
+        struct job refused = job;
+        refused.call = on_input;
+        const bcs_answer wanted = make_at_ends(way, refused, &unused, 0);
+        CHECK(wanted.status == BCS_REFUSED && wanted.fault == told.fault && wanted.place == told.place);
+        told = half_of(make_whole(way, &job, &other), job.number, other);
+    }
+    CHECK(are_same(told, answer) && (answer.status != BCS_DONE || memcmp(other, half, answer.length) == 0));
+    free(half);
+}
+
 static void tell(const struct job *job, bcs_answer answer, const uint8_t *out) {
     uint8_t name[40] = "-";
     size_t length = 1;
@@ -237,9 +303,7 @@ int main(int count, char **arguments) {
         fail("no such word", arguments[1]);
     }
     char *line = NULL;
-    size_t line_room = 0, room = 16;
-    uint8_t *out = malloc(room);
-    CHECK(out != NULL);
+    size_t line_room = 0;
     ssize_t length;
     while ((length = getline(&line, &line_room, stdin)) > 0) {
         if (line[length - 1] == '\n') {
@@ -253,12 +317,16 @@ int main(int count, char **arguments) {
             continue;
         }
         const struct job job = job_of(words, word_count);
-        const bcs_answer answer = make_whole(way, &job, &out, &room);
-        tell(&job, is_whole(job.call) ? half_of(answer, job.number, out) : answer, out);
+        uint8_t *out;
+        const bcs_answer whole = make_whole(way, &job, &out);
+        const bcs_answer answer = is_whole(job.call) ? half_of(whole, job.number, out) : whole;
+        tell(&job, answer, out);
+        if (job.call == TEXT_PLACE || job.call == STOP_PLACE || job.call == REGISTRY_REFUSAL) {
+            check_others(way, job, answer, out);
+        }
     }
     bcs_close(handle);
     free((void *)open_text.at);
     free(line);
-    free(out);
     return 0;
 }

@@ -1,5 +1,5 @@
-/* Handles from bcs_open to bcs_close. make_guarded tests in calls.c and refusals.c that calls on a handle answer what those with
-   the registry's text do, and threads.c uses handles on several threads. */
+/* Handles from bcs_open to bcs_close. The rows are asked with texts and on handles, driver.c calls without a handle, and threads.c
+   uses handles on several threads. */
 #include "jobs.h"
 
 #define ON_VALUE(the_call, its_input) \
@@ -52,22 +52,6 @@ static void has_truth(bcs_handle *handle) {
     CHECK(are_same(make_on(handle, &seven, NULL, 0), (bcs_answer){.status = BCS_REFUSED, .fault = BCS_STOP_BAD_BOOL}));
 }
 
-/* Without a handle that is the answer, whatever else is refused. */
-static void null_is_closed(void) {
-    uint8_t out[ROOM];
-    for (size_t row = 0; row < sizeof jobs / sizeof *jobs; row++) {
-        struct job job = jobs[row].job;
-        for (size_t time = 0; time < 2; time++) {
-            memset(out, UNTOUCHED, ROOM);
-            CHECK(are_same(make_on(NULL, &job, out, ROOM), (bcs_answer){.status = BCS_CLOSED}));
-            CHECK(are_untouched(out, ROOM));
-            job.format = (struct slice)OF("{");
-            job.depth = BCS_DEPTH + 1;
-        }
-    }
-    bcs_close(NULL);
-}
-
 static void refused_registries_open_nothing(void) {
     bcs_handle *const before = open_one(number), *handle = before;
     CHECK(are_same(bcs_open(&handle, no_registry.at, no_registry.length),
@@ -102,7 +86,7 @@ static void long_names_lower_the_nodes(void) {
 }
 
 int main(void) {
-    null_is_closed();
+    bcs_close(NULL);
     long_names_lower_the_nodes();
     refused_registries_open_nothing();
     bcs_handle *one = open_one(number), *other = open_one(truth), *third = open_one(number);

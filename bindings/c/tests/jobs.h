@@ -32,10 +32,6 @@ enum way { BY_TEXTS, ON_HANDLE };
 #define OF(words) {(const uint8_t *)(words), sizeof(words) - 1}
 #define STANDARD .depth = BCS_DEPTH, .nodes = BCS_NODES
 
-/* Texts of ten and of a hundred times the same. */
-#define TEN(words) words words words words words words words words words words
-#define HUNDRED(words) TEN(TEN(words))
-
 /* What comes before the input of a call. */
 #define FORMAT_AND_LIMITS(job) (job)->format.at, (job)->format.length, (job)->depth, (job)->nodes
 #define WITH_TEXTS(job) (job)->registry.at, (job)->registry.length, FORMAT_AND_LIMITS(job)

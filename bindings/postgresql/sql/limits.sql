@@ -1,3 +1,5 @@
+\pset format unaligned
+\pset tuples_only on
 SET search_path = public, bcs;
 -- Nodes: five bytes can announce two billion of them.
 SELECT told($$bcs_decode('{}', '{"SEQ":"UNIT"}', '\xffffffff07')$$);
@@ -6,16 +8,12 @@ SELECT bcs_is('{}', '{"SEQ":"UNIT"}', '\xffffffff07'), bcs_fault('{}', '{"SEQ":"
 SELECT told($$bcs_encode('{}', '{"SEQ":"BOOL"}', '[true]', 1)$$);
 SELECT told($$bcs_is('{}', '"U8"', '\x07', -1)$$), told($$bcs_is('{}', '"U8"', '\x07', 4294967296)$$);
 SELECT told($$bcs_is('{}', '"U8"', '\x07', 1, -1)$$), told($$bcs_is('{}', '"U8"', '\x07', 1, 501)$$);
--- Lengths that aren't there: a gigabyte of bytes, of text, and of elements.
+-- A length of a gigabyte that isn't there.
 SELECT told($$bcs_decode('{}', '"BYTES"', '\x8080808004')$$);
-SELECT told($$bcs_decode('{}', '"STR"', '\x8080808004')$$);
-SELECT told($$bcs_decode('{}', '{"SEQ":"U64"}', '\x8080808004')$$);
-SELECT told($$bcs_decode('{}', '"BYTES"', '\xffffffff0f')$$);
 -- Depth: a list of 100 links, and of one more. The server looks at its stack before.
 CREATE FUNCTION links() RETURNS text IMMUTABLE PARALLEL SAFE LANGUAGE sql AS
     $$ SELECT '{"L":{"NEWTYPESTRUCT":{"OPTION":{"TYPENAME":"L"}}}}'::text $$;
 SELECT bcs_is(links(), 'L', decode(repeat('01', 99) || '00', 'hex')), bcs_is(links(), 'L', decode(repeat('01', 100) || '00', 'hex'));
-SELECT bcs_fault(links(), 'L', decode(repeat('01', 100000), 'hex')) - 'at';
 SELECT regexp_replace(told($$bcs_decode(links(), 'L', decode(repeat('01', 100000), 'hex'))$$), '[?]+', '..');
 SELECT told($$bcs_is(links(), 'L', decode(repeat('01', 499) || '00', 'hex'), 1000, 500)$$);
 SET max_stack_depth = '7MB';
@@ -48,19 +46,11 @@ EXCEPTION WHEN statement_too_complex THEN
     RAISE NOTICE 'refused as %: %', SQLSTATE, SQLERRM;
 END $$;
 -- Texts that nest deep.
-SELECT told($$bcs_encode_json('{}', '"U8"', repeat('[', 101) || repeat(']', 101))$$);
 SELECT told($$bcs_encode_json('{}', '"U8"', repeat('[', 100000) || repeat(']', 100000))$$);
 SELECT told($$bcs_is(repeat('{"A":', 100000), '"U8"', '\x07')$$);
 SELECT told($$bcs_is('{}', repeat('{"SEQ":', 100000), '\x07')$$);
 SELECT told($$bcs_part('{}', '"U8"', '\x07', repeat('inner/', 100000) || 'inner')$$);
--- The character U+0000: json holds it as it is escaped, and jsonb can't hold it.
-SELECT bcs_decode_json('{}', '"STR"', '\x03610062');
+-- The character U+0000, which jsonb can't hold.
 SELECT told($$bcs_decode('{}', '"STR"', '\x03610062')$$);
-SELECT bcs_encode_json('{}', '"STR"', '"a\u0000b"');
-SELECT told($$bcs_decode_json('{}', '"STR"', '\x0161')$$), told($$bcs_decode_json('{}', '"STR"', '\x01ff')$$);
--- Values of some megabytes, and where one of them stops.
+-- A value of some megabytes.
 SELECT length(bcs_decode_json('{}', '"BYTES"', '\x80808002'::bytea || decode(repeat('ab', 4194304), 'hex'))::text);
-SET bcs.max_nodes = -1;
-SELECT bcs_fault('{}', '{"SEQ":"BOOL"}', '\xc0843d'::bytea || decode(repeat('01', 999999) || '02', 'hex'), 2000000);
-RESET bcs.max_nodes;
-SELECT bcs_fault('{}', '{"SEQ":"BOOL"}', '\x904e'::bytea || decode(repeat('01', 9999) || '02', 'hex'));

@@ -1,3 +1,5 @@
+\pset format unaligned
+\pset tuples_only on
 SET search_path = public, bcs;
 -- The registry for types of Move modules, from json or text, and notes about it. More of them are rows of tests/rows/modules.py.
 SELECT bcs_registry_of_modules('[]', ARRAY['vector<u8>', 'u8']);
@@ -6,12 +8,9 @@ SELECT bcs_notes_of_modules('[]', ARRAY['0x01::string::String']);
 SELECT bcs_notes_of_modules('[]'::json, ARRAY['u8']) IS NULL, bcs_registry_of_modules(NULL, ARRAY['u8']) IS NULL;
 SELECT bcs_decode_json(bcs_registry_of_modules('[]', ARRAY['vector<u16>']), 'vector<u16>', '\x010700');
 -- Where modules are refused, or a type.
-SELECT bcs_registry_of_modules('[{"abi":7}]', ARRAY['u8']);
 SELECT bcs_notes_of_modules('[]', ARRAY['u8', 'signer']);
-SELECT bcs_registry_of_modules('{"a~":0,"é\u0000":[{"b":1,"b":2}]}', ARRAY['u8']);
 SELECT bcs_registry_of_modules('[]', ARRAY['u8', '']);
 SELECT bcs_registry_of_modules('[]', ARRAY[E'u8\nu16']);
-SELECT told($$bcs_registry_of_modules('[7]', ARRAY['u8'])$$);
 -- What isn't a list of texts.
 SELECT told($$bcs_registry_of_modules('[]', ARRAY['u8', NULL])$$);
 SELECT told($$bcs_registry_of_modules('[]', ARRAY[['u8'], ['u16']])$$);

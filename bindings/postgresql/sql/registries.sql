@@ -1,3 +1,5 @@
+\pset format unaligned
+\pset tuples_only on
 SET search_path = public, bcs;
 INSERT INTO bcs_registries VALUES ('payments', payments());
 SELECT bcs_decode('payments', 'Payment', '\x03626f620700000000000000');
@@ -19,13 +21,6 @@ ROLLBACK TO before;
 SELECT bcs_decode('payments', 'Payment', '\x03626f620700000000000000');
 ROLLBACK;
 SELECT bcs_decode('payments', 'Payment', '\x03626f620700000000000000');
--- A statement that was prepared before sees the change.
-PREPARE one AS SELECT bcs_decode_json('payments', 'Payment', $1);
-EXECUTE one('\x03626f620700000000000000');
-UPDATE bcs_registries SET registry = '{"Payment":{"STRUCT":[{"to":"STR"},{"coins":"U64"}]}}';
-EXECUTE one('\x03626f620700000000000000');
-UPDATE bcs_registries SET registry = payments();
-EXECUTE one('\x03626f620700000000000000');
 -- More registries than are kept open, which come from a table.
 INSERT INTO bcs_registries
     SELECT 'r' || n, format('{"A":{"STRUCT":[{"x%s":"U8"}]}}', n) FROM generate_series(1, 40) AS n;

@@ -1,8 +1,10 @@
+\pset format unaligned
+\pset tuples_only on
 -- A registry's text is of the type json, or a constant that isn't a name: such calls are immutable. Others are stable.
 CREATE EXTENSION bcs SCHEMA bcs;
 SET search_path = public, bcs;
-SELECT proargtypes[0]::regtype AS registry, provolatile, count(*) FROM pg_proc
-    WHERE proname LIKE 'bcs\_%' AND pronargs > 3 GROUP BY 1, 2 ORDER BY 1;
+SELECT proargtypes[0]::regtype AS registry, provolatile, proisstrict, proparallel, pg_get_expr(proargdefaults, 0), count(*) FROM pg_proc
+    WHERE proname LIKE 'bcs\_%' AND pronargs > 3 GROUP BY 1, 2, 3, 4, 5 ORDER BY 1, 5;
 INSERT INTO bcs_registries VALUES ('payments', payments());
 CREATE TABLE payments (id serial PRIMARY KEY, bytes bytea, registry json);
 INSERT INTO payments (bytes, registry)

@@ -8,31 +8,17 @@ from __future__ import annotations
 
 import json
 import pathlib
+import sys
 import time
 import unittest
-from collections.abc import Iterator
 
 from sessions import Database, address_space, process_memory, refusal, run, value
 
+sys.path.append(str(pathlib.Path(__file__).resolve().parents[2] / "sql"))
+from values import BAD_BOOL, bad_at_the_end, doubling, length  # noqa: E402
+
 MOST = 50000  # the default of bcs.max_nodes
 ALL = 4294967295
-BAD_BOOL = "expected BOOL, 00 or 01, found 02"
-
-
-def length(number: int) -> bytes:
-    """ULEB128, as docs/ENCODING.md has it."""
-    data = bytearray()
-    while number > 127:
-        data.append(number & 127 | 128)
-        number >>= 7
-    return bytes(data) + bytes([number])
-
-
-def doubling(count: int) -> str:
-    """Each container has two of the next, and the last one has no bytes: few bytes have 2 ** count nodes."""
-    pair = [{"TYPENAME": f"T{number + 1}"} for number in range(count)]
-    registry = {f"T{number}": {"TUPLESTRUCT": [pair[number], pair[number]]} for number in range(count)}
-    return json.dumps({**registry, f"T{count}": "UNITSTRUCT"})
 
 
 # A registry, a format, bytes: what has the most nodes for its bytes, and what takes the longest for its nodes.
@@ -180,20 +166,12 @@ class Faults(Measured):
     That is for the place and for what was expected. Under a long key the path to the place is long, too.
     """
 
-    def inputs(self, size: int) -> Iterator[tuple[str, str, bytes, str]]:
-        """A list, and one under a long key, which is part of the path to each of its elements."""
-        yield "{}", '{"SEQ":"BOOL"}', length(size) + b"\1" * (size - 1) + b"\2", f"[{size - 1}]"
-        half = size // 2
-        listed = length(half) + b"\1" * (half - 1) + b"\2"
-        map = '{"MAP":{"KEY":"STR","VALUE":{"SEQ":"BOOL"}}}'
-        yield "{}", map, b"\1" + length(half) + b"k" * half + listed, f"[{half - 1}]"
-
     def test_sizes(self) -> None:
         run(self.session, "set bcs.max_nodes = -1")
         for size in 40_000, 400_000:
-            for registry, format, data, end in self.inputs(size):
+            for format, data, end in bad_at_the_end(size):
                 with self.subTest(size=size, format=format):
-                    question = registry, format, data
+                    question = "{}", format, data
                     fault = value(self.session, "select bcs_fault(%s, %s, %s, 1000000)", *question)
                     self.assertEqual(
                         (fault["refused"], fault["place"], fault["message"]), ("BadBool", len(data) - 1, BAD_BOOL)
@@ -208,10 +186,10 @@ class Faults(Measured):
     def test_memory(self) -> None:
         """It needs little memory in addition to its input."""
         run(self.session, "set bcs.max_nodes = -1")
-        for registry, format, data, _ in self.inputs(400_000):
-            value(self.session, "select bcs_is(%s, %s, %s, 1000000)", registry, format, data)
+        for format, data, _ in bad_at_the_end(400_000):
+            value(self.session, "select bcs_is('{}', %s, %s, 1000000)", format, data)
             with address_space(self.pid, process_memory(self.pid, "VmSize") + (16 << 20)):
-                fault = value(self.session, "select bcs_fault(%s, %s, %s, 1000000)", registry, format, data)
+                fault = value(self.session, "select bcs_fault('{}', %s, %s, 1000000)", format, data)
             self.assertEqual(fault["refused"], "BadBool")
 
 

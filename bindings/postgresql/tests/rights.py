@@ -7,59 +7,36 @@ PGHOST and PGUSER name the server.
 
 from __future__ import annotations
 
+import pathlib
+import sys
 import unittest
 from typing import Any
 
 import psycopg2
 from sessions import PAYMENT, PAYMENTS, connect, install, refusal, run, value
 
+sys.path.append(str(pathlib.Path(__file__).resolve().parents[2] / "sql"))
+from values import cells  # noqa: E402
+
 # Types of the arguments of planted functions: each fits a call of the extension's functions in some way.
-SIGNATURES = [
-    "text, text, text",
-    "text, text, bytea",
-    "text, text, bytea, int4",
-    "text, text, bytea, int8",
-    "text, text, bytea, int4, int4",
-    "text, text, json",
-    "text, text, jsonb",
-    "json, text, text",
-    "json, text, bytea",
-    "json, json, json",
-    "jsonb, text, bytea",
-    "varchar, varchar, varchar",
-    "name, name, name",
-    "text, name, bytea",
-    "text, text, text, text",
-    "text, text, bytea, text",
-    "text, text, bytea, text, int4, int4",
-    "anyelement, anyelement, anyelement",
-    "anyelement, text, bytea",
-    "anynonarray, anynonarray, bytea",
-    "VARIADIC text[]",
-    "text, VARIADIC text[]",
-    "regclass, text",
-    "text, text",
-    "name, text",
-    "regclass, unknown_text",
-    "text",
-    "regclass",
-    "internal",
-    "aclitem[]",
-]
+SIGNATURES = cells(
+    """
+    text, text, text | text, text, bytea | text, text, bytea, int4 | text, text, bytea, int8
+    text, text, bytea, int4, int4 | text, text, json | text, text, jsonb | json, text, text | json, text, bytea
+    json, json, json | jsonb, text, bytea | varchar, varchar, varchar | name, name, name | text, name, bytea
+    text, text, text, text | text, text, bytea, text | text, text, bytea, text, int4, int4
+    anyelement, anyelement, anyelement | anyelement, text, bytea | anynonarray, anynonarray, bytea | VARIADIC text[]
+    text, VARIADIC text[] | regclass, text | text, text | name, text | regclass, unknown_text | text | regclass
+    internal | aclitem[]
+    """
+)
 OPERATORS = ["~", "=", "<>", "->>", "||", "~~", "<", "@>"]
-OPERANDS = [
-    "text, text",
-    "text, varchar",
-    "varchar, text",
-    "name, text",
-    "text, name",
-    "text, bpchar",
-    "json, text",
-    "jsonb, text",
-    "anyelement, anyelement",
-    "anyelement, text",
-    "text, unknown_text",
-]
+OPERANDS = cells(
+    """
+    text, text | text, varchar | varchar, text | name, text | text, name | text, bpchar | json, text | jsonb, text
+    anyelement, anyelement | anyelement, text | text, unknown_text
+    """
+)
 TYPES = ["text", "bytea", "json", "jsonb", "int4", "int8", "bool", "regclass", "trigger", "internal"]
 
 PLANTING = """
@@ -144,17 +121,8 @@ class Rights(unittest.TestCase):
             "and deptype = 'e' and classid = 'pg_proc'::regclass "
             "and refobjid = (select oid from pg_extension where extname = 'bcs')"
         )
-        self.names = value(before, names) + [
-            "pg_extension_config_dump",
-            "int8",
-            "int4",
-            "text",
-            "bytea",
-            "json",
-            "textregexeq",
-            "starts_with",
-            "aclexplode",
-        ]
+        others = "pg_extension_config_dump int8 int4 text bytea json textregexeq starts_with aclexplode"
+        self.names = value(before, names) + others.split()
         before.close()
 
     def forget(self) -> None:
@@ -288,29 +256,26 @@ class Rights(unittest.TestCase):
         install(session)
         run(session, "insert into bcs_registries values ('payments', %s)", PAYMENTS)
         owner = self.mallory()
-        for statement, state in [
-            (
-                f"create or replace function bcs.bcs_is({ARGUMENTS}) returns boolean language sql as 'select true'",
-                "42501",
-            ),
-            ("create function bcs.bcs_is(text, text, text) returns boolean language sql as 'select true'", "42501"),
-            ("create table bcs.mine ()", "42501"),
-            ("alter schema bcs rename to other", "42501"),
-            ("alter schema bcs owner to mallory", "42501"),
-            ("drop schema bcs cascade", "42501"),
-            ("alter extension bcs set schema public", "42501"),
-            ("drop extension bcs", "42501"),
-            ("drop function bcs_is(text, text, bytea, int8, int4)", "42501"),
-            ("alter function bcs_is(text, text, bytea, int8, int4) rename to other", "42501"),
-            ("alter function bcs_is(text, text, bytea, int8, int4) set schema public", "42501"),
-            ("alter function bcs_is(text, text, bytea, int8, int4) immutable", "42501"),
-            ("insert into bcs_registries values ('other', '{}')", "42501"),
-            ("update bcs_registries set registry = '{}'", "42501"),
-            ("create trigger mine after insert on bcs_registries execute function bcs_registries_changed()", "42501"),
-            ("create rule mine as on insert to bcs_registries do instead nothing", "42501"),
-            ("alter table bcs_registries disable trigger changed", "42501"),
+        for statement in [
+            f"create or replace function bcs.bcs_is({ARGUMENTS}) returns boolean language sql as 'select true'",
+            "create function bcs.bcs_is(text, text, text) returns boolean language sql as 'select true'",
+            "create table bcs.mine ()",
+            "alter schema bcs rename to other",
+            "alter schema bcs owner to mallory",
+            "drop schema bcs cascade",
+            "alter extension bcs set schema public",
+            "drop extension bcs",
+            "drop function bcs_is(text, text, bytea, int8, int4)",
+            "alter function bcs_is(text, text, bytea, int8, int4) rename to other",
+            "alter function bcs_is(text, text, bytea, int8, int4) set schema public",
+            "alter function bcs_is(text, text, bytea, int8, int4) immutable",
+            "insert into bcs_registries values ('other', '{}')",
+            "update bcs_registries set registry = '{}'",
+            "create trigger mine after insert on bcs_registries execute function bcs_registries_changed()",
+            "create rule mine as on insert to bcs_registries do instead nothing",
+            "alter table bcs_registries disable trigger changed",
         ]:
-            self.assertEqual((statement, refusal(owner, statement)[0]), (statement, state))
+            self.assertEqual((statement, refusal(owner, statement)[0]), (statement, "42501"))
         self.assertEqual(refusal(session, "alter extension bcs set schema public")[0], "0A000")
 
     def test_setting(self) -> None:

@@ -15,47 +15,18 @@ import psycopg2
 from sessions import Database, value
 
 sys.path.append(str(pathlib.Path(__file__).resolve().parents[2] / "sql"))
-from values import FORMATS, REGISTRY, TEXTS, digits_of  # noqa: E402
+from values import FORMATS, REGISTRY, TEXTS, cells, digits_of  # noqa: E402
 
 # A value of each type that could pass for 7, for {} or for a name; and those that a function of a type takes.
-TYPED = [
-    "7::int2",
-    "7::int4",
-    "7::int8",
-    "7::numeric",
-    "7.0::numeric",
-    "7::real",
-    "7::float8",
-    "'7'::money",
-    "true",
-    "'7'::text",
-    "'7'::varchar",
-    "'7'::varchar(3)",
-    "'7'::bpchar",
-    "'7'::name",
-    "'7'::\"char\"",
-    "'7'::bytea",
-    "'\\x07'::bytea",
-    "'7'::json",
-    "'7'::jsonb",
-    "'$.a'::jsonpath",
-    "B'111'",
-    "B'111'::varbit",
-    "'7'::xml",
-    "'7'::oid",
-    "'2026-11-28'::date",
-    "now()",
-    "'7s'::interval",
-    "'00000000-0000-0000-0000-000000000007'::uuid",
-    "array[7]",
-    "array['7']",
-    "row(7)",
-    "'[7,8)'::int4range",
-    "'127.0.0.7'::inet",
-    "'(7,7)'::point",
-    "'7'::tsvector",
-    "'bcs_registries'::regclass",
-]
+TYPED = cells(
+    r"""
+    7::int2 | 7::int4 | 7::int8 | 7::numeric | 7.0::numeric | 7::real | 7::float8 | '7'::money | true | '7'::text
+    '7'::varchar | '7'::varchar(3) | '7'::bpchar | '7'::name | '7'::"char" | '7'::bytea | '\x07'::bytea | '7'::json
+    '7'::jsonb | '$.a'::jsonpath | B'111' | B'111'::varbit | '7'::xml | '7'::oid | '2026-11-28'::date | now()
+    '7s'::interval | '00000000-0000-0000-0000-000000000007'::uuid | array[7] | array['7'] | row(7)
+    '[7,8)'::int4range | '127.0.0.7'::inet | '(7,7)'::point | '7'::tsvector | 'bcs_registries'::regclass
+    """
+)
 AS_TEXT = ["text", "varchar", "varchar(3)", "bpchar", "name", '"char"']
 AS_NUMBER = ["int2", "int4"]
 

@@ -169,69 +169,40 @@ static void answers(void) {
     is_error(database, "select bcs_decode('{}','\"U8\"','07')", "bcs: the bytes are no BLOB");
     is_error(database, "select bcs_is('{}','\"U8\"',x'07',4294967296)",
              "bcs: nodes are from 0 to 4294967295, and a depth is from 0 to 500");
-    is_error(database, "select bcs_explain('{}','\"U8\"',x'07','xml')", "bcs: a form is ways, paths, tree or json");
+    is_error(database, "select bcs_explain('{}','\"U8\"',x'07','jsonl')", "bcs: a form is ways, paths, tree or json");
     closed(database);
 }
 
-/* Bytes that announce more than they have, texts that nest deep, and a text with the character U+0000. */
+/* What the rows don't ask: default limits, bytes that aren't Unicode, and names and places that are too long to be shown. */
 static void hostile(void) {
     sqlite3 *database = opened();
-    is_error(database, "select bcs_decode('{}','\"BYTES\"',x'8080808004')", "bcs: refused: EndOfInput at byte 5, .");
     is_error(database, "select bcs_decode('{}','{\"SEQ\":\"UNIT\"}',x'ffffffff07')",
              "bcs: refused: TooManyNodes at byte 5, [999999]");
-    is_answered(database, "select bcs_is('{}','{\"SEQ\":\"UNIT\"}',x'ffffffff07')", "0");
     is_error(database, "select bcs_encode('{}','\"U8\"',replace(hex(zeroblob(50000)),'0','[') || replace(hex(zeroblob(50000)),'0',']'))",
              "bcs: refused: NotJson: line 1, column 128: arrays and objects are nested more than 127 levels deep; this program reads no more");
-    is_error(database, "select bcs_encode('{}','\"U8\"',replace(hex(zeroblob(51)),'0','[') || replace(hex(zeroblob(51)),'0',']'))",
-             "bcs: refused: TooNested: arrays and objects are nested more than 100 levels deep");
     is_error(database, "select bcs_decode('{\"L\":{\"NEWTYPESTRUCT\":{\"OPTION\":{\"TYPENAME\":\"L\"}}}}','L',"
              "cast(replace(hex(zeroblob(50000)),'0',char(1)) as blob))",
              "bcs: refused: TooDeep at byte 100, " TEN("??????????"));
-    is_answered(database, "select bcs_decode('{}','\"STR\"',x'03610062')", "\"a\\u0000b\"");
-    is_answered(database, "select hex(bcs_encode('{}','\"STR\"','\"a\\u0000b\"'))", "03610062");
     is_error(database, "select bcs_encode('{}','\"STR\"',cast(x'226100622200' as text))",
              "bcs: refused: NotJson: line 1, column 3: a NUL byte; remove it");
     is_error(database, "select bcs_is(x'7b00','\"U8\"',x'07')",
              "bcs: refused: NotJson in the registry: line 1, column 2: a NUL byte; remove it");
-    closed(database);
-}
-
-/* Where a text or a registry is refused, and what was expected there; names that would break a line or end the text of C. */
-static void places(void) {
-    sqlite3 *database = opened();
-    is_error(database, "select bcs_equal('{}','{\"SEQ\":\"U8\"}','[1]','[1,256]')",
-             "bcs: refused: BadNumber at /1: found 256, expected an integer from 0 to 255 (U8)");
-    is_error(database, "select bcs_encode('{\"A\":{\"STRUCT\":[{\"\\u0000\\n\\\\\\\"%s\xc3\xa9\\u20ac\\ud83d\\ude00\":\"U8\"}]}}','A',"
-             "'{\"\\u0000\\n\\\\\\\"%s\xc3\xa9\\u20ac\\ud83d\\ude00\":true}')",
-             "bcs: refused: BadShape at /\\u0000\\u000a\\\\\\\"%s\\u00e9\\u20ac\\ud83d\\ude00: "
-             "found true, expected an integer from 0 to 255 (U8)");
-    /* Names are cut at 200 signs, of which ~0 is one. */
+    is_error(database, "select bcs_registry_of_modules('[]',cast(x'ff' as text))", "bcs: refused: BadType: the types aren't UTF-8");
+    /* In a definition ~ is a character like others. In a pointer, names are cut at 200 signs, of which ~0 is one. */
+    is_error(database, "select bcs_is('{\"a~\xc3\xa9/\\u0000\":{\"STRUCT\":[{\"\\n\":{\"TYPENAME\":\"Z\"}}]}}','\"U8\"',x'07')",
+             "bcs: refused: UnknownName in the registry at a~\\u00e9/\\u0000, field \\u000a: no container is called Z");
     is_error(database, OF_NAME("replace(hex(zeroblob(100)),'0','~')"),
              "bcs: refused: BadShape at /" TWO_HUNDRED("~0") "/0: found true, expected an integer from 0 to 255 (U8)");
     is_error(database, OF_NAME("replace(hex(zeroblob(98)),'0','b') || '\xc3\xa9' || 'bbb'"),
              "bcs: refused: BadShape at /" TEN(TEN("b")) TEN("bbbbbbbbb") "bbbbbb" "...(cut)/0: "
              "found true, expected an integer from 0 to 255 (U8)");
+    is_error(database, "select bcs_is('{\"' || printf('%.*c',201,'b') || '\":{\"NEWTYPESTRUCT\":{\"TYPENAME\":\"Z\"}}}','\"U8\"',x'07')",
+             "bcs: refused: UnknownName in the registry at " TWO_HUNDRED("b") "...(cut): no container is called Z");
     /* What takes more than 16 MB is left out. */
     is_error(database, OF_NAME("printf('%.*c',17000000,'b')"),
              "bcs: refused: BadShape: found true, expected an integer from 0 to 255 (U8)");
     is_error(database, "select bcs_scan('{\"A\":{\"STRUCT\":[{\"' || printf('%.*c',17000000,'b') || '\":\"U8\"}]}}','A',x'')",
              "bcs: refused: EndOfInput at byte 0");
-    is_error(database, "select bcs_is('{\"\xc3\xa9\":{\"STRUCT\":[{\"x\":{\"TYPENAME\":\"\\n\"}}]}}','\"U8\"',x'07')",
-             "bcs: refused: UnknownName in the registry at \\u00e9, field x: no container is called \\u000a");
-    is_error(database, "select bcs_is('{\"a~\xc3\xa9/\\u0000\":{\"STRUCT\":[{\"\\n\":{\"TYPENAME\":\"Z\"}}]}}','\"U8\"',x'07')",
-             "bcs: refused: UnknownName in the registry at a~\\u00e9/\\u0000, field \\u000a: no container is called Z");
-    is_error(database, "select bcs_is('{\"a~\xc3\xa9/\\u0000\":7}','\"U8\"',x'07')",
-             "bcs: refused: BadShape in the registry at /a~0\\u00e9~1\\u0000: "
-             "expected a container; this looks like a value, and not like a registry");
-    is_error(database, "select bcs_is('{\"' || printf('%.*c',201,'b') || '\":{\"NEWTYPESTRUCT\":{\"TYPENAME\":\"Z\"}}}','\"U8\"',x'07')",
-             "bcs: refused: UnknownName in the registry at " TWO_HUNDRED("b") "...(cut): no container is called Z");
-    is_error(database, "select bcs_is('7','\"U8\"',x'07')",
-             "bcs: refused: BadShape in the registry: expected an object of containers, found 7");
-    is_error(database, "select bcs_registry_of_modules('[]','u8' || char(10) || 'signer')",
-             "bcs: refused: NoBytes at signer: a signer has no bytes");
-    is_error(database, "select bcs_notes_of_modules('{\"a~\":0,\"\xc3\xa9\\u0000\":[{\"b\":1,\"b\":2}]}','u8')",
-             "bcs: refused: RepeatedMember at /\\u00e9\\u0000/0/b: the object has another member with this name: delete one");
-    is_error(database, "select bcs_registry_of_modules('[]',cast(x'ff' as text))", "bcs: refused: BadType: the types aren't UTF-8");
     closed(database);
 }
 
@@ -397,7 +368,6 @@ int main(int count, char **words) {
     }
     cache = settings[0].cache;
     hostile();
-    places();
     indexes();
     many_calls(count > 1 ? atol(words[1]) : 1000000);
     return 0;

@@ -17,25 +17,20 @@ import time
 import unittest
 from collections.abc import Iterator
 
+sys.path.append(str(pathlib.Path(__file__).resolve().parents[2] / "sql"))
+from values import BAD_BOOL, bad_at_the_end, doubling, length  # noqa: E402
+
 EXTENSION = sys.argv.pop(1)
 ENDLESS = "'{}', '{\"SEQ\":\"UNIT\"}', x'ffffff07'"
 # Each function with the inputs of a bomb, or with other ones.
 FUNCTIONS = {
-    "bcs_decode": ENDLESS,
-    "bcs_is": ENDLESS,
-    "bcs_scan": ENDLESS,
-    "bcs_fault": ENDLESS,
-    "bcs_part": ENDLESS + ", '.'",
-    "bcs_part_place": ENDLESS + ", '.'",
-    "bcs_part_by_name": ENDLESS + ", '.'",
-    "bcs_part_by_pointer": ENDLESS + ", ''",
-    "bcs_content": ENDLESS + ", '.'",
-    "bcs_content_by_name": ENDLESS + ", '.'",
-    "bcs_content_by_pointer": ENDLESS + ", ''",
+    **dict.fromkeys(["bcs_decode", "bcs_is", "bcs_scan", "bcs_fault"], ENDLESS),
+    **dict.fromkeys(["bcs_part", "bcs_part_place", "bcs_part_by_name"], ENDLESS + ", '.'"),
+    **dict.fromkeys(["bcs_content", "bcs_content_by_name"], ENDLESS + ", '.'"),
+    **dict.fromkeys(["bcs_part_by_pointer", "bcs_content_by_pointer"], ENDLESS + ", ''"),
     "bcs_explain": ENDLESS + ", 'ways'",
     "bcs_explain_with": ENDLESS + ", 'ways', ''",
-    "bcs_encode": "'{}', '\"U8\"', 7",
-    "bcs_normalise": "'{}', '\"U8\"', 7",
+    **dict.fromkeys(["bcs_encode", "bcs_normalise"], "'{}', '\"U8\"', 7"),
     "bcs_equal": "'{}', '\"U8\"', 7, 7",
 }
 BOUNDED = FUNCTIONS.keys() - {"bcs_explain", "bcs_explain_with"}
@@ -64,15 +59,6 @@ SCHEMAS = {
     "a default": "create table t (a, d default ({}))",
 }
 USES = {"a view": "select * from v", "a generated column": "select * from t"}
-
-
-def length(number: int) -> bytes:
-    """ULEB128, as docs/ENCODING.md has it."""
-    data = bytearray()
-    while number > 127:
-        data.append(number & 127 | 128)
-        number >>= 7
-    return bytes(data) + bytes([number])
 
 
 def used() -> int:
@@ -179,13 +165,11 @@ class Hostile(unittest.TestCase):
 
     def test_memory(self) -> None:
         """The most that a few bytes cost in a schema: the default number of nodes, all without bytes."""
-        pair = [{"TYPENAME": f"T{number + 1}"} for number in range(40)]
-        doubling = {f"T{number}": {"TUPLESTRUCT": [pair[number], pair[number]]} for number in range(40)}
         questions = [
             ("{}", '{"SEQ":"UNIT"}', length(999_999)),
             ("{}", '{"SEQ":{"SEQ":"UNIT"}}', b"\1" + length(999_998)),
-            (json.dumps({**doubling, "T40": "UNITSTRUCT"}), "T23", b""),
-            (json.dumps({**doubling, "T40": "UNITSTRUCT"}), "T0", b""),
+            (doubling(40), "T23", b""),
+            (doubling(40), "T0", b""),
         ]
         for question in questions:
             with contextlib.closing(opened()) as database, heap(100):
@@ -400,16 +384,9 @@ class Faults(unittest.TestCase):
     That is for the place and for what was expected. Under a long key the path to the place is long, too.
     """
 
-    def inputs(self, size: int) -> Iterator[tuple[str, bytes, str]]:
-        yield '{"SEQ":"BOOL"}', length(size) + b"\1" * (size - 1) + b"\2", f"[{size - 1}]"
-        half = size // 2
-        listed = length(half) + b"\1" * (half - 1) + b"\2"
-        map = '{"MAP":{"KEY":"STR","VALUE":{"SEQ":"BOOL"}}}'
-        yield map, b"\1" + length(half) + b"k" * half + listed, f"[{half - 1}]"
-
     def test_sizes(self) -> None:
         for size in 40_000, 400_000:
-            for format, data, end in self.inputs(size):
+            for format, data, end in bad_at_the_end(size):
                 with self.subTest(size=size, format=format):
                     self.check(format, data, end)
 
@@ -426,7 +403,7 @@ class Faults(unittest.TestCase):
             costs[name] = min(runs) * 1000
         fault = json.loads(answer)
         reported = fault["refused"], fault["place"], fault["message"]
-        self.assertEqual(reported, ("BadBool", len(data) - 1, "expected BOOL, 00 or 01, found 02"))
+        self.assertEqual(reported, ("BadBool", len(data) - 1, BAD_BOOL))
         self.assertTrue(fault["at"].endswith(end))
         cost, judged = costs["bcs_fault"], costs["bcs_is"]
         print(f"hostile: bcs_fault of {len(data)} bytes took {cost:.1f} ms, and bcs_is {judged:.1f}")

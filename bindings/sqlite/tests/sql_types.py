@@ -1,4 +1,4 @@
-"""Tests every type of SQLite at every argument, and every kind of JSON at every format.
+"""Tests every type of SQLite at every argument, and integers at every format. The rows have texts at formats.
 
 Each gets the right answer, which bindings/sql/values.py works out, or is rejected.
 
@@ -15,7 +15,7 @@ import unittest
 from typing import Any
 
 sys.path.append(str(pathlib.Path(__file__).resolve().parents[2] / "sql"))
-from values import FORMATS, REGISTRY, TEXTS, digits_of  # noqa: E402
+from values import FORMATS, REGISTRY, cells, digits_of  # noqa: E402
 
 EXTENSION = sys.argv.pop(1)
 U64_OF_7 = "07" + "00" * 7
@@ -33,69 +33,58 @@ VALUE, PLAIN = NEITHER("value", "TEXT", "INTEGER"), "bcs: the bytes are no BLOB"
 FORMAT, WORD = "bcs: the format isn't TEXT", "bcs: the path or the form isn't TEXT"
 LIMITS = "bcs: nodes are from 0 to 4294967295, and a depth is from 0 to 500"
 OUT_OF_RANGE = ["-7", "9223372036854775807"]
-# A call with a mark, the types that it takes there, and what it says of others.
-CALLS = [
-    ("bcs_encode('{}', '\"U64\"', ?)", ["TEXT", "INTEGER"], VALUE),
-    ("bcs_normalise('{}', '\"U64\"', ?)", ["TEXT", "INTEGER"], VALUE),
-    ("bcs_equal('{}', '\"U64\"', ?, '8')", ["TEXT", "INTEGER"], VALUE),
-    ("bcs_equal('{}', '\"U64\"', '8', ?)", ["TEXT", "INTEGER"], VALUE),
-    *(
-        (call, ["BLOB"], PLAIN)
-        for call in [
-            "bcs_decode('{}', '\"U8\"', ?)",
-            "bcs_is('{}', '\"U8\"', ?)",
-            "bcs_scan('{}', '\"U8\"', ?)",
-            "bcs_fault('{}', '\"U8\"', ?)",
-            "bcs_part('{}', '\"U8\"', ?, '.')",
-            "bcs_part_place('{}', '\"U8\"', ?, '.')",
-            "bcs_part_by_name('{}', '\"U8\"', ?, '.')",
-            "bcs_part_by_pointer('{}', '\"U8\"', ?, '')",
-            "bcs_content('{}', '\"BYTES\"', ?, '.')",
-            "bcs_content_by_name('{}', '\"BYTES\"', ?, '.')",
-            "bcs_content_by_pointer('{}', '\"BYTES\"', ?, '')",
-            "bcs_explain_with('{}', '\"U8\"', ?, 'json', '')",
-            "bcs_explain('{}', '\"U8\"', ?, 'json')",
-        ]
+# The types that calls take at a mark, what they say of others, and the calls.
+MARKED = [
+    (
+        ["TEXT", "INTEGER"],
+        VALUE,
+        """
+        bcs_encode('{}', '"U64"', ?) | bcs_normalise('{}', '"U64"', ?)
+        bcs_equal('{}', '"U64"', ?, '8') | bcs_equal('{}', '"U64"', '8', ?)
+        """,
     ),
-    *(
-        (call, ["TEXT", "BLOB"], NEITHER("registry", "TEXT", "BLOB"))
-        for call in [
-            "bcs_is(?, '\"U8\"', x'07')",
-            "bcs_encode(?, '\"U8\"', 7)",
-        ]
+    (
+        ["BLOB"],
+        PLAIN,
+        """
+        bcs_decode('{}', '"U8"', ?) | bcs_is('{}', '"U8"', ?) | bcs_scan('{}', '"U8"', ?) | bcs_fault('{}', '"U8"', ?)
+        bcs_part('{}', '"U8"', ?, '.') | bcs_part_place('{}', '"U8"', ?, '.') | bcs_part_by_name('{}', '"U8"', ?, '.')
+        bcs_part_by_pointer('{}', '"U8"', ?, '') | bcs_content('{}', '"BYTES"', ?, '.')
+        bcs_content_by_name('{}', '"BYTES"', ?, '.') | bcs_content_by_pointer('{}', '"BYTES"', ?, '')
+        bcs_explain_with('{}', '"U8"', ?, 'json', '') | bcs_explain('{}', '"U8"', ?, 'json')
+        """,
     ),
-    *(
-        (call, ["TEXT"], FORMAT)
-        for call in ["bcs_is('{}', ?, x'07')", "bcs_encode('{}', ?, 7)", "bcs_equal('{}', ?, 7, 8)"]
+    (
+        ["TEXT", "BLOB"],
+        NEITHER("registry", "TEXT", "BLOB"),
+        """bcs_is(?, '"U8"', x'07') | bcs_encode(?, '"U8"', 7)""",
     ),
-    *(
-        (f"{name}(?, 'u8')", ["TEXT", "BLOB"], "bcs: the modules are neither TEXT nor BLOB")
-        for name in ["bcs_registry_of_modules", "bcs_notes_of_modules"]
+    (["TEXT"], FORMAT, "bcs_is('{}', ?, x'07') | bcs_encode('{}', ?, 7) | bcs_equal('{}', ?, 7, 8)"),
+    (
+        ["TEXT", "BLOB"],
+        "bcs: the modules are neither TEXT nor BLOB",
+        "bcs_registry_of_modules(?, 'u8') | bcs_notes_of_modules(?, 'u8')",
     ),
-    *(
-        (f"{name}('[]', ?)", ["TEXT"], "bcs: the types aren't TEXT")
-        for name in ["bcs_registry_of_modules", "bcs_notes_of_modules"]
+    (["TEXT"], "bcs: the types aren't TEXT", "bcs_registry_of_modules('[]', ?) | bcs_notes_of_modules('[]', ?)"),
+    (
+        ["TEXT"],
+        WORD,
+        """
+        bcs_part('{}', '"U8"', x'07', ?) | bcs_content('{}', '"BYTES"', x'0107', ?)
+        bcs_explain('{}', '"U8"', x'07', ?) | bcs_explain_with('{}', '"U8"', x'07', ?, '')
+        """,
     ),
-    *(
-        (call, ["TEXT"], WORD)
-        for call in [
-            "bcs_part('{}', '\"U8\"', x'07', ?)",
-            "bcs_content('{}', '\"BYTES\"', x'0107', ?)",
-            "bcs_explain('{}', '\"U8\"', x'07', ?)",
-            "bcs_explain_with('{}', '\"U8\"', x'07', ?, '')",
-        ]
-    ),
-    ("bcs_explain_with('{}', '\"U8\"', x'07', 'ways', ?)", ["TEXT"], "bcs: the views aren't TEXT"),
-    *(
-        (call, ["INTEGER"], LIMITS)
-        for call in [
-            "bcs_is('{}', '\"U8\"', x'07', ?)",
-            "bcs_is('{}', '\"U8\"', x'07', 1, ?)",
-            "bcs_encode('{}', '\"U8\"', 7, ?)",
-            "bcs_part('{}', '\"U8\"', x'07', '.', ?)",
-        ]
+    (["TEXT"], "bcs: the views aren't TEXT", """bcs_explain_with('{}', '"U8"', x'07', 'ways', ?)"""),
+    (
+        ["INTEGER"],
+        LIMITS,
+        """
+        bcs_is('{}', '"U8"', x'07', ?) | bcs_is('{}', '"U8"', x'07', 1, ?)
+        bcs_encode('{}', '"U8"', 7, ?) | bcs_part('{}', '"U8"', x'07', '.', ?)
+        """,
     ),
 ]
+CALLS = [(call, types, message) for types, message, calls in MARKED for call in cells(calls)]
 
 
 class Types(unittest.TestCase):
@@ -115,23 +104,6 @@ class Types(unittest.TestCase):
         except sqlite3.OperationalError as fault:
             return str(fault)
         return answer.hex() if isinstance(answer, bytes) else answer
-
-    def test_json_at_formats(self) -> None:
-        """A value as a text, and as the subtype JSON. What is accepted comes back as the same bytes."""
-        count = 0
-        for format in FORMATS:
-            words = REGISTRY, json.dumps(format)
-            for text in TEXTS:
-                right = digits_of(format, text)
-                told = self.told("bcs_encode(?, ?, ?)", *words, text)
-                if right is None:
-                    self.assertTrue(str(told).startswith("bcs: refused: "), (format, text, told))
-                else:
-                    self.assertEqual((format, text, told), (format, text, right))
-                    back = "bcs_encode(?, ?, bcs_decode(?, ?, ?))"
-                    self.assertEqual(self.told(back, *words, *words, bytes.fromhex(right)), right)
-                count += 1
-        print(f"types: {count} JSON values at formats, in {self.encoding}")
 
     def test_integers(self) -> None:
         """An INTEGER is its digits, at each format."""
@@ -186,6 +158,8 @@ class Types(unittest.TestCase):
             ("bcs_encode('{}', '\"U64\"', json('7'))", U64_OF_7),
             ("bcs_encode('{}', '\"U64\"', json_extract('[7]', '$[0]'))", U64_OF_7),
             ("bcs_encode('{}', '\"I8\"', -7)", "f9"),
+            ("bcs_encode('{}', '\"STR\"', '\"é\"')", "02c3a9"),
+            ("bcs_decode('{}', '\"STR\"', x'02c3a9')", '"é"'),
             ("bcs_encode('{}', '\"U64\"', 9223372036854775807)", "ff" * 7 + "7f"),
             ("bcs_encode('{}', '\"U64\"', '18446744073709551615')", "ff" * 8),
             ("bcs_equal('{}', '\"U64\"', 7, '\"7\"')", 1),
