@@ -15,46 +15,11 @@ mod formats;
 use common::bytes;
 use formats::{FORMATS, registry_with};
 
-/// A value of each format, by its bytes. `None`: it has none.
-const SAMPLES: [(&str, Option<&str>); 30] = [
-    ("UNIT", Some("")),
-    ("BOOL", Some("01")),
-    ("I8", Some("fe")),
-    ("I16", Some("feff")),
-    ("I32", Some("feffffff")),
-    ("I64", Some("feffffffffffffff")),
-    ("I128", Some("feffffffffffffffffffffffffffffff")),
-    ("U8", Some("07")),
-    ("U16", Some("0700")),
-    ("U32", Some("07000000")),
-    ("U64", Some("0700000000000000")),
-    ("U128", Some("07000000000000000000000000000000")),
-    ("F32", None),
-    ("F64", None),
-    ("CHAR", None),
-    ("STR", Some("0137")),
-    ("BYTES", Some("0112")),
-    ("U8?", Some("0107")),
-    ("U8??", Some("0100")),
-    ("[U16]", Some("0201000200")),
-    ("[U8]", Some("020102")),
-    ("{STR: U8}", Some("01013701")),
-    ("{U8: BOOL}", Some("010701")),
-    ("(U8, BOOL)", Some("0701")),
-    ("[U16; 2]", Some("01000200")),
-    ("[U8; 2]", Some("0102")),
-    ("Nothing", Some("")),
-    ("Pair", Some("0701")),
-    ("Point", Some("010200")),
-    ("Shape", Some("010700000000000000")),
-];
-
 /// A type with what its value is at some formats, as it prints for debugging. Everywhere else the type is rejected, at the
 /// pointer that the second list has, or at the value itself.
 fn row<T: DeserializeOwned + Debug>(cells: &[(&str, &str)], parts: &[(&str, &str)]) {
     let type_is = std::any::type_name::<T>();
-    for ((name, json, _), (sample, digits)) in FORMATS.into_iter().zip(SAMPLES) {
-        assert_eq!(name, sample);
+    for (name, json, _, digits) in FORMATS {
         let registry = registry_with(json);
         let input = bytes(digits.unwrap_or_default());
         let told = registry.decode::<T>(Format::json(json), &input);
@@ -380,8 +345,8 @@ fn types_without_a_hint_get_what_the_format_has() {
     ];
     // `Some(None)` would be `Null`, as `None` is.
     row::<Value>(&[&numbers[..], &lists, &cells].concat(), &[("{U8: BOOL}", "/0/0")]);
-    let with_values = SAMPLES.iter().filter(|(_, digits)| digits.is_some());
-    row::<IgnoredAny>(&with_values.map(|(name, _)| (*name, "IgnoredAny")).collect::<Vec<_>>(), &[]);
+    let with_values = FORMATS.iter().filter(|(_, _, _, digits)| digits.is_some());
+    row::<IgnoredAny>(&with_values.map(|(name, ..)| (*name, "IgnoredAny")).collect::<Vec<_>>(), &[]);
 }
 
 /// A type that reads the first element and leaves the rest.
