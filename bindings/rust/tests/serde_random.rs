@@ -322,6 +322,9 @@ fn random_values_come_and_go() {
         assert_eq!(known.1.encode(&format, &value).as_ref(), Ok(&expected), "{line}");
         let Read(decoded) = known.1.decode(&format, &expected).unwrap();
         assert_eq!(decoded, value, "{line}");
+        // The JSON of the value, too, is the same value.
+        let json = known.1.decode_json_value(&format, &expected).unwrap();
+        assert_eq!(known.1.encode_json_value(&format, &json).as_ref(), Ok(&expected), "{line}");
         values += 1;
         length += expected.len();
     }
