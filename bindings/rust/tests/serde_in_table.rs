@@ -94,22 +94,6 @@ fn no_format_is_a_float_or_a_char() {
     row::<char>(&[], &[]);
 }
 
-#[test]
-fn the_greatest_integers_come_back() {
-    fn same<T: DeserializeOwned + Debug + PartialEq>(format: &str, digits: &str, value: T) {
-        assert_eq!(Registry::read("{}").unwrap().decode::<T>(format, bytes(digits)), Ok(value));
-    }
-    same(r#""U64""#, "ffffffffffffffff", u64::MAX);
-    same(r#""I64""#, "0000000000000080", i64::MIN);
-    same(r#""U128""#, "ffffffffffffffffffffffffffffffff", u128::MAX);
-    same(r#""U128""#, "00000000000000000100000000000000", 1_u128 << 64);
-    same(r#""I128""#, "00000000000000000000000000000080", i128::MIN);
-    same(r#""I128""#, "ffffffffffffffffffffffffffffff7f", i128::MAX);
-    same(r#""I128""#, "ffffffffffffff7fffffffffffffffff", i128::from(i64::MIN) - 1);
-    let map = r#"{"MAP":{"KEY":"U128","VALUE":"UNIT"}}"#;
-    same(map, "01ffffffffffffffffffffffffffffffff", BTreeMap::from([(u128::MAX, ())]));
-}
-
 /// What `serde_bytes` has: bytes that are bytes for `serde`.
 #[derive(Debug)]
 struct ByteBuf(#[allow(dead_code, reason = "it is printed")] Vec<u8>);
@@ -181,11 +165,6 @@ fn options_and_units() {
     row::<Nothing>(&[("UNIT", "Nothing"), ("Nothing", "Nothing")], &[]);
     row::<PhantomData<u8>>(&[("UNIT", "PhantomData<u8>"), ("Nothing", "PhantomData<u8>")], &[]);
     row::<Id>(&UNSIGNED[..4].iter().map(|name| (*name, "Id(7)")).collect::<Vec<_>>(), &[]);
-    let registry = Registry::read("{}").unwrap();
-    let nested = r#"{"OPTION":{"OPTION":"U8"}}"#;
-    for (digits, value) in [("00", None), ("0100", Some(None)), ("010107", Some(Some(7_u8)))] {
-        assert_eq!(registry.decode::<Option<Option<u8>>>(nested, bytes(digits)), Ok(value));
-    }
 }
 
 #[derive(Deserialize, Debug)]
