@@ -286,12 +286,12 @@ func filled(r *rand.Rand, v reflect.Value, depth int) {
 
 // Types that nearly fit a format are values, or rejected. ROUNDS=200 tries 50,000 of them.
 func TestTypesThatNearlyFit(t *testing.T) {
-	done, rounds := 0, roundsOfTest(t)
-	forRandomValues(t, func(v randomValue) error {
-		limited := v.open.WithLimits(Limits{500, 10_000})
+	done, rounds, r := 0, roundsOfTest(t), rand.New(rand.NewSource(1))
+	forRandomValues(t, r, func(v randomValue) error {
+		limited := v.registry.WithLimits(Limits{500, 10_000})
 		for k := 0; k < 2; k++ {
-			variable := reflect.New(changedType(v.draw, v.goType))
-			filled(v.draw, variable.Elem(), 4)
+			variable := reflect.New(changedType(r, v.goType))
+			filled(r, variable.Elem(), 4)
 			done += bothWays(t, limited, v.format, variable.Elem().Interface(), [][]byte{v.data})
 		}
 		return nil

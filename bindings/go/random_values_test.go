@@ -11,6 +11,7 @@ import (
 	"os/exec"
 	"path/filepath"
 	"reflect"
+	"sort"
 	"strconv"
 	"strings"
 	"testing"
@@ -19,6 +20,8 @@ import (
 var integers = map[string]reflect.Type{"U8": reflect.TypeOf(uint8(0)), "U16": reflect.TypeOf(uint16(0)), "U32": reflect.TypeOf(uint32(0)),
 	"U64": reflect.TypeOf(uint64(0)), "I8": reflect.TypeOf(int8(0)), "I16": reflect.TypeOf(int16(0)), "I32": reflect.TypeOf(int32(0)),
 	"I64": reflect.TypeOf(int64(0))}
+
+var leaves = []string{"U8", "U16", "U32", "U64", "I8", "I16", "I32", "I64"}
 
 // valueOf returns the value of words, of which each comes behind what it holds, as Decode returns it.
 func valueOf(words string) any {
@@ -165,8 +168,10 @@ func (t types) of(format any) reflect.Type {
 		}
 		return t.fields(names, formats, false)
 	}
-	for _, variant := range inner.(map[string]any) {
-		name, held := only(variant)
+	variants := reflect.ValueOf(inner).MapKeys()
+	sort.Slice(variants, func(i, j int) bool { return variants[i].String() < variants[j].String() })
+	for _, number := range variants {
+		name, held := only(inner.(map[string]any)[number.String()])
 		names, formats = append(names, name), append(formats, held)
 	}
 	return t.oneOf(t.fields(names, formats, true), typeVariant)
@@ -183,21 +188,20 @@ func (t types) ofLeaf(word string) reflect.Type {
 	if word == "U8" {
 		return integers[word] // a list of other integers isn't a byte string when decoded
 	}
-	for name, integer := range integers {
-		if name[0] == word[0] && integer.Bits() >= bits {
-			choices = append(choices, integer)
+	for _, name := range leaves { // (in the same order in each run)
+		if t := integers[name]; name[0] == word[0] && t.Bits() >= bits {
+			choices = append(choices, t)
 		}
 	}
 	return t.oneOf(choices...)
 }
 
-// randomValue is a line of tests/rows/random_values.py.
+// randomValue is a line of tests/rows/random_values.py, and a Go type for its format.
 type randomValue struct {
-	registry, format, words string
-	data, changed           []byte
-	goType                  reflect.Type // of the format
-	draw                    *rand.Rand
-	open                    *Registry
+	registry      *Registry
+	format, words string
+	data, changed []byte
+	goType        reflect.Type
 }
 
 // roundsOfTest returns the variable ROUNDS, or 30.
@@ -214,37 +218,29 @@ func roundsOfTest(t *testing.T) int {
 }
 
 // forRandomValues calls a function with 250 values for each round.
-func forRandomValues(t *testing.T, test func(v randomValue) error) {
-	rounds, values, draw := roundsOfTest(t), 0, rand.New(rand.NewSource(1))
+func forRandomValues(t *testing.T, draw *rand.Rand, test func(v randomValue) error) {
+	rounds, values, last := roundsOfTest(t), 0, ""
 	script := filepath.Join(os.Getenv("BCS_EXAMPLES"), "../tests/rows/random_values.py")
 	lines, err := exec.Command("python3", script, fmt.Sprint(rounds*250/20+1)).Output()
 	if err != nil {
 		t.Fatal(script, err)
 	}
-	var last randomValue
+	var registry *Registry
 	var containers map[string]any
 	for _, line := range strings.Split(strings.TrimSpace(string(lines)), "\n") {
 		words := strings.Split(line, "\t")
-		v := randomValue{registry: words[0], format: words[1], words: words[2], data: unhex(t, words[3]), draw: draw, open: last.open}
-		if words[4] != "-" {
-			v.changed = unhex(t, words[4])
+		if words[0] != last {
+			last, registry, containers = words[0], open(t, words[0]), nil
+			err = json.Unmarshal([]byte(last), &containers)
 		}
-		if v.registry != last.registry {
-			containers = nil
-			v.open = open(t, v.registry)
-			if err := json.Unmarshal([]byte(v.registry), &containers); err != nil {
-				t.Fatal(err)
-			}
+		var format any
+		if err2 := json.Unmarshal([]byte(words[1]), &format); err != nil || err2 != nil {
+			t.Fatal(err, err2)
 		}
-		var shape any
-		if err := json.Unmarshal([]byte(v.format), &shape); err != nil {
-			t.Fatal(err)
+		data, changed := unhex(t, words[3]), unhex(t, strings.TrimSuffix(words[4], "-"))
+		if err := test(randomValue{registry, words[1], words[2], data, changed, types{containers, draw}.of(format)}); err != nil {
+			t.Fatalf("%s: %v", line, err)
 		}
-		v.goType = types{containers, draw}.of(shape)
-		if err := test(v); err != nil {
-			t.Fatalf("%s of %s: %s, %x: %v", v.format, v.registry, v.words, v.data, err)
-		}
-		last = v
 		values++
 	}
 	if values < 250*rounds {
@@ -254,11 +250,11 @@ func forRandomValues(t *testing.T, test func(v randomValue) error) {
 
 // ROUNDS=200 tries 50,000 values.
 func TestRandomValues(t *testing.T) {
-	forRandomValues(t, func(v randomValue) error {
-		if err := thereAndBack(v.open, v.format, valueOf(v.words), v.data, v.goType); err != nil {
+	forRandomValues(t, rand.New(rand.NewSource(1)), func(v randomValue) error {
+		if err := changedBytes(v.registry, v.format, v.changed); err != nil {
 			return err
 		}
-		return changedBytes(v.open, v.format, v.changed)
+		return thereAndBack(v.registry, v.format, valueOf(v.words), v.data, v.goType)
 	})
 }
 

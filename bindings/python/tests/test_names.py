@@ -15,8 +15,8 @@ CONTAINERS: dict[str, Any] = {
     "Coin": {"STRUCT": [{"owner": {"TYPENAME": "Owner"}}, {"values": {"SEQ": {"TYPENAME": "u256"}}}]},
 }
 ONE, ONE_OF_MOVE = bytes(31) + b"\1", f"0x{1:064x}"
-# The names that a registry is opened with, a container, a value, its bytes, and what `decode` returns. test_random.py has
-# more of them.
+# The names that a registry is opened with, a container, a value, its bytes, and what `decode` returns.
+# test_random.py has more of them.
 VALUES: list[tuple[Any, Any, Any, bytes, Any]] = [
     (None, "address", bytearray(ONE), ONE, ONE_OF_MOVE),
     (None, "Owner", "0x1", ONE, ONE_OF_MOVE),
