@@ -77,7 +77,8 @@ class Dressed:
         if word == "text" and "\0" not in held:
             return self._draw.choice([held, numpy.str_(held)])
         if word in NUMPY:
-            return self._draw.choice([int, int, numpy.dtype(NUMPY[word]).type])(held)
+            shapes: list[Callable[[int], Any]] = [int, int, numpy.dtype(NUMPY[word]).type]
+            return self._draw.choice(shapes)(held)
         return held
 
     def _octets(self, data: bytes) -> Any:
