@@ -168,8 +168,8 @@ final class RandomValues extends Check {
                 values++;
             }
         }
-        equal(values >= least && changed > values / 13, true);
-        typed(least / 13);
+        equal(values >= least && changed > values / 12, true);
+        typed(least / 12);
         System.out.println(values + " random values there and back");
     }
 }
