@@ -1,7 +1,7 @@
 //! Each kind of format as each `serde` type: its value, or a rejection that names the format.
 #![cfg(feature = "serde_json")]
 
-use bcs_proved::{Bytes, ErrorKind, Format, Hex, Registry};
+use bcs_proved::{Bytes, ErrorKind, Format, Hex};
 use serde::Deserialize;
 use serde::de::{DeserializeOwned, Deserializer, IgnoredAny, MapAccess, SeqAccess, Visitor};
 use serde_json::Value;
