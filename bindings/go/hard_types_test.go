@@ -286,21 +286,16 @@ func filled(r *rand.Rand, v reflect.Value, depth int) {
 
 // Types that nearly fit a format are values, or rejected. ROUNDS=200 tries 50,000 of them.
 func TestTypesThatNearlyFit(t *testing.T) {
-	rounds, done := roundsOfTest(t), 0
-	for seed := 0; seed < rounds; seed++ {
-		r := rand.New(rand.NewSource(int64(seed)))
-		text, all := randomRegistry(r)
-		registry := open(t, text).WithLimits(Limits{500, 10_000})
-		for i := 0; i < 50; i++ {
-			f := randomFormat(r, all, 3)
-			data := [][]byte{encoded(f, randomValue(r, f)), encoded(f, randomValue(r, f))}
-			for k := 0; k < 5; k++ {
-				variable := reflect.New(changedType(r, randomType(r, f)))
-				filled(r, variable.Elem(), 4)
-				done += bothWays(t, registry, f.text(), variable.Elem().Interface(), data)
-			}
+	done, rounds, r := 0, roundsOfTest(t), rand.New(rand.NewSource(1))
+	forRandomValues(t, r, func(v randomValue) error {
+		limited := v.registry.WithLimits(Limits{500, 10_000})
+		for k := 0; k < 2; k++ {
+			variable := reflect.New(changedType(r, v.goType))
+			filled(r, variable.Elem(), 4)
+			done += bothWays(t, limited, v.format, variable.Elem().Interface(), [][]byte{v.data})
 		}
-	}
+		return nil
+	})
 	if done < 50*rounds {
 		t.Errorf("only %d calls succeeded", done)
 	}

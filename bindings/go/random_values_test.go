@@ -2,371 +2,206 @@ package bcsproved
 
 import (
 	"bytes"
+	"encoding/hex"
 	"encoding/json"
 	"fmt"
 	"math/big"
 	"math/rand"
 	"os"
+	"os/exec"
+	"path/filepath"
 	"reflect"
 	"sort"
 	"strconv"
+	"strings"
 	"testing"
 )
 
-// format is one of the test's own; it shares no code with the package.
-type format struct {
-	what  string
-	parts []*format
-	names []string
-	ids   []int // of variants
-	size  int
-	name  string // of a container
-}
+var integers = map[string]reflect.Type{"U8": reflect.TypeOf(uint8(0)), "U16": reflect.TypeOf(uint16(0)), "U32": reflect.TypeOf(uint32(0)),
+	"U64": reflect.TypeOf(uint64(0)), "I8": reflect.TypeOf(int8(0)), "I16": reflect.TypeOf(int16(0)), "I32": reflect.TypeOf(int32(0)),
+	"I64": reflect.TypeOf(int64(0))}
 
-func (f *format) text() string {
-	if f.name != "" {
-		return fmt.Sprintf(`{"TYPENAME":%q}`, f.name)
-	}
-	switch f.what {
-	case "OPTION", "SEQ":
-		return fmt.Sprintf(`{%q:%s}`, f.what, f.parts[0].text())
-	case "ARRAY":
-		return fmt.Sprintf(`{"TUPLEARRAY":{"CONTENT":%s,"SIZE":%d}}`, f.parts[0].text(), f.size)
-	case "MAP":
-		return fmt.Sprintf(`{"MAP":{"KEY":%s,"VALUE":%s}}`, f.parts[0].text(), f.parts[1].text())
-	case "TUPLE":
-		return `{"TUPLE":` + list(f.parts) + `}`
-	}
-	return `"` + f.what + `"`
-}
+var leaves = []string{"U8", "U16", "U32", "U64", "I8", "I16", "I32", "I64"}
 
-func list(parts []*format) string {
-	out := "["
-	for i, p := range parts {
-		if i > 0 {
-			out += ","
-		}
-		out += p.text()
+// valueOf returns the value of words, of which each comes behind what it holds, as Decode returns it.
+func valueOf(words string) any {
+	var made []any
+	bytesOf := func(digits string) []byte { data, _ := hex.DecodeString(digits); return data }
+	count := func(digits string) int { count, _ := strconv.Atoi(digits); return count }
+	last := func(count int) []any {
+		parts := append([]any{}, made[len(made)-count:]...)
+		made = made[:len(made)-count]
+		return parts
 	}
-	return out + "]"
-}
-
-func quoted(s string) string { out, _ := json.Marshal(s); return string(out) }
-
-func (f *format) container() string {
-	switch f.what {
-	case "UNIT":
-		return `"UNITSTRUCT"`
-	case "NEWTYPE":
-		return `{"NEWTYPESTRUCT":` + f.parts[0].text() + `}`
-	case "TUPLE":
-		return `{"TUPLESTRUCT":` + list(f.parts) + `}`
-	}
-	out := ""
-	for i, p := range f.parts {
-		if i > 0 {
-			out += ","
-		}
-		if f.what == "STRUCT" {
-			out += fmt.Sprintf(`{%s:%s}`, quoted(f.names[i]), p.text())
-		} else if p.what == "UNIT" {
-			out += fmt.Sprintf(`"%d":{%s:"UNIT"}`, f.ids[i], quoted(f.names[i]))
-		} else {
-			out += fmt.Sprintf(`"%d":{%s:{"NEWTYPE":%s}}`, f.ids[i], quoted(f.names[i]), p.text())
-		}
-	}
-	if f.what == "STRUCT" {
-		return `{"STRUCT":[` + out + `]}`
-	}
-	return `{"ENUM":{` + out + `}}`
-}
-
-func uleb(n int) (out []byte) {
-	for ; n > 127; n >>= 7 {
-		out = append(out, byte(n)|128)
-	}
-	return append(out, byte(n))
-}
-
-// encoded is the independent encoder, of values as Decode returns them.
-func encoded(f *format, v any) (out []byte) {
-	switch f.what {
-	case "UNIT":
-	case "BOOL":
-		if v.(bool) {
-			return []byte{1}
-		}
-		return []byte{0}
-	case "STR":
-		return append(uleb(len(v.(string))), v.(string)...)
-	case "BYTES":
-		return append(uleb(len(v.([]byte))), v.([]byte)...)
-	case "OPTION":
-		if v == nil {
-			return []byte{0}
-		}
-		return append([]byte{1}, encoded(f.parts[0], v.(Some).Value)...)
-	case "SEQ", "ARRAY":
-		if b, ok := v.([]byte); ok && f.parts[0].what == "U8" {
-			out = b
-			if f.what == "SEQ" {
-				out = append(uleb(len(b)), b...)
+	for _, word := range strings.Fields(words) {
+		names := strings.Split(word, ".")
+		kind, rest, _ := strings.Cut(strings.TrimPrefix(names[0], "key-"), ":")
+		names = names[1:]
+		var value any
+		switch kind {
+		case "unit":
+			value = struct{}{}
+		case "true", "false":
+			value = kind == "true"
+		case "text":
+			value = string(bytesOf(rest))
+		case "bytes", "octets", "octet-array":
+			value = bytesOf(rest)
+		case "address":
+			value = "0x" + rest
+		case "none":
+		case "some":
+			value = Some{Value: last(1)[0]}
+		case "newtype":
+			value = last(1)[0]
+		case "list", "array", "tuple":
+			value = last(count(rest))
+		case "map":
+			entries := []Entry{}
+			for parts := last(2 * count(rest)); len(parts) > 0; parts = parts[2:] {
+				entries = append(entries, Entry{Key: parts[0], Value: parts[1]})
 			}
-			return out
-		}
-		if f.what == "SEQ" {
-			out = uleb(len(v.([]any)))
-		}
-		for _, e := range v.([]any) {
-			out = append(out, encoded(f.parts[0], e)...)
-		}
-	case "MAP":
-		out = uleb(len(v.([]Entry)))
-		for _, e := range v.([]Entry) {
-			out = append(append(out, encoded(f.parts[0], e.Key)...), encoded(f.parts[1], e.Value)...)
-		}
-	case "TUPLE":
-		for i, p := range f.parts {
-			out = append(out, encoded(p, v.([]any)[i])...)
-		}
-	case "STRUCT":
-		for i, p := range f.parts {
-			out = append(out, encoded(p, v.(map[string]any)[f.names[i]])...)
-		}
-	case "NEWTYPE":
-		return encoded(f.parts[0], v)
-	case "ENUM":
-		for i, p := range f.parts {
-			if x := v.(Variant); x.Name == f.names[i] {
-				return append(uleb(f.ids[i]), encoded(p, x.Value)...)
+			value = entries
+		case "struct":
+			fields := map[string]any{}
+			for i, part := range last(len(names)) {
+				fields[string(bytesOf(names[i]))] = part
+			}
+			value = fields
+		case "variant":
+			variant := Variant{Name: string(bytesOf(names[1]))}
+			if names[0] != "UNIT" {
+				variant.Value = last(1)[0]
+			}
+			value = variant
+		default:
+			integer, _ := new(big.Int).SetString(rest, 10)
+			value = integer
+			if rest == "0" && strings.HasSuffix(kind, "256") {
+				value = new(big.Int).SetBit(big.NewInt(1), 0, 0) // (DeepEqual compares how a zero was made, too)
+			}
+			if t := integers[kind]; t != nil {
+				value = reflect.ValueOf(integer.Int64()).Convert(t).Interface()
+			}
+			if kind == "U64" {
+				value = integer.Uint64()
 			}
 		}
-	default: // an integer
-		bits, _ := strconv.Atoi(f.what[1:])
-		x, ok := v.(*big.Int)
-		if !ok {
-			x, _ = new(big.Int).SetString(fmt.Sprint(v), 10)
-		}
-		for i := 0; i < bits/8; i++ {
-			out = append(out, byte(new(big.Int).And(new(big.Int).Rsh(x, uint(8*i)), big.NewInt(255)).Int64()))
-		}
+		made = append(made, value)
 	}
-	return out
+	return made[0]
 }
 
-var leaves = []string{"UNIT", "BOOL", "STR", "BYTES", "I8", "I16", "I32", "I64", "I128", "U8", "U16", "U32", "U64", "U128", "U8"}
-var oddNames = []string{"a", "B", "a_b", "x/y", "é\"", "~", "\n\t", "z\\", "10", "\x01\x7f", "\b\f"}
-
-func randomFormat(r *rand.Rand, all []*format, depth int) *format {
-	sub := func() *format { return randomFormat(r, all, depth-1) }
-	if depth == 0 || r.Intn(4) == 0 {
-		return &format{what: leaves[r.Intn(len(leaves))]}
-	}
-	switch r.Intn(6) {
-	case 0:
-		return &format{what: "OPTION", parts: []*format{sub()}}
-	case 1:
-		return &format{what: "SEQ", parts: []*format{sub()}}
-	case 2:
-		return &format{what: "ARRAY", parts: []*format{sub()}, size: r.Intn(4)}
-	case 3:
-		return &format{what: "MAP", parts: []*format{sub(), sub()}}
-	case 4:
-		return &format{what: "TUPLE", parts: []*format{sub(), sub()}[:r.Intn(3)]}
-	}
-	if len(all) == 0 {
-		return sub()
-	}
-	return all[r.Intn(len(all))]
+// types draws Go types for the formats of a registry.
+type types struct {
+	containers map[string]any
+	*rand.Rand
 }
 
-func randomContainer(r *rand.Rand, all []*format, name string) *format {
-	f := &format{what: []string{"UNIT", "NEWTYPE", "TUPLE", "STRUCT", "ENUM", "STRUCT", "ENUM"}[r.Intn(7)], name: name}
-	count := map[string]int{"UNIT": 0, "NEWTYPE": 1, "ENUM": 1 + r.Intn(4)}[f.what]
-	if f.what == "TUPLE" || f.what == "STRUCT" {
-		count = r.Intn(5)
+func only(object any) (string, any) {
+	for name, value := range object.(map[string]any) {
+		return name, value
 	}
-	places := r.Perm(len(oddNames))
-	for i := 0; i < count; i++ {
-		p := randomFormat(r, all, 2)
-		if f.what == "ENUM" && p.what == "UNIT" {
-			p = &format{what: "UNIT"}
+	return "", nil
+}
+
+func (t types) oneOf(choices ...reflect.Type) reflect.Type { return choices[t.Intn(len(choices))] }
+
+// fields is a struct with these tags, whose fields have the types of formats, or are pointers to them.
+func (t types) fields(names []string, formats []any, arePointers bool) reflect.Type {
+	var out []reflect.StructField
+	for i, format := range formats {
+		held := t.of(format)
+		if arePointers {
+			held = reflect.PointerTo(held)
 		}
-		f.parts, f.names, f.ids = append(f.parts, p), append(f.names, oddNames[places[i]]), append(f.ids, i*(1+70*(count%3)))
+		out = append(out, reflect.StructField{Name: fmt.Sprint("F", i), Type: held, Tag: reflect.StructTag("bcs:" + strconv.Quote(names[i]))})
 	}
-	return f
+	t.Shuffle(len(out), func(i, j int) { out[i], out[j] = out[j], out[i] })
+	return reflect.StructOf(out)
 }
 
-func randomValue(r *rand.Rand, f *format) any {
-	n := r.Intn(4)
-	switch f.what {
-	case "UNIT":
-		return struct{}{}
-	case "BOOL":
-		return n > 1
-	case "STR":
-		return []string{"", "bcs", "\"\\/\b\f\n\r\t\x00\x1f\x7f", "é→😀\u2028"}[n]
-	case "BYTES":
-		b := make([]byte, n*50)
-		r.Read(b)
-		return b
+// of makes a Go type that holds the format's values.
+func (t types) of(format any) reflect.Type {
+	if word, isWord := format.(string); isWord {
+		return t.ofLeaf(word)
+	}
+	kind, inner := only(format)
+	switch kind {
+	case "TYPENAME":
+		name := inner.(string)
+		if name == "address" {
+			return reflect.TypeOf("")
+		}
+		if name == "u256" || name == "i256" {
+			return reflect.PointerTo(typeBig)
+		}
+		return t.of(t.containers[name])
 	case "OPTION":
-		if n == 0 {
-			return nil
-		}
-		return Some{randomValue(r, f.parts[0])}
-	case "SEQ", "ARRAY":
-		if f.what == "ARRAY" {
-			n = f.size
-		}
-		if p := f.parts[0]; p.what == "U8" && p.name == "" {
-			b := make([]byte, n)
-			r.Read(b)
-			return b
-		}
-		out := []any{}
-		for ; n > 0; n-- {
-			out = append(out, randomValue(r, f.parts[0]))
-		}
-		return out
-	case "MAP":
-		seen, keys, out := map[string]Entry{}, []string{}, []Entry{}
-		for ; n > 0; n-- {
-			k := randomValue(r, f.parts[0])
-			seen[string(encoded(f.parts[0], k))] = Entry{k, randomValue(r, f.parts[1])}
-		}
-		for k := range seen {
-			keys = append(keys, k)
-		}
-		sort.Strings(keys)
-		for _, k := range keys {
-			out = append(out, seen[k])
-		}
-		return out
-	case "TUPLE":
-		out := []any{}
-		for _, p := range f.parts {
-			out = append(out, randomValue(r, p))
-		}
-		return out
-	case "STRUCT":
-		out := map[string]any{}
-		for i, p := range f.parts {
-			out[f.names[i]] = randomValue(r, p)
-		}
-		return out
-	case "NEWTYPE":
-		return randomValue(r, f.parts[0])
-	case "ENUM":
-		i := r.Intn(len(f.parts))
-		if f.parts[i].what == "UNIT" {
-			return Variant{f.names[i], nil}
-		}
-		return Variant{f.names[i], randomValue(r, f.parts[i])}
-	}
-	bits, _ := strconv.Atoi(f.what[1:])
-	x := new(big.Int).Rand(r, new(big.Int).Lsh(big.NewInt(1), uint(bits-r.Intn(2)*r.Intn(bits))))
-	if f.what[0] == 'I' {
-		x.Sub(x.Rsh(x, 1), new(big.Int).Lsh(big.NewInt(int64(r.Intn(2))), uint(bits-1)))
-	}
-	switch f.what {
-	case "U8":
-		return uint8(x.Uint64())
-	case "U16":
-		return uint16(x.Uint64())
-	case "U32":
-		return uint32(x.Uint64())
-	case "U64":
-		return x.Uint64()
-	case "I8":
-		return int8(x.Int64())
-	case "I16":
-		return int16(x.Int64())
-	case "I32":
-		return int32(x.Int64())
-	case "I64":
-		return x.Int64()
-	}
-	if x.Sign() == 0 {
-		return new(big.Int)
-	}
-	return x
-}
-
-// randomType makes a Go type that holds the format's values.
-func randomType(r *rand.Rand, f *format) reflect.Type {
-	fields := func(names func(i int) string, pointers bool) reflect.Type {
-		var out []reflect.StructField
-		for i, p := range f.parts {
-			t := randomType(r, p)
-			if pointers {
-				t = reflect.PointerTo(t)
-			}
-			out = append(out, reflect.StructField{Name: fmt.Sprint("F", i), Type: t, Tag: reflect.StructTag("bcs:" + strconv.Quote(names(i)))})
-		}
-		r.Shuffle(len(out), func(i, j int) { out[i], out[j] = out[j], out[i] })
-		return reflect.StructOf(out)
-	}
-	switch f.what {
-	case "UNIT":
-		return typeUnit
-	case "BOOL":
-		return reflect.TypeOf(false)
-	case "STR":
-		return reflect.TypeOf("")
-	case "BYTES":
-		return []reflect.Type{reflect.TypeOf([]byte{}), typeHex}[r.Intn(2)]
-	case "OPTION":
-		return reflect.PointerTo(randomType(r, f.parts[0]))
+		return reflect.PointerTo(t.of(inner))
 	case "SEQ":
-		return reflect.SliceOf(randomType(r, f.parts[0]))
-	case "ARRAY":
-		return []reflect.Type{reflect.ArrayOf(f.size, randomType(r, f.parts[0])), reflect.SliceOf(randomType(r, f.parts[0]))}[r.Intn(2)]
+		return reflect.SliceOf(t.of(inner))
+	case "TUPLEARRAY":
+		item, size := t.of(inner.(map[string]any)["CONTENT"]), inner.(map[string]any)["SIZE"].(float64)
+		return t.oneOf(reflect.ArrayOf(int(size), item), reflect.SliceOf(item))
 	case "MAP":
-		k, v := randomType(r, f.parts[0]), randomType(r, f.parts[1])
-		if k.Kind() != reflect.Pointer && k.Kind() != reflect.Struct && k.Kind() != reflect.Array && k.Comparable() {
-			return reflect.MapOf(k, v)
+		key, value := t.of(inner.(map[string]any)["KEY"]), t.of(inner.(map[string]any)["VALUE"])
+		if k := key.Kind(); k != reflect.Pointer && k != reflect.Struct && k != reflect.Array && k != reflect.Interface && key.Comparable() {
+			return reflect.MapOf(key, value)
 		}
-		return reflect.SliceOf(reflect.StructOf([]reflect.StructField{{Name: "Key", Type: k}, {Name: "Value", Type: v}}))
-	case "TUPLE":
-		if len(f.parts) == 0 {
+		return reflect.SliceOf(reflect.StructOf([]reflect.StructField{{Name: "Key", Type: key}, {Name: "Value", Type: value}}))
+	case "NEWTYPE", "NEWTYPESTRUCT":
+		return t.of(inner)
+	case "TUPLE", "TUPLESTRUCT":
+		formats := inner.([]any)
+		if len(formats) == 0 {
 			return reflect.TypeOf([]any{})
 		}
-		return fields(func(i int) string { return fmt.Sprint(i) }, false)
-	case "STRUCT":
-		return fields(func(i int) string { return f.names[i] }, false)
-	case "NEWTYPE":
-		return randomType(r, f.parts[0])
-	case "ENUM":
-		return []reflect.Type{fields(func(i int) string { return f.names[i] }, true), typeVariant}[r.Intn(2)]
-	case "U128", "I128":
-		return reflect.PointerTo(typeBig)
-	case "U8":
-		return reflect.TypeOf(uint8(0)) // a list of other integers isn't a byte string when decoded
+		return t.fields(strings.Fields("0 1 2 3"), formats, false)
 	}
-	bits, _ := strconv.Atoi(f.what[1:])
-	for _, v := range []any{int8(0), int16(0), int32(0), int64(0), uint16(0), uint32(0), uint64(0)} {
-		t := reflect.TypeOf(v)
-		if (t.Kind() <= reflect.Int64) == (f.what[0] == 'I') && t.Bits() >= bits && r.Intn(2) == 0 {
-			return t
+	var names []string
+	var formats []any
+	if kind == "STRUCT" {
+		for _, field := range inner.([]any) {
+			name, held := only(field)
+			names, formats = append(names, name), append(formats, held)
 		}
+		return t.fields(names, formats, false)
 	}
-	return reflect.PointerTo(typeBig)
+	variants := reflect.ValueOf(inner).MapKeys()
+	sort.Slice(variants, func(i, j int) bool { return variants[i].String() < variants[j].String() })
+	for _, number := range variants {
+		name, held := only(inner.(map[string]any)[number.String()])
+		names, formats = append(names, name), append(formats, held)
+	}
+	return t.oneOf(t.fields(names, formats, true), typeVariant)
 }
 
-// randomRegistry returns the JSON of a registry, and its containers.
-func randomRegistry(r *rand.Rand) (string, []*format) {
-	var all []*format
-	text := "{"
-	for i := 0; i < 8; i++ {
-		f := randomContainer(r, all, fmt.Sprint("T", i))
-		all = append(all, f)
-		if i > 0 {
-			text += ","
-		}
-		text += fmt.Sprintf("%q:%s", f.name, f.container())
+func (t types) ofLeaf(word string) reflect.Type {
+	octets := reflect.TypeOf([]byte{})
+	if leaf := map[string]reflect.Type{"UNIT": typeUnit, "UNITSTRUCT": typeUnit, "BOOL": reflect.TypeOf(false),
+		"STR": reflect.TypeOf(""), "BYTES": t.oneOf(octets, typeHex)}[word]; leaf != nil {
+		return leaf
 	}
-	return text + "}", all
+	choices, bits := []reflect.Type{reflect.PointerTo(typeBig)}, 0
+	fmt.Sscan(word[1:], &bits)
+	if word == "U8" {
+		return integers[word] // a list of other integers isn't a byte string when decoded
+	}
+	for _, name := range leaves { // (in the same order in each run)
+		if t := integers[name]; name[0] == word[0] && t.Bits() >= bits {
+			choices = append(choices, t)
+		}
+	}
+	return t.oneOf(choices...)
+}
+
+// randomValue is a line of tests/rows/random_values.py, and a Go type for its format.
+type randomValue struct {
+	registry      *Registry
+	format, words string
+	data, changed []byte
+	goType        reflect.Type
 }
 
 // roundsOfTest returns the variable ROUNDS, or 30.
@@ -382,32 +217,45 @@ func roundsOfTest(t *testing.T) int {
 	return rounds
 }
 
-// ROUNDS=200 tries 50,000 values.
-func TestRandomValues(t *testing.T) {
-	rounds, values := roundsOfTest(t), 0
-	for seed := 0; seed < rounds; seed++ {
-		r := rand.New(rand.NewSource(int64(seed)))
-		text, all := randomRegistry(r)
-		registry := open(t, text)
-		for i := 0; i < 10; i++ {
-			f := randomFormat(r, all, 3)
-			goType := randomType(r, f)
-			for k := 0; k < 25; k++ {
-				v := randomValue(r, f)
-				data := encoded(f, v)
-				if err := thereAndBack(registry, f.text(), v, data, goType); err != nil {
-					t.Fatalf("seed %d: %s of %s: %#v, %x: %v", seed, f.text(), text, v, data, err)
-				}
-				if err := changedBytes(r, registry, f.text(), data); err != nil {
-					t.Fatalf("seed %d: %s of %s: %v", seed, f.text(), text, err)
-				}
-				values++
-			}
+// forRandomValues calls a function with 250 values for each round.
+func forRandomValues(t *testing.T, draw *rand.Rand, test func(v randomValue) error) {
+	rounds, values, last := roundsOfTest(t), 0, ""
+	script := filepath.Join(os.Getenv("BCS_EXAMPLES"), "../tests/rows/random_values.py")
+	lines, err := exec.Command("python3", script, fmt.Sprint(rounds*250/20+1)).Output()
+	if err != nil {
+		t.Fatal(script, err)
+	}
+	var registry *Registry
+	var containers map[string]any
+	for _, line := range strings.Split(strings.TrimSpace(string(lines)), "\n") {
+		words := strings.Split(line, "\t")
+		if words[0] != last {
+			last, registry, containers = words[0], open(t, words[0]), nil
+			err = json.Unmarshal([]byte(last), &containers)
 		}
+		var format any
+		if err2 := json.Unmarshal([]byte(words[1]), &format); err != nil || err2 != nil {
+			t.Fatal(err, err2)
+		}
+		data, changed := unhex(t, words[3]), unhex(t, strings.TrimSuffix(words[4], "-"))
+		if err := test(randomValue{registry, words[1], words[2], data, changed, types{containers, draw}.of(format)}); err != nil {
+			t.Fatalf("%s: %v", line, err)
+		}
+		values++
 	}
 	if values < 250*rounds {
 		t.Errorf("only %d values", values)
 	}
+}
+
+// ROUNDS=200 tries 50,000 values.
+func TestRandomValues(t *testing.T) {
+	forRandomValues(t, rand.New(rand.NewSource(1)), func(v randomValue) error {
+		if err := changedBytes(v.registry, v.format, v.changed); err != nil {
+			return err
+		}
+		return thereAndBack(v.registry, v.format, valueOf(v.words), v.data, v.goType)
+	})
 }
 
 // thereAndBack encodes a value and decodes it, without and with a Go type.
@@ -428,13 +276,8 @@ func thereAndBack(registry *Registry, format string, v any, data []byte, goType 
 	return nil
 }
 
-// changedBytes changes a bit. If the bytes are still those of a value, this value has them.
-func changedBytes(r *rand.Rand, registry *Registry, format string, data []byte) error {
-	if len(data) == 0 {
-		return nil
-	}
-	bad := append([]byte{}, data...)
-	bad[r.Intn(len(bad))] ^= byte(1 << r.Intn(8))
+// changedBytes fails if these are the bytes of a value, and this value has others.
+func changedBytes(registry *Registry, format string, bad []byte) error {
 	v, err := registry.Decode(format, bad)
 	if err != nil {
 		return nil
@@ -443,4 +286,11 @@ func changedBytes(r *rand.Rand, registry *Registry, format string, data []byte) 
 		return fmt.Errorf("%x: %x, %v", bad, got, err)
 	}
 	return nil
+}
+
+func uleb(n int) (out []byte) {
+	for ; n > 127; n >>= 7 {
+		out = append(out, byte(n)|128)
+	}
+	return append(out, byte(n))
 }

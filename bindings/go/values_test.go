@@ -388,23 +388,6 @@ func TestLongNames(t *testing.T) {
 	}
 }
 
-// A transaction comes back as Go values, and these have the same bytes.
-func TestTransactionAsValues(t *testing.T) {
-	registry := open(t, string(example(t, "aptos_registry.json")))
-	data := unhex(t, string(example(t, "aptos_transfer.hex")))
-	value, err := registry.Decode("RawTransaction", data)
-	if err != nil {
-		t.Fatal(err)
-	}
-	again, err := registry.Encode("RawTransaction", value)
-	if err != nil || hex.EncodeToString(again) != hex.EncodeToString(data) {
-		t.Errorf("%x %v", again, err)
-	}
-	if gas := value.(map[string]any)["max_gas_amount"]; gas != uint64(2000) {
-		t.Errorf("%T %v", gas, gas)
-	}
-}
-
 // Names that the registry doesn't have are rejected, except the default ones.
 func TestNamesOfContainers(t *testing.T) {
 	bytes32 := `{"NEWTYPESTRUCT":{"TUPLEARRAY":{"CONTENT":"U8","SIZE":32}}}`
@@ -440,21 +423,6 @@ func TestNamesOfContainers(t *testing.T) {
 		back, err2 := registry.Decode(row.format, unhex(t, row.data))
 		if hex.EncodeToString(data) != row.data || !reflect.DeepEqual(back, row.value) || err != nil || err2 != nil {
 			t.Errorf("%s: %x %v %v %v", row.format, data, back, err, err2)
-		}
-	}
-}
-
-// Integers of 256 bits are little-endian, in two's complement.
-func TestWideIntegers(t *testing.T) {
-	registry := open(t, valueShapes)
-	for text, want := range map[string]string{"-1": strings.Repeat("ff", 32), "-57896044618658097711785492504343953926634992332820282019728792003956564819968": strings.Repeat("00", 31) + "80"} {
-		x, _ := new(big.Int).SetString(text, 10)
-		data, err := registry.Encode("i256", x)
-		if err != nil || hex.EncodeToString(data) != want {
-			t.Errorf("%s: %x %v", text, data, err)
-		}
-		if back, err := registry.Decode("i256", data); err != nil || back.(*big.Int).Cmp(x) != 0 {
-			t.Errorf("%s: %v %v", text, back, err)
 		}
 	}
 }

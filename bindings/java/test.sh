@@ -68,7 +68,9 @@ passes "the tests" env MALLOC_PERTURB_=165 "$@" -Xmx64m Tests "$root/examples"
 passes "the table of values" "$@" ValueTable
 passes "values as types" "$@" ValueTypes "$root/examples"
 passes "values without end" env MALLOC_PERTURB_=165 "$@" -Xmx400m ValueCosts
-passes "random values" "$@" RandomValues "${ROUNDS:-40}"
+registries=$((${ROUNDS:-40} * 25 / 2))
+"$root/tests/rows/random_values.py" "$registries" >"$room/values" || fail "random values"
+passes "random values" "$@" RandomValues "$room/values" $((20 * registries))
 run "the test of memory" "$@" -Xmx16m Tests "$root/examples" memory
 echo "java: more output than Java has memory for"
 "$@" Wallet "$root/examples" >"$room/wallet" || fail "the wallet"

@@ -1,17 +1,80 @@
 import bcsproved.BcsException;
+import bcsproved.Hex;
 import bcsproved.Registry;
+import bcsproved.Unit;
 import bcsproved.Variant;
+import java.io.BufferedReader;
+import java.io.IOException;
+import java.math.BigInteger;
+import java.nio.charset.StandardCharsets;
+import java.nio.file.Files;
+import java.nio.file.Path;
+import java.util.ArrayDeque;
 import java.util.ArrayList;
 import java.util.Arrays;
+import java.util.Deque;
 import java.util.Iterator;
+import java.util.LinkedHashMap;
+import java.util.LinkedList;
 import java.util.List;
 import java.util.Map;
 import java.util.Optional;
 import java.util.Random;
 
-/** Random values of random registries, there and back: {@code java RandomValues ROUNDS} tries 250 values in each round. */
+/** Random values of random registries, there and back: {@code java RandomValues FILE LEAST} tries those in the file. */
 final class RandomValues extends Check {
     private RandomValues() {}
+
+    private static String text(String digits) {
+        return new String(unhex(digits), StandardCharsets.UTF_8);
+    }
+
+    /** The value of words, as tests/rows/random_values.py writes them, as decode returns it; in a map's key, byte strings are Hex. */
+    private static Object value(String words) {
+        Deque<Object> made = new ArrayDeque<>();
+        for (String word : words.split(" ")) {
+            String[] names = word.split("\\.", -1);
+            String kind = names[0].split(":")[0], rest = names[0].substring(Math.min(kind.length() + 1, names[0].length()));
+            made.push(switch (kind) {
+                case "unit" -> new Unit();
+                case "true", "false" -> kind.equals("true");
+                case "text" -> text(rest);
+                case "bytes", "octets", "octet-array" -> unhex(rest);
+                case "key-bytes", "key-octets", "key-octet-array" -> new Hex(rest);
+                case "address" -> "0x" + rest;
+                case "none" -> Optional.empty();
+                case "some" -> Optional.of(made.pop());
+                case "newtype" -> made.pop();
+                case "list", "array", "tuple" -> last(made, Integer.parseInt(rest));
+                case "map" -> {
+                    Map<Object, Object> map = new LinkedHashMap<>();
+                    Iterator<Object> parts = last(made, 2 * Integer.parseInt(rest)).iterator();
+                    while (parts.hasNext()) {
+                        map.put(parts.next(), parts.next());
+                    }
+                    yield map;
+                }
+                case "struct" -> {
+                    Map<String, Object> struct = new LinkedHashMap<>();
+                    Iterator<Object> parts = last(made, names.length - 1).iterator();
+                    Arrays.stream(names).skip(1).forEach(name -> struct.put(text(name), parts.next()));
+                    yield struct;
+                }
+                case "variant" -> new Variant(text(names[2]), names[1].equals("UNIT") ? new Unit() : made.pop());
+                case "U64", "U128", "I128", "u256", "i256" -> new BigInteger(rest);
+                default -> Long.valueOf(rest);
+            });
+        }
+        return made.pop();
+    }
+
+    private static List<Object> last(Deque<Object> made, int count) {
+        LinkedList<Object> parts = new LinkedList<>();
+        while (parts.size() < count) {
+            parts.addFirst(made.pop());
+        }
+        return parts;
+    }
 
     /** Whether two values are of the same types and equal; maps in the same order. */
     private static boolean same(Object one, Object other) {
@@ -50,10 +113,8 @@ final class RandomValues extends Check {
         }
     }
 
-    /** Changes a bit. If the bytes are still those of a value, this value has them. Returns whether they are. */
-    private static boolean changed(Registry registry, Random random, String format, byte[] data) throws BcsException {
-        byte[] bad = data.clone();
-        bad[random.nextInt(bad.length)] ^= (byte) (1 << random.nextInt(8));
+    /** If these are the bytes of a value, this value has them. Returns whether they are. */
+    private static boolean changed(Registry registry, String format, byte[] bad) throws BcsException {
         Object value;
         try {
             value = registry.decode(format, bad);
@@ -63,27 +124,6 @@ final class RandomValues extends Check {
         }
         equal(Arrays.equals(registry.encode(format, value), bad), true);
         return true;
-    }
-
-    private static int round(int seed) throws BcsException {
-        Random random = new Random(seed);
-        List<RandomFormat> containers = new ArrayList<>();
-        for (int i = 0; i < 8; i++) {
-            containers.add(RandomFormat.container(random, containers, "T" + i));
-        }
-        int changed = 0;
-        try (Registry registry = Registry.open("{" + String.join(",", containers.stream().map(RandomFormat::member).toList()) + "}")) {
-            for (int i = 0; i < 10; i++) {
-                RandomFormat format = RandomFormat.of(random, containers, 3);
-                for (int k = 0; k < 25; k++) {
-                    Object value = format.value(random, false);
-                    byte[] data = format.encoded(value);
-                    thereAndBack(registry, format.json(), value, data);
-                    changed += data.length > 0 && changed(registry, random, format.json(), data) ? 1 : 0;
-                }
-            }
-        }
-        return changed;
     }
 
     /** A record with parts of each kind, whose bytes are those of the value as a map. */
@@ -109,14 +149,27 @@ final class RandomValues extends Check {
         equal(decoded > count / 4, true);
     }
 
-    public static void main(String[] arguments) throws BcsException {
-        int rounds = Integer.parseInt(arguments[0]), changed = 0;
-        equal(rounds > 0, true);
-        for (int seed = 0; seed < rounds; seed++) {
-            changed += round(seed);
+    public static void main(String[] arguments) throws BcsException, IOException {
+        int values = 0, changed = 0, least = Integer.parseInt(arguments[1]);
+        try (BufferedReader lines = Files.newBufferedReader(Path.of(arguments[0]))) {
+            Registry registry = null;
+            String last = null;
+            for (String line = lines.readLine(); line != null; line = lines.readLine()) {
+                String[] words = line.split("\t");
+                if (!words[0].equals(last)) {
+                    if (registry != null) {
+                        registry.close();
+                    }
+                    last = words[0];
+                    registry = Registry.open(last);
+                }
+                thereAndBack(registry, words[1], value(words[2]), unhex(words[3]));
+                changed += !words[4].equals("-") && changed(registry, words[1], unhex(words[4])) ? 1 : 0;
+                values++;
+            }
         }
-        equal(changed > 20 * rounds, true);
-        typed(20 * rounds);
-        System.out.println(250 * rounds + " random values there and back");
+        equal(values >= least && changed > values / 12, true);
+        typed(least / 12);
+        System.out.println(values + " random values there and back");
     }
 }

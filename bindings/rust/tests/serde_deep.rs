@@ -1,9 +1,9 @@
-//! `serde` values that nest, registries that name themselves, and random values there and back.
+//! `serde` values that nest, registries that name themselves, and changed values there and back.
 #![cfg(feature = "serde_json")]
 
 use bcs_proved::{ErrorKind, Limits, Registry, RegistryFault, TextFault};
+use serde::Deserialize;
 use serde::ser::{Serialize, Serializer};
-use serde::{Deserialize, de::DeserializeOwned};
 use serde_json::Value;
 use std::collections::BTreeMap;
 use std::thread;
@@ -211,116 +211,41 @@ const REGISTRY: &str = r#"{
     ]}
 }"#;
 
-/// Numbers by xorshift, so that each run has the same ones.
-struct Random(u64);
-
-impl Random {
-    fn next(&mut self) -> u64 {
-        self.0 ^= self.0 << 13;
-        self.0 ^= self.0 >> 7;
-        self.0 ^= self.0 << 17;
-        self.0
-    }
-
-    /// A number of any size: as often small as large.
-    fn wide(&mut self) -> u128 {
-        let all = u128::from(self.next()) << 64 | u128::from(self.next());
-        all >> (self.next() % 128)
-    }
-
-    fn list<T>(&mut self, item: impl Fn(&mut Random) -> T) -> Vec<T> {
-        (0..self.next() % 200 % 150).map(|_| item(self)).collect()
-    }
-
-    fn text(&mut self) -> String {
-        let signs = ['a', '"', '\\', '\0', '7', 'é', '\u{1f600}', '/'];
-        (0..self.next() % 5).map(|_| signs[self.next() as usize % signs.len()]).collect()
-    }
-
-    fn shape(&mut self) -> Shape {
-        match self.next() % 6 {
-            0 => Shape::Dot,
-            1 => Shape::Circle(self.wide()),
-            2 => Shape::Rest(self.next() as i8, None),
-            3 => Shape::Rest(self.next() as i8, Some(None)),
-            4 => Shape::Rest(self.next() as i8, Some(Some(self.wide() as i128 - (1 << 70)))),
-            _ => Shape::Named { side: self.next() as u16, name: self.text() },
-        }
-    }
-
-    fn all(&mut self) -> All {
-        All {
-            shapes: self.list(Random::shape),
-            truth: self.next() % 2 == 0,
-            number: self.wide() as u64,
-            signed: self.wide() as i64,
-            octets: self.list(|random| random.next() as u8),
-            bytes: self.list(|random| random.next() as u8),
-            map: self
-                .list(|random| (random.wide() as u16, (random.next() as i32, random.text())))
-                .into_iter()
-                .collect(),
-            unit: (),
-        }
-    }
-}
-
-/// The encoding as docs/ENCODING.md has it, of lengths below 16384.
-fn length(count: usize) -> Vec<u8> {
-    if count < 128 { vec![count as u8] } else { vec![count as u8 | 128, (count >> 7) as u8] }
-}
-
-fn text_bytes(text: &str) -> Vec<u8> {
-    [&length(text.len()), text.as_bytes()].concat()
-}
-
-fn shape_bytes(shape: &Shape) -> Vec<u8> {
-    match shape {
-        Shape::Dot => vec![0],
-        Shape::Circle(radius) => [&[1][..], &radius.to_le_bytes()].concat(),
-        Shape::Rest(first, None) => vec![0xc8, 1, *first as u8, 0],
-        Shape::Rest(first, Some(None)) => vec![0xc8, 1, *first as u8, 1, 0],
-        Shape::Rest(first, Some(Some(number))) => [&[0xc8, 1, *first as u8, 1, 1][..], &number.to_le_bytes()].concat(),
-        Shape::Named { side, name } => [&[3][..], &side.to_le_bytes(), &text_bytes(name)].concat(),
-    }
-}
-
-fn all_bytes(all: &All) -> Vec<u8> {
-    let mut entries: Vec<([u8; 2], Vec<u8>)> = all
-        .map
-        .iter()
-        .map(|(key, (number, text))| (key.to_le_bytes(), [&number.to_le_bytes()[..], &text_bytes(text)].concat()))
-        .collect();
-    entries.sort();
-    [
-        length(all.shapes.len()),
-        all.shapes.iter().flat_map(shape_bytes).collect(),
-        vec![all.truth.into()],
-        all.number.to_le_bytes().to_vec(),
-        all.signed.to_le_bytes().to_vec(),
-        length(all.octets.len()),
-        all.octets.clone(),
-        length(all.bytes.len()),
-        all.bytes.clone(),
-        length(entries.len()),
-        entries.into_iter().flat_map(|(key, value)| [key.to_vec(), value].concat()).collect(),
-    ]
-    .concat()
-}
-
+/// Bytes in which one bit after another is changed, as long as they are a value, are decoded as a type and encoded again. (The bytes of
+/// random values are in serde_random.rs.)
 #[test]
-fn random_values_come_and_go() {
-    fn same<T: DeserializeOwned + PartialEq + std::fmt::Debug>(registry: &Registry, bytes: &[u8], value: &T) {
-        assert_eq!(registry.decode::<T>("All", bytes).as_ref(), Ok(value));
+fn changed_values_come_and_go() {
+    let registry = Registry::read(REGISTRY).unwrap();
+    let named = |side| Shape::Named { side, name: "a\"\\\0é\u{1f600}/".into() };
+    let rests = [None, Some(None), Some(Some(i128::MIN))].map(|rest| Shape::Rest(-1, rest));
+    let all = All {
+        shapes: vec![[&[Shape::Dot, Shape::Circle(u128::MAX), named(7), named(513)], &rests[..]].concat(); 20].concat(),
+        truth: true,
+        number: u64::MAX,
+        signed: i64::MIN,
+        octets: vec![7; 130],
+        bytes: (0..=255).collect(),
+        map: BTreeMap::from([(1, (-7, "b".into())), (256, (7, String::new())), (2, (0, "7".into()))]),
+        unit: (),
+    };
+    let (mut bytes, mut random, mut decoded) = (registry.encode("All", &all).unwrap(), 20_261_128_u64, 0);
+    assert_eq!(registry.decode("All", &bytes), Ok(all));
+    for _ in 0..1000 {
+        random = random.wrapping_mul(6_364_136_223_846_793_005).wrapping_add(1);
+        let bit = (random >> 33) as usize % (8 * bytes.len());
+        bytes[bit / 8] ^= 1 << (bit % 8);
+        match registry.decode_json_value("All", &bytes) {
+            Ok(json) => {
+                let all = registry.decode::<All>("All", &bytes).unwrap();
+                assert_eq!(registry.encode("All", &all).as_ref(), Ok(&bytes), "{all:?}");
+                assert_eq!(registry.encode_json_value("All", &json).as_ref(), Ok(&bytes), "{all:?}");
+                decoded += 1;
+            }
+            Err(refused) => {
+                assert_eq!(registry.decode::<All>("All", &bytes), Err(refused));
+                bytes[bit / 8] ^= 1 << (bit % 8);
+            }
+        }
     }
-    let (registry, mut random) = (Registry::read(REGISTRY).unwrap(), Random(20261128));
-    for _ in 0..200 {
-        let all = random.all();
-        let bytes = all_bytes(&all);
-        assert_eq!(registry.encode("All", &all).as_ref(), Ok(&bytes), "{all:?}");
-        same(&registry, &bytes, &all);
-        // The JSON of the value, too, is the same value.
-        let json = registry.decode_json_value("All", &bytes).unwrap();
-        assert_eq!(registry.encode_json_value("All", &json).as_ref(), Ok(&bytes), "{all:?}");
-    }
+    assert!(decoded > 400, "{decoded}");
 }

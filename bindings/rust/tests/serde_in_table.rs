@@ -1,7 +1,7 @@
 //! Each kind of format as each `serde` type: its value, or a rejection that names the format.
 #![cfg(feature = "serde_json")]
 
-use bcs_proved::{Bytes, ErrorKind, Format, Hex, Registry};
+use bcs_proved::{Bytes, ErrorKind, Format, Hex};
 use serde::Deserialize;
 use serde::de::{DeserializeOwned, Deserializer, IgnoredAny, MapAccess, SeqAccess, Visitor};
 use serde_json::Value;
@@ -15,46 +15,11 @@ mod formats;
 use common::bytes;
 use formats::{FORMATS, registry_with};
 
-/// A value of each format, by its bytes. `None`: it has none.
-const SAMPLES: [(&str, Option<&str>); 30] = [
-    ("UNIT", Some("")),
-    ("BOOL", Some("01")),
-    ("I8", Some("fe")),
-    ("I16", Some("feff")),
-    ("I32", Some("feffffff")),
-    ("I64", Some("feffffffffffffff")),
-    ("I128", Some("feffffffffffffffffffffffffffffff")),
-    ("U8", Some("07")),
-    ("U16", Some("0700")),
-    ("U32", Some("07000000")),
-    ("U64", Some("0700000000000000")),
-    ("U128", Some("07000000000000000000000000000000")),
-    ("F32", None),
-    ("F64", None),
-    ("CHAR", None),
-    ("STR", Some("0137")),
-    ("BYTES", Some("0112")),
-    ("U8?", Some("0107")),
-    ("U8??", Some("0100")),
-    ("[U16]", Some("0201000200")),
-    ("[U8]", Some("020102")),
-    ("{STR: U8}", Some("01013701")),
-    ("{U8: BOOL}", Some("010701")),
-    ("(U8, BOOL)", Some("0701")),
-    ("[U16; 2]", Some("01000200")),
-    ("[U8; 2]", Some("0102")),
-    ("Nothing", Some("")),
-    ("Pair", Some("0701")),
-    ("Point", Some("010200")),
-    ("Shape", Some("010700000000000000")),
-];
-
 /// A type with what its value is at some formats, as it prints for debugging. Everywhere else the type is rejected, at the
 /// pointer that the second list has, or at the value itself.
 fn row<T: DeserializeOwned + Debug>(cells: &[(&str, &str)], parts: &[(&str, &str)]) {
     let type_is = std::any::type_name::<T>();
-    for ((name, json, _), (sample, digits)) in FORMATS.into_iter().zip(SAMPLES) {
-        assert_eq!(name, sample);
+    for (name, json, _, digits) in FORMATS {
         let registry = registry_with(json);
         let input = bytes(digits.unwrap_or_default());
         let told = registry.decode::<T>(Format::json(json), &input);
@@ -129,22 +94,6 @@ fn no_format_is_a_float_or_a_char() {
     row::<char>(&[], &[]);
 }
 
-#[test]
-fn the_greatest_integers_come_back() {
-    fn same<T: DeserializeOwned + Debug + PartialEq>(format: &str, digits: &str, value: T) {
-        assert_eq!(Registry::read("{}").unwrap().decode::<T>(format, bytes(digits)), Ok(value));
-    }
-    same(r#""U64""#, "ffffffffffffffff", u64::MAX);
-    same(r#""I64""#, "0000000000000080", i64::MIN);
-    same(r#""U128""#, "ffffffffffffffffffffffffffffffff", u128::MAX);
-    same(r#""U128""#, "00000000000000000100000000000000", 1_u128 << 64);
-    same(r#""I128""#, "00000000000000000000000000000080", i128::MIN);
-    same(r#""I128""#, "ffffffffffffffffffffffffffffff7f", i128::MAX);
-    same(r#""I128""#, "ffffffffffffff7fffffffffffffffff", i128::from(i64::MIN) - 1);
-    let map = r#"{"MAP":{"KEY":"U128","VALUE":"UNIT"}}"#;
-    same(map, "01ffffffffffffffffffffffffffffffff", BTreeMap::from([(u128::MAX, ())]));
-}
-
 /// What `serde_bytes` has: bytes that are bytes for `serde`.
 #[derive(Debug)]
 struct ByteBuf(#[allow(dead_code, reason = "it is printed")] Vec<u8>);
@@ -216,11 +165,6 @@ fn options_and_units() {
     row::<Nothing>(&[("UNIT", "Nothing"), ("Nothing", "Nothing")], &[]);
     row::<PhantomData<u8>>(&[("UNIT", "PhantomData<u8>"), ("Nothing", "PhantomData<u8>")], &[]);
     row::<Id>(&UNSIGNED[..4].iter().map(|name| (*name, "Id(7)")).collect::<Vec<_>>(), &[]);
-    let registry = Registry::read("{}").unwrap();
-    let nested = r#"{"OPTION":{"OPTION":"U8"}}"#;
-    for (digits, value) in [("00", None), ("0100", Some(None)), ("010107", Some(Some(7_u8)))] {
-        assert_eq!(registry.decode::<Option<Option<u8>>>(nested, bytes(digits)), Ok(value));
-    }
 }
 
 #[derive(Deserialize, Debug)]
@@ -380,8 +324,8 @@ fn types_without_a_hint_get_what_the_format_has() {
     ];
     // `Some(None)` would be `Null`, as `None` is.
     row::<Value>(&[&numbers[..], &lists, &cells].concat(), &[("{U8: BOOL}", "/0/0")]);
-    let with_values = SAMPLES.iter().filter(|(_, digits)| digits.is_some());
-    row::<IgnoredAny>(&with_values.map(|(name, _)| (*name, "IgnoredAny")).collect::<Vec<_>>(), &[]);
+    let with_values = FORMATS.iter().filter(|(_, _, _, digits)| digits.is_some());
+    row::<IgnoredAny>(&with_values.map(|(name, ..)| (*name, "IgnoredAny")).collect::<Vec<_>>(), &[]);
 }
 
 /// A type that reads the first element and leaves the rest.

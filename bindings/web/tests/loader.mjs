@@ -108,16 +108,6 @@ test('the value at the beginning of longer bytes', () => {
   assert.throws(() => none.withLimits({ nodes: 3 }).decodePrefix('{"SEQ":"UNIT"}', [3, 1]), { reason: 'TooManyNodes' });
 });
 
-test('names of objects’ own members are names as any others', () => {
-  const odd = bcs.registry('{"__proto__":{"STRUCT":[{"__proto__":"U8"},{"constructor":"U8"},{"toString":"U64"}]}}');
-  const value = odd.decode('__proto__', bytesOfHex('01020300000000000000'));
-  assert.deepEqual(Object.entries(value), [['__proto__', 1], ['constructor', 2], ['toString', 3n]]);
-  assert.equal(Object.getPrototypeOf(value), Object.prototype);
-  assert.equal(hexOf(odd.encode('__proto__', value)), '01020300000000000000');
-  const variants = bcs.registry('{"E":{"ENUM":{"0":{"A":"UNIT"},"1":{"__proto__":{"NEWTYPE":"U64"}}}}}');
-  assert.deepEqual(Object.entries(variants.decode('E', bytesOfHex('010500000000000000'))), [['__proto__', 5n]]);
-});
-
 test('half of a surrogate pair is refused, and not changed', () => {
   assert.throws(() => none.encodeText('"STR"', '"\ud800"'), TypeError);
   assert.throws(() => none.encode('"STR"', '\ud800'), refusal('value', 'WrongType'));

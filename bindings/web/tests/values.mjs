@@ -1,6 +1,7 @@
 // What each format takes of JavaScript's types: a table of values by formats, and random values there and back. BCS_WASM names
-// the module. Expected bytes are written out, or made by the small encoder at the end, which follows docs/ENCODING.md alone.
+// the module. Expected bytes are written out, or made by tests/rows/random_values.py.
 import assert from 'node:assert/strict';
+import { execFileSync } from 'node:child_process';
 import { readFileSync } from 'node:fs';
 import test from 'node:test';
 import { runInNewContext } from 'node:vm';
@@ -622,228 +623,84 @@ function below(most) {
   return Math.floor((state / 2 ** 32) * most);
 }
 const oneOf = (choices) => choices[below(choices.length)];
-const many = (count, make) => Array.from({ length: count }, make);
-const NAMES = ['a', 'b', '__proto__', 'constructor', 'x~/y', 'é', '', 'toString'];
-const TEXTS = ['', 'a', '0102', '7', 'null', '\u0000', 'é😀', '"\\', '\ufeffa', '\u2028'];
-const LEAVES = ['UNIT', 'BOOL', 'STR', 'BYTES', ...Object.keys(INTEGERS)];
-
-function drawnFormat(levels) {
-  if (levels === 0 || below(3) === 0) return oneOf([...LEAVES, { TYPENAME: oneOf(Object.keys(CONTAINERS)) }]);
-  const part = () => drawnFormat(levels - 1);
-  return oneOf([
-    () => ({ OPTION: part() }),
-    () => ({ SEQ: part() }),
-    () => ({ TUPLE: many(below(4), part) }),
-    () => ({ TUPLEARRAY: { CONTENT: part(), SIZE: below(4) } }),
-    () => ({ MAP: { KEY: part(), VALUE: part() } }),
-  ])();
-}
-
-/** Containers of all kinds over random formats, which hold one another only downwards. */
-function drawnRegistry() {
-  // (a computed name makes an own member, also one called `__proto__`)
-  const fields = () => NAMES.slice(0, 1 + below(NAMES.length)).map((name) => ({ [name]: drawnFormat(2) }));
-  return {
-    ...CONTAINERS,
-    Newtype: { NEWTYPESTRUCT: drawnFormat(2) },
-    Row: { TUPLESTRUCT: many(below(4), () => drawnFormat(2)) },
-    Struct: { STRUCT: fields() },
-    Enum: { ENUM: {
-      0: { [oneOf(NAMES)]: 'UNIT' }, 7: { New: { NEWTYPE: drawnFormat(2) } }, 300: { Two: { TUPLE: many(2, () => drawnFormat(1)) } },
-      4294967295: { Last: { STRUCT: fields() } },
-    } },
-  };
-}
-
-/** A value as `decode` gives it, and the same as one of the things that `encode` takes. */
-class Drawn {
-  constructor(containers) {
-    this.containers = containers;
-  }
-
-  value(format) {
-    if (typeof format === 'string') return this.leaf(format);
-    const [[kind, inner]] = Object.entries(format);
-    switch (kind) {
-      case 'TYPENAME':
-        return inner === 'address' ? address() : inner in WIDEST ? integer(inner) : this.container(this.containers[inner]);
-      case 'OPTION':
-        return below(2) ? same(null) : this.members([['some', inner]]);
-      case 'SEQ':
-        return this.list(inner, below(5));
-      case 'TUPLEARRAY':
-        return this.list(inner.CONTENT, inner.SIZE);
-      case 'TUPLE':
-        return this.row(inner);
-      default:
-        return this.map(inner);
-    }
-  }
-
-  leaf(word) {
-    switch (word) {
-      case 'UNIT':
-        return same(null);
-      case 'BOOL':
-        return same(below(2) === 1);
-      case 'STR':
-        return same(many(below(3), () => oneOf(TEXTS)).join(''));
-      case 'BYTES':
-        return octets(many(below(5), () => below(256)));
-      default:
-        return integer(word);
-    }
-  }
-
-  list(format, count) {
-    if (format === 'U8') return octets(many(count, () => below(256)));
-    return paired(many(count, () => this.value(format)));
-  }
-
-  row(formats) {
-    return paired(formats.map((format) => this.value(format)));
-  }
-
-  map({ KEY, VALUE }) {
-    const entries = new Map();
-    for (let i = below(5); i > 0; i--) {
-      const key = this.value(KEY);
-      entries.set(encoded(this.containers, KEY, key.given), [key, this.value(VALUE)]);
-    }
-    const sorted = [...entries].sort(([a], [b]) => (a < b ? -1 : 1)).map(([, entry]) => entry);
-    const given = new Map(sorted.map(([key, held]) => [key.given, held.given]));
-    const taken = sorted.map(([key, held]) => [key.taken, held.taken]).sort(() => below(3) - 1);
-    const isMap = below(2) && new Set(taken.map(([key]) => key)).size === taken.length;
-    return { given, taken: isMap ? new Map(taken) : taken };
-  }
-
-  members(named) {
-    const drawn = named.map(([name, format]) => [name, this.value(format)]);
-    const of = (which) => drawn.map(([name, value]) => [name, value[which]]);
-    return { given: Object.fromEntries(of('given')), taken: Object.fromEntries(of('taken').sort(() => below(3) - 1)) };
-  }
-
-  container(container) {
-    if (container === 'UNITSTRUCT') return same(null);
-    const [[kind, inner]] = Object.entries(container);
-    if (kind !== 'ENUM') return this.content(kind, inner);
-    const [[name, payload]] = Object.entries(oneOf(Object.values(inner)));
-    if (payload === 'UNIT') return { given: name, taken: below(2) ? name : Object.fromEntries([[name, null]]) };
-    const held = this.content(...Object.entries(payload)[0]);
-    return { given: Object.fromEntries([[name, held.given]]), taken: Object.fromEntries([[name, held.taken]]) };
-  }
-
-  content(kind, inner) {
-    if (kind.startsWith('NEWTYPE')) return this.value(inner);
-    return kind.startsWith('TUPLE') ? this.row(inner) : this.members(inner.map((field) => Object.entries(field)[0]));
-  }
-}
-
 const same = (value) => ({ given: value, taken: value });
 const paired = (values) => ({ given: values.map(({ given }) => given), taken: values.map(({ taken }) => taken) });
+const textOf = (digits) => Buffer.from(digits, 'hex').toString();
 
-function octets(numbers) {
-  const given = Uint8Array.from(numbers);
-  const ways = [given, given.buffer, Buffer.from(numbers), Uint8ClampedArray.from(numbers), hex(hexOf(given).toUpperCase()), numbers];
+function octets(digits) {
+  const given = hex(digits);
+  const numbers = [...given];
+  const ways = [given, given.buffer, Buffer.from(numbers), Uint8ClampedArray.from(numbers), hex(digits.toUpperCase()), numbers];
   return { given, taken: oneOf([...ways, numbers.map(BigInt), Uint16Array.from(numbers), BigInt64Array.from(numbers.map(BigInt))]) };
 }
 
-function address() {
-  const numbers = many(below(33), () => below(256));
-  const bytes = Uint8Array.from([...new Array(32 - numbers.length).fill(0), ...numbers]);
-  const digits = hexOf(bytes);
-  const ways = [bytes, [...bytes], `0x${digits}`, `0x${digits.toUpperCase()}`, `0x${digits.replace(/^0{1,63}/, '')}`];
+function address(digits) {
+  const ways = [hex(digits), [...hex(digits)], `0x${digits}`, `0x${digits.toUpperCase()}`, `0x${digits.replace(/^0{1,63}/, '')}`];
   return { given: `0x${digits}`, taken: oneOf(ways) };
 }
 
-function integer(word) {
-  const [size, isSigned] = INTEGERS[word] ?? WIDEST[word];
-  const bits = BigInt.asUintN(below(8 * size + 1), many(8, () => BigInt(below(2 ** 32))).reduce((high, low) => (high << 32n) | low));
-  const number = isSigned ? BigInt.asIntN(8 * size, bits) : bits;
+function integer(word, digits) {
+  const number = BigInt(digits);
   const isSafe = Number.isSafeInteger(Number(number));
-  return { given: size < 8 ? Number(number) : number, taken: oneOf([number, isSafe ? Number(number) : number]) };
+  return { given: INTEGERS[word]?.[0] < 8 ? Number(number) : number, taken: oneOf([number, isSafe ? Number(number) : number]) };
+}
+
+function members(names, values) {
+  const of = (which) => values.map((value, i) => [textOf(names[i]), value[which]]);
+  return { given: Object.fromEntries(of('given')), taken: Object.fromEntries(of('taken').sort(() => below(3) - 1)) };
+}
+
+function mapOf(parts) {
+  const entries = parts.flatMap((key, i) => (i % 2 ? [] : [[key, parts[i + 1]]]));
+  const taken = entries.map(([key, held]) => [key.taken, held.taken]).sort(() => below(3) - 1);
+  const isMap = below(2) && new Set(taken.map(([key]) => key)).size === taken.length;
+  return { given: new Map(entries.map(([key, held]) => [key.given, held.given])), taken: isMap ? new Map(taken) : taken };
+}
+
+/** The value of words of tests/rows/random_values.py, as `decode` gives it, and the same as one of the things that `encode` takes. */
+function drawn(words) {
+  const made = [];
+  const last = (count) => made.splice(made.length - count);
+  const makers = {
+    unit: () => same(null), none: () => same(null), true: () => same(true), false: () => same(false), newtype: () => made.pop(),
+    text: (rest) => same(textOf(rest)), bytes: octets, octets, 'octet-array': octets, address,
+    list: (rest) => paired(last(rest)), array: (rest) => paired(last(rest)), tuple: (rest) => paired(last(rest)),
+    some: () => members(['736f6d65'], last(1)), map: (rest) => mapOf(last(2 * rest)), struct: (_, names) => members(names, last(names.length)),
+    variant: (_, [payload, name]) => {
+      const object = members([name], [payload === 'UNIT' ? same(null) : made.pop()]);
+      return payload === 'UNIT' ? { given: textOf(name), taken: oneOf([textOf(name), object.taken]) } : object;
+    },
+  };
+  for (const word of words.split(' ')) {
+    const [start, ...names] = word.split('.');
+    const [kind, rest] = start.replace('key-', '').split(':');
+    made.push(kind in makers ? makers[kind](rest, names) : integer(kind, rest));
+  }
+  return made[0];
 }
 
 test('random values there and back', () => {
-  let count = 0;
-  for (let i = 0; i < 500; i++) {
-    const containers = drawnRegistry();
-    const drawnIn = bcs.registry(JSON.stringify(containers));
-    for (let j = 0; j < 100; j++, count++) {
-      const format = below(2) ? { TYPENAME: oneOf(Object.keys(containers)) } : drawnFormat(3);
-      const { given, taken } = new Drawn(containers).value(format);
-      const asked = typeof format === 'string' ? JSON.stringify(format) : format;
-      const digits = encoded(containers, format, given);
-      assert.equal(hexOf(drawnIn.encode(asked, taken)), digits, JSON.stringify(format));
-      const bytes = Buffer.from(digits, 'hex');
-      assert.deepEqual(drawnIn.decode(asked, bytes), given);
-      assert.equal(hexOf(drawnIn.encode(asked, drawnIn.decode(asked, bytes))), digits);
-      assert.equal(hexOf(drawnIn.encode(asked, drawnIn.decode(asked, bytes, { plainOptions: true }))), digits);
+  const script = new URL('../../../tests/rows/random_values.py', import.meta.url).pathname;
+  const lines = execFileSync(script, ['2500'], { encoding: 'utf8', maxBuffer: 2 ** 30 }).trimEnd().split('\n');
+  let [known, drawnIn] = [undefined, undefined];
+  for (const line of lines) {
+    const [text, formatText, words, digits] = line.split('\t');
+    if (text !== known) {
+      drawnIn?.close();
+      [known, drawnIn] = [text, bcs.registry(text)];
     }
-    drawnIn.close();
+    const { given, taken } = drawn(words);
+    const asked = formatText.startsWith('{') ? JSON.parse(formatText) : formatText;
+    assert.equal(hexOf(drawnIn.encode(asked, taken)), digits, line);
+    const bytes = Buffer.from(digits, 'hex');
+    assert.deepEqual(drawnIn.decode(asked, bytes), given);
+    assert.equal(hexOf(drawnIn.encode(asked, drawnIn.decode(asked, bytes))), digits);
+    assert.equal(hexOf(drawnIn.encode(asked, drawnIn.decode(asked, bytes, { plainOptions: true }))), digits);
   }
-  assert.equal(count, 50_000);
+  assert.equal(lines.length, 50_000);
 });
 
-// The encoding of docs/ENCODING.md, as digits.
-
+/** The encoding of an integer, as digits. */
 function littleEndian(number, size) {
   return BigInt.asUintN(8 * size, BigInt(number)).toString(16).padStart(2 * size, '0').match(/../g).reverse().join('');
-}
-
-function uleb(number) {
-  return number < 128 ? littleEndian(number, 1) : littleEndian((number % 128) + 128, 1) + uleb(Math.floor(number / 128));
-}
-
-function encoded(containers, format, value) {
-  const part = (inner, held) => encoded(containers, inner, held);
-  if (typeof format === 'string') return encodedLeaf(format, value);
-  const [[kind, inner]] = Object.entries(format);
-  switch (kind) {
-    case 'TYPENAME':
-      if (inner in WIDEST) return littleEndian(value, 32);
-      return inner === 'address' ? value.slice(2) : encodedContainer(containers[inner], value, part);
-    case 'OPTION':
-      return value === null ? '00' : `01${part(inner, value.some)}`;
-    case 'SEQ':
-      return uleb(value.length) + Array.from(value, (item) => part(inner, item)).join('');
-    case 'TUPLEARRAY':
-      return Array.from(value, (item) => part(inner.CONTENT, item)).join('');
-    case 'TUPLE':
-      return inner.map((each, i) => part(each, value[i])).join('');
-    default:
-      return uleb(value.size) + [...value].map(([key, held]) => [part(inner.KEY, key), part(inner.VALUE, held)]).sort(([a], [b]) => (a < b ? -1 : 1)).flat().join('');
-  }
-}
-
-function encodedLeaf(word, value) {
-  switch (word) {
-    case 'UNIT':
-      return '';
-    case 'BOOL':
-      return value ? '01' : '00';
-    case 'STR':
-    case 'BYTES': {
-      const bytes = Buffer.from(value);
-      return uleb(bytes.length) + bytes.toString('hex');
-    }
-    default:
-      return littleEndian(value, INTEGERS[word][0]);
-  }
-}
-
-function encodedContainer(container, value, part) {
-  if (container === 'UNITSTRUCT') return '';
-  const [[kind, inner]] = Object.entries(container);
-  if (kind !== 'ENUM') return encodedContent(kind, inner, value, part);
-  const name = typeof value === 'string' ? value : Object.keys(value)[0];
-  const [number, variant] = Object.entries(inner).find(([, variant]) => Object.hasOwn(variant, name));
-  if (variant[name] === 'UNIT') return uleb(Number(number));
-  return uleb(Number(number)) + encodedContent(...Object.entries(variant[name])[0], value[name], part);
-}
-
-function encodedContent(kind, inner, value, part) {
-  if (kind.startsWith('NEWTYPE')) return part(inner, value);
-  if (kind.startsWith('TUPLE')) return inner.map((format, i) => part(format, value[i])).join('');
-  return inner.map((field) => Object.entries(field)[0]).map(([name, format]) => part(format, value[name])).join('');
 }
