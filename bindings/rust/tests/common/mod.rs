@@ -4,6 +4,7 @@
 use bcs_proved::Registry;
 use std::fs;
 use std::path::PathBuf;
+use std::time::Duration;
 
 /// A file of the repository's examples.
 pub fn example(name: &str) -> String {
@@ -30,4 +31,12 @@ pub fn bytes(digits: &str) -> Vec<u8> {
 /// A registry without containers.
 pub fn plain() -> Registry {
     Registry::read("{}").unwrap()
+}
+
+/// The processor time that this thread has taken, which other processes don't make longer.
+pub fn processor_time() -> Duration {
+    let stat = fs::read_to_string("/proc/thread-self/stat").unwrap();
+    // Behind the name, which is in parentheses, the 12th and the 13th field count hundredths of a second.
+    let fields: Vec<&str> = stat.rsplit_once(") ").unwrap().1.split(' ').collect();
+    Duration::from_millis(fields[11..13].iter().map(|ticks| 10 * ticks.parse::<u64>().unwrap()).sum())
 }
