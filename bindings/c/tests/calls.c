@@ -114,7 +114,7 @@ static void refused_in_order(void) {
     is_answer((struct job){ON_VALUE(COMPARE, "\"U8\"", "null"), .second = OF("x")}, BCS_REFUSED, BCS_TEXT_BAD_SHAPE, 0);
 }
 
-/* Notations and lines that are none. A name that isn't UTF-8 is refused too. */
+/* Numbers that are no notation of a path, a name and a pointer that aren't UTF-8, and wrong lines of views. */
 static void no_notations(void) {
     static const uint32_t notations[] = {BCS_STEPS, 3, UINT32_MAX, BCS_NAME, BCS_POINTER};
     static const struct slice lines[] = {OF("outside .=\"U8\""), OF("inside"), OF(" "), OF("inside ."), OF("inside .=\"U8\"\n\xff")};
