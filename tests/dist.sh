@@ -329,6 +329,8 @@ test_take() {
     script bin/rt 'echo "kit $KIT"'
     mv out/dist aside
     kept "without the toolchain, and nothing was made" "$without_rt"
+    ! tools/take_dist.sh nowhere 2>take.log || fail "take, a folder that doesn't exist"
+    grep -q "run tools/make_dist.sh nowhere" take.log || fail "take makes a folder that is named"
     mv aside out/dist
     mv out/dist/web aside
     kept "a folder that lacks files"

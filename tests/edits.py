@@ -2,9 +2,10 @@
 """tests/edits.py LOG: checks why the prover rejected the must-fail edits. LOG is what `rt ci` or `rt must-fail`
 printed.
 
-Every edit was rejected because a goal of a clause stayed open. Any other reason, for example that the borrow checker
-doesn't accept the edited function, says nothing about the contract. And the edits that tests/edits.rows lists are
-there, were tried, and were rejected by the clause named there. """
+Every edit was rejected because a goal of a clause stayed open, or because its written proof proves something else.
+Any other reason, for example that the borrow checker doesn't accept the edited function, or that a proof is for a
+goal that the edit took away, says nothing about the contract. And the edits that tests/edits.rows lists are there,
+were tried, and were rejected by the clause named there. """
 
 import pathlib
 import re
@@ -16,6 +17,8 @@ from harness import ROOT, arguments
 ROWS = ROOT / "tests/edits.rows"
 # Where the proof of a goal fails; and where a goal has no proof, which is told at a line of the source.
 ANSWER = re.compile(r"(?:\./)?proofs/(?P<path>\S+)/Answers\.antt:\d+:\d+: error: `(?P<goal>[^`]+)`")
+# A proof for a goal that isn't there.
+NO_GOAL = re.compile(r": error: `[^`]+`: `goal\.")
 SOURCE = re.compile(
     r"note: (?P<file>src/\S+?):(?P<line>\d+):\d+: it is not proved that .* holds [^(]*\(`(?P<goal>[^`]+)`\)"
 )
@@ -88,7 +91,8 @@ def wrong_with(row: Row, log: str) -> str:
 def rejected_otherwise(log: str) -> list[str]:
     """The lines of edits that no clause rejected."""
     lines = re.findall(r"must-fail \S+\.edit: .*", log)
-    return [line for line in lines if not re.search(r": refused, as it must be: (note: |\S+:\d+:\d+: error: )", line)]
+    told = re.compile(r": refused, as it must be: (note: |\S+:\d+:\d+: error: )")
+    return [line for line in lines if not told.search(line) or NO_GOAL.search(line)]
 
 
 def main() -> int:

@@ -13,7 +13,7 @@ NESTED = '{"L":{"STRUCT":[{"next":{"OPTION":{"TYPENAME":"L"}}}]}}'
 OPENED = "fault: open"
 NO_FILE = (
     "in the file no.file: No such file or directory"
-    "; a value itself goes to standard input, and a registry or a module itself starts with {"
+    "; a value itself goes to standard input, a registry itself starts with {, and modules with { or ["
 )
 NOT_JSON = "at line 1, column 1: NotJson: the document ends there; } is missing"
 TOO_MANY_NODES = "at .: TooManyNodes: expected I16; --nodes allows 1"

@@ -147,7 +147,10 @@ ARGUMENT = "TYPE"
 # Modules, what is requested, the name of the refusal, its place, and a part of its message.
 REFUSED: list[tuple[Any, str, str, str, str]] = [
     ("{", "0x1::m::S", "NotJson", "", "line 1"),
-    ("[" * 100_000, "0x1::m::S", "NotJson", "", "127 deep"),
+    ("[" * 100_000, "0x1::m::S", "NotJson", "", "nested more than 127 levels deep"),
+    ("", "0x1::m::S", "NotJson", "", "line 1, column 1: the document is empty"),
+    ("[]\n[]", "0x1::m::S", "NotJson", "", "line 2, column 1: a second JSON document starts there"),
+    ("<html>", "0x1::m::S", "NotJson", "", "line 1, column 1: no JSON value starts with this character"),
     ('{"a":NaN}', "0x1::m::S", "NotJson", "", "line 1"),
     ('{"structs":[],"structs":[]}', "0x1::m::S", "RepeatedMember", "/structs", "delete one"),
     ('[7,{"a~/":[{},{"b":1,"c":2,"b":3}]}]', "u8", "RepeatedMember", "/1/a~0~1/1/b", "delete one"),
@@ -261,6 +264,13 @@ REFUSED: list[tuple[Any, str, str, str, str]] = [
     (FINE, "0x1::m::S ", "BadType", ARGUMENT, "isn't a type"),
     (FINE, "u8>", "BadType", ARGUMENT, "isn't a type"),
     (FINE, "", "BadType", ARGUMENT, '"" isn\'t a type'),
+    (FINE, "String", "BadType", ARGUMENT, "did you mean 0x1::string::String"),
+    (FINE, "vector<Option<u64>>", "BadType", ARGUMENT, 'did you mean 0x1::option::Option<T>, where it has "Option"?'),
+    (FINE, "Address", "BadType", ARGUMENT, "did you mean address,"),
+    (FINE, "&mut u265", "BadType", ARGUMENT, "did you mean u256,"),
+    (FINE, "vector<S>", "BadType", ARGUMENT, '"S" isn\'t the whole name of one, with address, module and name'),
+    (FINE, "0x1::m::S<m::S>", "BadType", ARGUMENT, '"m::S" isn\'t the whole name of one'),
+    (FINE, "0x1::S", "BadType", ARGUMENT, '"0x1::S" isn\'t the whole name of one'),
     # Functions.
     (
         functions({"name": "f", "generic_type_params": [{}], "params": ["&signer", "&u8"]}),
@@ -279,6 +289,14 @@ REFUSED: list[tuple[Any, str, str, str, str]] = [
         *("0x1::m::h", "NotModules", "/abi/exposed_functions/0/params", "expected an array, found nothing"),
     ),
     (FINE, "0x1::m::x", "UnknownName", ARGUMENT, "nor a function that others may call"),
+    (with_two(FINE, struct("Balance", 0, [])), "0x1::m::Balanse", "UnknownName", ARGUMENT, "; did you mean Balance?"),
+    (
+        functions({"name": "mint", "generic_type_params": []}),
+        "0x1::m::mimt",
+        "UnknownName",
+        ARGUMENT,
+        "did you mean mint?",
+    ),
 ]
 
 

@@ -140,6 +140,8 @@ def test_arguments(program: pathlib.Path, room: pathlib.Path) -> None:
     installer = Installer(program, room)
     installer.fails("unknown option: '--nothing'", "--nothing")
     installer.fails("--prefix needs a folder", "--prefix")
+    installer.fails("the shell left the ~ as it is", "--prefix=~/opt")
+    installer.fails("the shell left the ~ as it is", "--prefix", "~")
     installer.fails("nothing was installed", "--uninstall", "--prefix", str(room / "nowhere"))
     installer.fails("can't write", "--prefix", "/proc/none")
     print("packaging: install and --uninstall")

@@ -28,6 +28,8 @@ from functools import partial
 from random import Random
 from typing import Any, NamedTuple
 
+from harness import arguments
+
 EXAMPLES = pathlib.Path(__file__).resolve().parent.parent / "examples"
 VALUES = {
     "aptos_transfer": ("aptos_registry", "RawTransaction"),
@@ -35,7 +37,7 @@ VALUES = {
     "sui_stake": ("sui_registry", "TransactionData"),
     "sui_transfer": ("sui_registry", "TransactionData"),
 }
-COUNT = int(sys.argv[1])
+COUNT = int(arguments(__doc__, "values").values)
 # How deep values nest, how many words are asked of all values at once, and how many stops for each reason.
 LEVELS = 3
 SAMPLE = 100

@@ -77,7 +77,8 @@ def make_module(crate: pathlib.Path, file: pathlib.Path) -> None:
     it."""
     with tempfile.TemporaryDirectory() as folder:
         room = pathlib.Path(folder)
-        tools = tools_with_clang(room, f'cp module.bc "{room}/module.bc"')
+        # (what is compiled is dropped, so without optimization)
+        tools = tools_with_clang(room, f'cp module.bc "{room}/module.bc"', "-O0")
         prove_and_build(crate, room / "x86.a", tools, "--cpu", "x86-64")
         clang = [str(toolchain.folder() / "toolchain/bin/clang"), "--no-default-config"]
         clang += ["--target=x86_64-unknown-linux-gnu", "-S", "-emit-llvm", "-Xclang", "-disable-llvm-passes"]

@@ -1,7 +1,7 @@
 #!/bin/sh
-# Replaces the files in dist/ by those that tools/make_dist.sh made in a folder: `tools/take_dist.sh [FOLDER]`. The
-# default is out/dist, where the gate leaves them. If the folder doesn't exist or wasn't made from these sources, it is
-# made first.
+# Replaces the files in dist/ by those that tools/make_dist.sh made: `tools/take_dist.sh [FOLDER]`. Without FOLDER, it takes
+# those in out/dist, where the gate leaves them. If these weren't made from these sources, it makes them first; a FOLDER
+# that is named has to be complete.
 set -eu
 unset CDPATH
 cd "$(dirname "$0")/.."
@@ -27,7 +27,10 @@ put_back() {
 }
 
 { built_from=$(tools/dist_sources.sh --built-from) && [ -n "$built_from" ]; } || fail "these sources have no checksum"
-[ "$built_from" = "$(cat "$folder/BUILT_FROM" 2>/dev/null)" ] || tools/make_dist.sh "$folder"
+[ "$built_from" = "$(cat "$folder/BUILT_FROM" 2>/dev/null)" ] || {
+    [ $# = 0 ] || fail "$folder isn't complete, or wasn't made from these sources: run tools/make_dist.sh $folder"
+    tools/make_dist.sh "$folder"
+}
 
 # The new files are complete before an old one moves, and renaming within dist/ copies nothing. Until all of them are in
 # place, the old ones are in dist/.take.*/old, even if SIGKILL ends this.

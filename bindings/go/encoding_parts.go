@@ -1,6 +1,7 @@
 package bcsproved
 
 import (
+	"fmt"
 	"reflect"
 )
 
@@ -140,13 +141,14 @@ func (m encoders) dictionary(n *node, t reflect.Type) (encode, error) {
 	}, nil
 }
 
-// eachEntry writes the entries of a map in any order, and those of a slice in its own: the proved call sorts them.
+// eachEntry writes the entries of a map in any order, and those of a slice in its own: the proved call sorts them. So an error
+// in a map also names the key.
 func eachEntry(w *writer, v reflect.Value, entry func(w *writer, i int, key, value reflect.Value) error) error {
 	if v.Kind() == reflect.Map {
 		entries := v.MapRange()
 		for i := 0; entries.Next(); i++ {
 			if err := entry(w, i, entries.Key(), entries.Value()); err != nil {
-				return err
+				return atKey(err, entries.Key())
 			}
 		}
 		return nil
@@ -157,6 +159,27 @@ func eachEntry(w *writer, v reflect.Value, entry func(w *writer, i int, key, val
 		}
 	}
 	return nil
+}
+
+// atKey adds a key to the message of an error, if it is a string or an integer.
+func atKey(err error, key reflect.Value) error {
+	rejected, is := err.(*Error)
+	if !is || rejected == nil {
+		return err
+	}
+	if key.Kind() == reflect.Interface {
+		key = key.Elem()
+	}
+	moved := *rejected
+	switch {
+	case key.Kind() == reflect.String:
+		moved.Message += fmt.Sprintf(" (at the key %.100q)", key.String())
+	case key.CanInt():
+		moved.Message += fmt.Sprintf(" (at the key %d)", key.Int())
+	case key.CanUint():
+		moved.Message += fmt.Sprintf(" (at the key %d)", key.Uint())
+	}
+	return &moved
 }
 
 // structure is runOf for structs: Go structs, and maps with a value for each field.

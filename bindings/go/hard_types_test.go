@@ -114,7 +114,7 @@ func tried(t *testing.T, what string, call func() error) (err error) {
 	if err != nil && (!errors.As(err, &refused) || refused.Kind == KindValue && refused.At != "" && refused.At[0] != '/') {
 		t.Fatalf("%s: %v", what, err)
 	}
-	if took := time.Since(start); took > 20*time.Second || len(fmt.Sprint(err)) > 20_000 {
+	if took := time.Since(start); took > time.Minute || len(fmt.Sprint(err)) > 20_000 {
 		t.Fatalf("%s: after %s: %.300v", what, took, err)
 	}
 	return err

@@ -88,7 +88,8 @@ func (r *Registry) DecodePrefix(format string, data []byte) (any, int, error) {
 }
 
 // Unmarshal stores the value that the whole of data encodes in the variable that the pointer leads to. A type that can't hold
-// every value of the format's numbers is rejected before the bytes are read. On an error the variable stays as it was.
+// every value of the format's numbers is rejected before the bytes are read. On an error the variable stays as it was. Fields of
+// a struct with the tag `bcs:"-"` stay, too, but not those of structs inside it, which are new.
 func (r *Registry) Unmarshal(format string, data []byte, pointer any) error {
 	q, err := r.askAbout(format, data)
 	if err != nil {
@@ -119,8 +120,21 @@ func (q *question) unmarshal(data []byte, pointer any) error {
 	if err := (&reader{text: text}).whole(decoder, room); err != nil {
 		return err
 	}
-	variable.Elem().Set(room)
+	store(variable.Elem(), room)
 	return nil
+}
+
+// store sets a variable to a decoded value. What the tag "-" leaves out of a struct stays.
+func store(variable, value reflect.Value) {
+	if !isPlainStruct(variable.Type()) {
+		variable.Set(value)
+		return
+	}
+	for i := 0; i < variable.NumField(); i++ {
+		if variable.Type().Field(i).Tag.Get("bcs") != "-" {
+			variable.Field(i).Set(value.Field(i))
+		}
+	}
 }
 
 // CheckType returns an error unless values of the type of `value` can be passed to Encode, and to Unmarshal by a pointer. Call

@@ -312,6 +312,38 @@ func TestUnmarshal(t *testing.T) {
 	if *bad != (o{9, [3]byte{9}}) {
 		t.Error(bad)
 	}
+	type kept struct {
+		O      o
+		Key    string         `bcs:"-"`
+		hidden map[string]int `bcs:"-"`
+	}
+	named := open(t, `{"K":{"STRUCT":[{"o":{"TYPENAME":"O"}}]},"O":{"STRUCT":[{"\b":"U8"},{"k":"BYTES"}]}}`)
+	variable := kept{o{1, [3]byte{2}}, "key", map[string]int{"a": 1}}
+	if err := named.Unmarshal("K", []byte{7, 3, 4, 5, 6}, &variable); err != nil || fmt.Sprint(variable) != "{{7 [4 5 6]} key map[a:1]}" {
+		t.Error(err, variable)
+	}
+}
+
+// The entries of a Go map have no order, so an error names the key.
+func TestErrorsInMaps(t *testing.T) {
+	c := open(t, "{}")
+	for _, row := range []struct {
+		key   string
+		value any
+		want  string
+	}{
+		{"STR", map[string]int{"bad": 256}, `at /0/1: U8 doesn't hold 256 (at the key "bad")`},
+		{"STR", map[any]any{"\n" + strings.Repeat("é", 1000): "x"}, `U8 takes an integer, not string (at the key "\n` + strings.Repeat("é", 99) + `")`},
+		{"I8", map[int8]int{-7: 256}, "at /0/1: U8 doesn't hold 256 (at the key -7)"},
+		{"U16", map[uint]int{65536: 1}, "at /0/0: U16 doesn't hold 65536 (at the key 65536)"},
+		{"BOOL", map[bool]int{true: 256}, "at /0/1: U8 doesn't hold 256"},
+		{"STR", []Entry{{"bad", 256}}, "at /0/1: U8 doesn't hold 256"},
+	} {
+		_, err := c.Encode(fmt.Sprintf(`{"MAP":{"KEY":%q,"VALUE":"U8"}}`, row.key), row.value)
+		if err == nil || !strings.HasSuffix(err.Error(), row.want) {
+			t.Errorf("%v, not %s", err, row.want)
+		}
+	}
 }
 
 // Keys of Go maps are compared by what they contain, so there are no pointers in them; and what is decoded may be no key.
@@ -520,7 +552,7 @@ func TestValuesWithoutEnd(t *testing.T) {
 		start := time.Now()
 		err := call()
 		var refused *Error
-		if !errors.As(err, &refused) || refused.Kind != KindValue || len(err.Error()) > 20_000 || time.Since(start) > 5*time.Second {
+		if !errors.As(err, &refused) || refused.Kind != KindValue || len(err.Error()) > 20_000 || time.Since(start) > time.Minute {
 			t.Errorf("%s: %v after %s: %.300v", name, refused != nil, time.Since(start), err)
 		}
 	}

@@ -24,20 +24,24 @@ typedef struct Question
 {
 	struct ask	ask;
 	bool		is_capped;		/* bcs.max_nodes allows fewer nodes than the query does */
+	uint32		most_nodes;		/* what bcs.max_nodes allows this call */
 	struct piece input;
 	struct piece second;
 	struct piece views;
 	uint32		form;			/* of pieces */
+	uint32		notation;		/* of the second input, if it names a part */
 } Question;
 
 /* question.c: the arguments. `inputs` is how many there are between the format and the limits. */
 extern void define_nodes(void);
 extern Question question_of_bytes(FunctionCallInfo fcinfo, int inputs);
+extern Question question_of_part(FunctionCallInfo fcinfo, uint32 notation);
 extern Question question_of_text(FunctionCallInfo fcinfo, int inputs);
 extern Question question_of_jsonb(FunctionCallInfo fcinfo, int inputs);
 extern void check_stack(uint32 depth);
 extern void cap_nodes(Question *question, int weight);
 extern struct piece utf8_of(struct piece text);
+extern struct piece format_of(struct piece word);
 extern struct piece argument(FunctionCallInfo fcinfo, int place);
 
 /* functions.c: what a call writes, as a value with a zero behind it, which must be done or refused; and a UTF-8 text in the encoding

@@ -257,28 +257,31 @@ part_of(const Question *question)
 	return done_or_no(question, ended(bcs_handle_part(ASK(&question->ask), PIECE(question->input), PIECE(question->second))));
 }
 
-/* Where the part is that has this name in a notation. */
+/* Where the part is that has this name. */
 static bcs_answer
-part_named(const Question *question, uint32 notation)
+part_named(const Question *question)
 {
-	return done_or_no(question, ended(bcs_handle_part_named(ASK(&question->ask), notation, PIECE(question->second),
+	return done_or_no(question, ended(bcs_handle_part_named(ASK(&question->ask), question->notation, PIECE(question->second),
 															PIECE(question->input))));
 }
 
-/* Where the content of the byte string is that a path leads to, or that has this name in a notation. */
+/* Where the content of the byte string is that a path leads to, or that has this name. */
 static bcs_answer
-content_of(const Question *question, uint32 notation)
+content_of(const Question *question)
 {
-	return done_or_no(question, ended(bcs_handle_content(ASK(&question->ask), notation, PIECE(question->second),
+	return done_or_no(question, ended(bcs_handle_content(ASK(&question->ask), question->notation, PIECE(question->second),
 														 PIECE(question->input))));
 }
 
 static Datum
-bytes_of_part(FunctionCallInfo fcinfo, const Question *question, bcs_answer answer)
+bytes_of_part(FunctionCallInfo fcinfo, uint32 notation, bcs_answer (*find) (const Question *question))
 {
+	Question	question = question_of_part(fcinfo, notation);
+	bcs_answer	answer = find(&question);
+
 	if (answer.status == BCS_NO)
 		PG_RETURN_NULL();
-	PG_RETURN_POINTER(cstring_to_text_with_len((const char *) question->input.at + answer.place, answer.length));
+	PG_RETURN_POINTER(cstring_to_text_with_len((const char *) question.input.at + answer.place, answer.length));
 }
 
 PG_FUNCTION_INFO_V1(bcs_pg_part);
@@ -286,9 +289,7 @@ PG_FUNCTION_INFO_V1(bcs_pg_part);
 Datum
 bcs_pg_part(PG_FUNCTION_ARGS)
 {
-	Question	question = question_of_bytes(fcinfo, 2);
-
-	return bytes_of_part(fcinfo, &question, part_of(&question));
+	return bytes_of_part(fcinfo, BCS_STEPS, part_of);
 }
 
 PG_FUNCTION_INFO_V1(bcs_pg_part_by_name);
@@ -296,9 +297,7 @@ PG_FUNCTION_INFO_V1(bcs_pg_part_by_name);
 Datum
 bcs_pg_part_by_name(PG_FUNCTION_ARGS)
 {
-	Question	question = question_of_bytes(fcinfo, 2);
-
-	return bytes_of_part(fcinfo, &question, part_named(&question, BCS_NAME));
+	return bytes_of_part(fcinfo, BCS_NAME, part_named);
 }
 
 PG_FUNCTION_INFO_V1(bcs_pg_part_by_pointer);
@@ -306,9 +305,7 @@ PG_FUNCTION_INFO_V1(bcs_pg_part_by_pointer);
 Datum
 bcs_pg_part_by_pointer(PG_FUNCTION_ARGS)
 {
-	Question	question = question_of_bytes(fcinfo, 2);
-
-	return bytes_of_part(fcinfo, &question, part_named(&question, BCS_POINTER));
+	return bytes_of_part(fcinfo, BCS_POINTER, part_named);
 }
 
 PG_FUNCTION_INFO_V1(bcs_pg_content);
@@ -316,9 +313,7 @@ PG_FUNCTION_INFO_V1(bcs_pg_content);
 Datum
 bcs_pg_content(PG_FUNCTION_ARGS)
 {
-	Question	question = question_of_bytes(fcinfo, 2);
-
-	return bytes_of_part(fcinfo, &question, content_of(&question, BCS_STEPS));
+	return bytes_of_part(fcinfo, BCS_STEPS, content_of);
 }
 
 PG_FUNCTION_INFO_V1(bcs_pg_content_by_name);
@@ -326,9 +321,7 @@ PG_FUNCTION_INFO_V1(bcs_pg_content_by_name);
 Datum
 bcs_pg_content_by_name(PG_FUNCTION_ARGS)
 {
-	Question	question = question_of_bytes(fcinfo, 2);
-
-	return bytes_of_part(fcinfo, &question, content_of(&question, BCS_NAME));
+	return bytes_of_part(fcinfo, BCS_NAME, content_of);
 }
 
 PG_FUNCTION_INFO_V1(bcs_pg_content_by_pointer);
@@ -336,9 +329,7 @@ PG_FUNCTION_INFO_V1(bcs_pg_content_by_pointer);
 Datum
 bcs_pg_content_by_pointer(PG_FUNCTION_ARGS)
 {
-	Question	question = question_of_bytes(fcinfo, 2);
-
-	return bytes_of_part(fcinfo, &question, content_of(&question, BCS_POINTER));
+	return bytes_of_part(fcinfo, BCS_POINTER, content_of);
 }
 
 PG_FUNCTION_INFO_V1(bcs_pg_part_place);
@@ -346,7 +337,7 @@ PG_FUNCTION_INFO_V1(bcs_pg_part_place);
 Datum
 bcs_pg_part_place(PG_FUNCTION_ARGS)
 {
-	Question	question = question_of_bytes(fcinfo, 2);
+	Question	question = question_of_part(fcinfo, BCS_STEPS);
 	bcs_answer	answer = part_of(&question);
 
 	if (answer.status == BCS_NO)

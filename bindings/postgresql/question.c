@@ -70,11 +70,10 @@ utf8_of(struct piece text)
 	return text;
 }
 
-/* The JSON of a format. */
-static struct piece
-format_of(struct piece format)
+/* The JSON of a format, which is UTF-8. */
+struct piece
+format_of(struct piece word)
 {
-	const struct piece word = utf8_of(format);
 	char	   *json = palloc(write_format(word, NULL));
 
 	return (struct piece) {(const uint8_t *) json, write_format(word, json)};
@@ -86,6 +85,7 @@ cap_nodes(Question *question, int weight)
 {
 	const int64 most = max_nodes < 0 ? BCS_NODES : max_nodes / weight;
 
+	question->most_nodes = most;
 	if (question->ask.nodes > most)
 	{
 		question->ask.nodes = most;
@@ -123,7 +123,7 @@ question_of_call(FunctionCallInfo fcinfo, int inputs)
 	CHECK_FOR_INTERRUPTS();
 	check_stack(depth);
 	cap_nodes(&question, 1);
-	question.ask.format = format_of(argument(fcinfo, 1));
+	question.ask.format = format_of(utf8_of(argument(fcinfo, 1)));
 	registry = registry_of_call(fcinfo);
 	question.ask.handle = registry->handle;
 	keep_format(&question.ask, registry);
@@ -136,12 +136,22 @@ question_of_bytes(FunctionCallInfo fcinfo, int inputs)
 {
 	const struct piece input = argument(fcinfo, 2);
 	const struct piece second = inputs >= 2 ? utf8_of(argument(fcinfo, 3)) : input;
-	const struct piece views = inputs == 3 ? utf8_of(argument(fcinfo, 4)) : input;
+	const struct piece views = inputs == 3 ? utf8_of(argument(fcinfo, 4)) : (struct piece) {0};
 	Question	question = question_of_call(fcinfo, inputs);
 
 	question.input = input;
 	question.second = second;
 	question.views = views;
+	return question;
+}
+
+/* Of the part that the second input names in this notation. */
+Question
+question_of_part(FunctionCallInfo fcinfo, uint32 notation)
+{
+	Question	question = question_of_bytes(fcinfo, 2);
+
+	question.notation = notation;
 	return question;
 }
 

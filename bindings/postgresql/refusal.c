@@ -59,11 +59,21 @@ report_of(const struct refused *refused)
 	return report_in(text, answer.status == BCS_DONE ? answer.length : 0);
 }
 
+/* The refusal of a question, apart from its views. */
+static struct refused
+refused_of(const Question *question, bcs_answer answer)
+{
+	return (struct refused) {
+		.answer = answer, .ask = &question->ask, .input = question->input, .second = question->second,
+		.notation = question->notation, .format = question->ask.format,
+	};
+}
+
 /* Why and where bytes stop being a value, in printable ASCII. */
 const char *
 json_of_stop(const Question *question, bcs_answer answer)
 {
-	const struct refused refused = {answer, &question->ask, question->input, question->second};
+	const struct refused refused = refused_of(question, answer);
 	const struct report report = report_of(&refused);
 	StringInfoData json;
 
@@ -86,22 +96,39 @@ json_of_stop(const Question *question, bcs_answer answer)
 
 /* The place behind the fault's name, in printable ASCII, which is the same in each encoding of a database. */
 static const char *
-place_told(bcs_answer answer, struct piece place)
+place_told(const struct refused *refused, struct piece place)
 {
+	const bcs_answer answer = refused->answer;
 	char	   *text;
 
 	if (is_stop(answer))
 		return psprintf(" at byte " UINT64_FORMAT "%s%s", answer.place, place.length != 0 ? ", " : "",
 						(const char *) place.at);
-	if (place.length == 0)
-		return "";
 	text = palloc(write_place(answer, place, NULL) + 1);
 	text[write_place(answer, place, text)] = '\0';
-	return psprintf(" at %s", text);
+	if (refused->view.number != 0)
+		return psprintf(" at line %zu of the views%s%s", refused->view.number, text[0] != '\0' ? ", " : "", text);
+	return text[0] != '\0' ? psprintf(" at %s", text) : "";
+}
+
+/* What to do about a limit that refuses the value; NULL if the call can do nothing. Where larger nodes would exceed bcs.max_nodes,
+ * `most_nodes` is what the setting allows. */
+static const char *
+hint_of(const struct refused *refused, bool is_capped, uint32 most_nodes)
+{
+	const char *larger = larger_limit(refused->ask, refused->answer.fault);
+	const bool	is_setting_reached = is_beyond_nodes(refused->answer.fault) && refused->ask->nodes >= most_nodes;
+
+	if (larger == NULL)
+		return NULL;
+	if (!is_setting_reached)
+		return psprintf("Pass %s.", larger);
+	return psprintf("%sThe setting bcs.max_nodes allows %u nodes here, and a superuser can change it.",
+					is_capped ? "" : "Pass larger nodes. ", most_nodes);
 }
 
 static pg_attribute_noreturn() void
-raise_refusal(const struct refused *refused, bool is_capped)
+raise_refusal(const struct refused *refused, const char *hint)
 {
 	const bcs_answer answer = refused->answer;
 	const char *words = "";
@@ -117,24 +144,38 @@ raise_refusal(const struct refused *refused, bool is_capped)
 	{
 		const struct report report = report_of(refused);
 
-		place = place_told(answer, report.place);
-		words = is_stop(answer) ? "" : report.message;
+		place = place_told(refused, report.place);
+		words = report.message;
 	}
 	ereport(ERROR,
 			(errcode(sqlstate_of(answer)),
 			 errmsg("bcs: refused: %s%s%s", bcs_fault_text(answer.fault), what_is_refused(answer), place),
 			 words[0] != '\0' ? errdetail_internal("%s", words) : 0,
-			 is_capped && is_beyond_nodes(answer.fault) ?
-			 errhint("The setting bcs.max_nodes allows %u nodes here, and a superuser can change it.", refused->ask->nodes) : 0));
+			 hint != NULL ? errhint("%s", hint) : 0));
 	pg_unreachable();
+}
+
+/* Finds which of the views is refused, if it isn't the format of the value. */
+static void
+find_in_views(const Question *question, struct refused *refused)
+{
+	const uint32 status = find_view(&question->ask, question->views, refused->answer, &refused->view);
+
+	CHECK_FOR_INTERRUPTS();
+	if (status == BCS_MEMORY)
+		raise_memory();
+	if (refused->view.format.at != NULL)
+		refused->format = format_of(refused->view.format);
 }
 
 void
 refuse(const Question *question, bcs_answer answer)
 {
-	const struct refused refused = {answer, &question->ask, question->input, question->second};
+	struct refused refused = refused_of(question, answer);
 
-	raise_refusal(&refused, question->is_capped);
+	if (question->views.length != 0 && (answer.status == BCS_FORMAT || answer.status == BCS_PATH))
+		find_in_views(question, &refused);
+	raise_refusal(&refused, hint_of(&refused, question->is_capped, question->most_nodes));
 }
 
 void
@@ -142,16 +183,17 @@ refuse_registry(struct piece text, bcs_answer answer)
 {
 	const struct refused refused = {.answer = answer, .input = text};
 
-	raise_refusal(&refused, false);
+	raise_refusal(&refused, NULL);
 }
 
 void
 refuse_type(struct piece type, const char *message)
 {
-	const bcs_answer answer = {BCS_REFUSED, BCS_MOVE_BAD_TYPE, 0, 0};
+	const struct refused refused = {.answer = {BCS_REFUSED, BCS_MOVE_BAD_TYPE, 0, 0}};
 
 	ereport(ERROR,
-			(errcode(sqlstate_of(answer)), errmsg("bcs: refused: %s%s", bcs_fault_text(answer.fault), place_told(answer, type)),
+			(errcode(sqlstate_of(refused.answer)),
+			 errmsg("bcs: refused: %s%s", bcs_fault_text(refused.answer.fault), place_told(&refused, type)),
 			 errdetail_internal("%s", message)));
 	pg_unreachable();
 }

@@ -18,12 +18,7 @@ fi
 BCS_LIB=$(realpath "$BCS_LIB")
 export BCS_LIB CARGO_NET_OFFLINE=true
 
-install_package() {
-    apt-get install --yes --quiet librust-serde-json-dev
-}
-if ! ls -d /usr/share/cargo/registry/serde_json-* >/dev/null 2>&1; then
-    install_package || { apt-get update --quiet && install_package; }
-fi
+ls -d /usr/share/cargo/registry/serde_json-* >/dev/null 2>&1 || ../../tests/debian.py librust-serde-json-dev
 room=$(mktemp -d)
 trap 'rm -rf "$room"' EXIT
 

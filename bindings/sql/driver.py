@@ -32,13 +32,15 @@ FOUND = (", ", "; ", " in UTF-8, ")
 NUMBERS = ("length of ", "number of a variant")
 # The whole message where bcs_explain expects no value of the format.
 NO_VALUE = "BCS has no F32, F64 or CHAR; this format can't have a value"
+# What an error of SQLite advises behind its message. PostgreSQL has it as a hint.
+ADVICE = {"TooManyNodes": "; pass larger nodes", "TooDeep": "; pass a larger depth"}
 # The limits that most rows have, nodes before the depth.
 LIMITS = (4294967295, 500)
 # The calls whose place is only in an error.
-IN_LINES = ("text_place", "pair_place", "registry_place", "modules_place")
+IN_LINES = ("text_place", "pair_place", "registry_place", "modules_place", "format_place", "path_place")
 # Which of a call's words behind the limits isn't hexadecimal.
-PLAIN = dict.fromkeys(("explain", "explain_with", "stop_place", "text_place"), 1)
-PLAIN |= dict.fromkeys(("pair_place", "part_named", "content"), 2)
+PLAIN = dict.fromkeys(("explain", "explain_with", "stop_place"), 1)
+PLAIN |= dict.fromkeys(("part_named", "content", "path_place"), 2)
 STATUSES = {" in the registry": "registry", " in the format": "format", " in the path": "path"}
 
 
@@ -257,26 +259,39 @@ class Calls:
         fault = json.loads(self.ask("cast(bcs_fault(?, ?, ?, ?, ?) as text)", *asked) or "null")
         if fault is None:
             return None
-        line = f"refused: {fault['refused']} at byte {fault['place']}, {fault['at']}".encode()
+        line = f"refused: {fault['refused']} at byte {fault['place']}, {fault['at']}: {fault['message']}".encode()
         if self.line_of(lambda: self.from_bcs(*asked)) != (fault["refused"], fault["place"], len(line), line):
             raise SystemExit(f"driver: bcs_decode doesn't refuse as bcs_fault: {fault}")
         return self.written(fault["at" if what == "where" else "message"])
 
     def line_of(self, call: Callable[[], object]) -> Answer | None:
-        """The error of a call, without the words for what is refused. None if it isn't refused."""
+        """The error of a call, without the words for what is refused, and without advice. None if it isn't refused."""
         try:
             call()
             return None
         except Answered as refused:
             _, fault, place, *_, message = refused.args
-            line = re.sub(r"^bcs: (refused: \w+)(?: in the registry)?", r"\1", message).encode()
-            return fault, int(place), len(line), line
+            line = re.sub(r"^bcs: (refused: \w+)(?: in the (?:registry|format|path))?", r"\1", message)
+            line = line.removesuffix(ADVICE.get(fault, "\n"))
+            return fault, int(place), len(line), line.encode()
 
     def text_place(self, *question: Any) -> Answer | None:
-        return self.line_of(lambda: self.to_bcs(*question[:4]))
+        return self.line_of(lambda: self.to_bcs(*question))
 
     def pair_place(self, *question: Any) -> Answer | None:
-        return self.line_of(lambda: self.compare(*question[:5]))
+        return self.line_of(lambda: self.compare(*question))
+
+    def format_place(self, *question: Any) -> Answer | None:
+        return self.line_of(lambda: self.check(*question))
+
+    def path_place(self, *question: Any) -> Answer | None:
+        """The call for a part and that for its content report the same."""
+        find = self.part if question[5] == "steps" else self.part_named
+        words = question[:5] if question[5] == "steps" else question
+        told = self.line_of(lambda: find(*words))
+        if self.line_of(lambda: self.content(*question)) != told:
+            raise SystemExit(f"driver: bcs_content doesn't refuse as bcs_part: {told}")
+        return told
 
     def registry_place(self, registry: bytes) -> Answer | None:
         question = self.database.registry(registry), '"UNIT"', LIMITS
@@ -326,8 +341,8 @@ def answer(calls: Calls, line: str) -> tuple[str, ...]:
     call, *words = line.split("\t")
     if not hasattr(Calls, call) or words[-1] == "kind" or (words[-1] == "line") != (call in IN_LINES):
         raise Unsayable
+    words = words[:-1] if call in IN_LINES else words
     if call in ("registry_of_modules", "modules_place", "registry_place"):
-        words = words[:-1] if call in IN_LINES else words
         return answered(getattr(calls, call)(*(bytes.fromhex(word) for word in words)))
     registry, format = (bytes.fromhex(word) for word in words[:2])
     if format[:1] not in (b"{", b'"'):

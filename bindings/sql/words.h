@@ -38,14 +38,25 @@ static inline bool is_stop(bcs_answer answer) {
     return answer.status == BCS_REFUSED && answer.fault > 400 && answer.fault < 500;
 }
 
-/* Whether the limit on nodes refuses the value, and whether any limit of the call does. */
+/* Whether the limit on nodes refuses the value, whether that on the depth does, and whether any limit does. */
 static inline bool is_beyond_nodes(uint32_t fault) {
     return fault == BCS_STOP_TOO_MANY_NODES || fault == BCS_TEXT_TOO_MANY_NODES;
 }
 
+static inline bool is_beyond_depth(uint32_t fault) {
+    return fault == BCS_STOP_TOO_DEEP || fault == BCS_TEXT_TOO_DEEP;
+}
+
 static inline bool is_beyond_limits(uint32_t fault) {
-    return is_beyond_nodes(fault) || fault == BCS_STOP_TOO_DEEP || fault == BCS_TEXT_TOO_DEEP ||
-           fault == BCS_SHOWN_TOO_NESTED;
+    return is_beyond_nodes(fault) || is_beyond_depth(fault) || fault == BCS_SHOWN_TOO_NESTED;
+}
+
+/* What to pass so that the limit no longer refuses the value; null if the limit can't be larger. */
+static inline const char *larger_limit(const struct ask *ask, uint32_t fault) {
+    if (is_beyond_nodes(fault) && ask->nodes < BCS_NODES) {
+        return "larger nodes";
+    }
+    return is_beyond_depth(fault) && ask->depth < BCS_DEPTH ? "a larger depth" : NULL;
 }
 
 /* Whether a path leads to a part that isn't a byte string. */
@@ -105,17 +116,112 @@ static inline bool is_of_modules(bcs_answer answer) {
 
 /* Whether the library reports the place of the refusal. */
 static inline bool is_placed(bcs_answer answer) {
-    return answer.status == BCS_REGISTRY || is_of_modules(answer) ||
+    return answer.status == BCS_REGISTRY || answer.status == BCS_FORMAT || answer.status == BCS_PATH || is_of_modules(answer) ||
            (answer.status == BCS_REFUSED && answer.fault > 300 && answer.fault < 500);
 }
 
-/* A refusal: of the text of a registry, of bytes, or of one of two texts, which are the same if a function has only one; or of
-   modules, or of one of the types, which are the second. */
+/* The line of views that is refused, and the format in it, as the line has it. */
+struct view {
+    size_t number;       /* from 1; 0 if no view is refused */
+    struct piece format; /* JSON or a name, of a line `inside NAME=FORMAT`; `at` is null for any other line */
+    const char *missing; /* what the registry lacks for any other line */
+};
+
+/* A refusal: of the text of a registry, of a format, of a path, of bytes, or of one of two texts, which are the same if a function
+   has only one; or of modules, or of one of the types, which are the second. */
 struct refused {
     bcs_answer answer;
     const struct ask *ask; /* null for a registry and for modules */
     struct piece input, second;
+    uint32_t notation; /* of a path: enum bcs_notation */
+    struct view view;
+    struct piece format; /* the JSON of the format that may be refused: of the value, or in the view */
 };
+
+/* The length of the first line. In a registry that was made of modules, that is its JSON, and notes for people follow it. */
+static inline size_t length_of_line(const uint8_t *text, size_t length) {
+    const uint8_t *const end = length > 0 ? memchr(text, '\n', length) : NULL;
+    return end != NULL ? (size_t)(end - text) : length;
+}
+
+static inline bool begins_with(struct piece text, const char *word) {
+    return text.length >= strlen(word) && memcmp(text.at, word, strlen(word)) == 0;
+}
+
+/* What follows the first = outside of quotes: the format in the line of a view. */
+static inline struct piece format_in_line(struct piece line) {
+    bool is_quoted = false, is_escaped = false;
+    while (line.length > 0) {
+        const uint8_t sign = *line.at;
+        line = (struct piece){line.at + 1, line.length - 1};
+        if (sign == '=' && !is_quoted) {
+            break;
+        }
+        is_quoted = sign == '"' && !is_escaped ? !is_quoted : is_quoted;
+        is_escaped = sign == '\\' && is_quoted && !is_escaped;
+    }
+    return line;
+}
+
+static inline struct view view_of_line(size_t number, struct piece line) {
+    struct view view = {.number = number};
+    if (begins_with(line, "inside ")) {
+        view.format = format_in_line(line);
+    } else if (begins_with(line, "call ")) {
+        view.missing = "the registry has no arguments of this function";
+    } else {
+        view.missing = "the registry has no newtype of 32 bytes with this name";
+    }
+    return view;
+}
+
+/* The answer to a call with these lines as its views. It has no room for pieces and no nodes, so it ends at once if it accepts the
+   views. */
+static inline bcs_answer answer_to_views(const struct ask *ask, struct piece lines) {
+    return bcs_handle_explain_with(ask->handle, PIECE(ask->format), ask->depth, 0, BCS_WAYS, PIECE(lines), NULL, 0, NULL, 0);
+}
+
+static inline bool is_same_refusal(bcs_answer answer, bcs_answer refusal) {
+    return answer.status == refusal.status && answer.fault == refusal.fault;
+}
+
+/* The length of the first half of several lines, which consists of whole lines; 0 for a single line. */
+static inline size_t length_of_half(struct piece lines) {
+    const size_t least = length_of_line(PIECE(lines)) + 1;
+    size_t half = lines.length / 2;
+    if (least >= lines.length) {
+        return 0;
+    }
+    while (half > least && lines.at[half - 1] != '\n') {
+        half--;
+    }
+    return half > least ? half : least;
+}
+
+/* Finds the line for which a call refuses its views, by halves: a line is valid or not whatever the others are. No line is found if
+   the format of the value is refused. BCS_DONE or BCS_MEMORY. */
+static inline uint32_t find_view(const struct ask *ask, struct piece views, bcs_answer refusal, struct view *view) {
+    struct piece lines = {views.at, 0};
+    size_t half = 0, number = 1;
+    bcs_answer answer = answer_to_views(ask, lines);
+    *view = (struct view){0};
+    if (is_same_refusal(answer, refusal)) {
+        return BCS_DONE;
+    }
+    for (lines = views; answer.status != BCS_MEMORY && (half = length_of_half(lines)) != 0;) {
+        answer = answer_to_views(ask, (struct piece){lines.at, half});
+        lines = is_same_refusal(answer, refusal) ? (struct piece){lines.at, half}
+                                                 : (struct piece){lines.at + half, lines.length - half};
+    }
+    if (answer.status == BCS_MEMORY) {
+        return BCS_MEMORY;
+    }
+    for (const uint8_t *at = views.at; at < lines.at; at++) {
+        number += *at == '\n';
+    }
+    *view = view_of_line(number, (struct piece){lines.at, length_of_line(PIECE(lines))});
+    return BCS_DONE;
+}
 
 /* The first room for the place of a refusal, which is often enough. */
 #define PLACE_ROOM 500
@@ -124,16 +230,59 @@ struct refused {
    BCS_MEMORY; BCS_NO if there is nothing to report. */
 typedef bcs_answer telling(const struct refused *refused, uint8_t *out, size_t room);
 
+/* A message without a place, in the form of the library. */
+static inline bcs_answer tell_words(const char *words, uint8_t *out, size_t room) {
+    const size_t length = strlen(words) + 1;
+    if (length > room) {
+        return (bcs_answer){.status = BCS_SHORT, .length = length};
+    }
+    out[0] = '\0';
+    memcpy(out + 1, words, length - 1);
+    return (bcs_answer){.status = BCS_DONE, .length = length};
+}
+
+static inline bcs_answer tell_format(const struct refused *refused, uint8_t *out, size_t room) {
+    return refused->view.missing != NULL ? tell_words(refused->view.missing, out, room)
+                                         : bcs_handle_format_place(refused->ask->handle, PIECE(refused->format), out, room);
+}
+
+static inline bcs_answer tell_path(const struct refused *refused, uint8_t *out, size_t room) {
+    if (refused->view.number != 0) {
+        return tell_words("expected inside NAME=FORMAT, call NAME=FUNCTION, address NAME, u256 NAME or i256 NAME", out, room);
+    }
+    switch (refused->notation) {
+        case BCS_NAME:
+            return tell_words("expected a name such as .payload.args[1]", out, room);
+        case BCS_POINTER:
+            return tell_words("expected a JSON Pointer such as /payload/args/1", out, room);
+        default:
+            return bcs_path_place(PIECE(refused->second), out, room);
+    }
+}
+
+/* (The pieces of a value may stop inside a byte string. The library reports only where the value itself does.) */
+static inline bcs_answer tell_stop(const struct refused *refused, uint8_t *out, size_t room) {
+    const bcs_answer nothing = {.status = BCS_NO};
+    const bcs_answer told = bcs_handle_stop_refusal(ASK(refused->ask), PIECE(refused->input), out, room);
+    return told.status == BCS_DONE && told.place != refused->answer.place ? nothing : told;
+}
+
 static inline bcs_answer tell_refusal(const struct refused *refused, uint8_t *out, size_t room) {
     bcs_answer told;
     if (refused->answer.status == BCS_REGISTRY) {
         return bcs_registry_refusal(PIECE(refused->input), out, room);
     }
+    if (refused->answer.status == BCS_FORMAT) {
+        return tell_format(refused, out, room);
+    }
+    if (refused->answer.status == BCS_PATH) {
+        return tell_path(refused, out, room);
+    }
     if (is_of_modules(refused->answer)) {
         return bcs_modules_place(PIECE(refused->input), PIECE(refused->second), out, room);
     }
     if (is_stop(refused->answer)) {
-        return bcs_handle_stop_refusal(ASK(refused->ask), PIECE(refused->input), out, room);
+        return tell_stop(refused, out, room);
     }
     told = bcs_handle_text_refusal(ASK(refused->ask), PIECE(refused->input), out, room);
     return told.status == BCS_NO ? bcs_handle_text_refusal(ASK(refused->ask), PIECE(refused->second), out, room) : told;
@@ -145,7 +294,7 @@ static inline bcs_answer tell_message(const struct refused *refused, uint8_t *ou
     if (refused->answer.status == BCS_REGISTRY) {
         return bcs_registry_place(BCS_WANTED, PIECE(refused->input), out, room);
     }
-    if (is_of_modules(refused->answer)) {
+    if (refused->answer.status != BCS_REFUSED || is_of_modules(refused->answer)) {
         return nothing;
     }
     if (is_stop(refused->answer)) {
@@ -169,12 +318,6 @@ static inline struct report report_in(const uint8_t *text, size_t length) {
     }
     return message > 0 ? (struct report){{text, message - 1}, (const char *)text + message}
                        : (struct report){{text + length, 0}, (const char *)text};
-}
-
-/* The length of the first line, which is the JSON of a registry that was made of modules. Notes for people follow it. */
-static inline size_t length_of_line(const uint8_t *text, size_t length) {
-    const uint8_t *const end = length > 0 ? memchr(text, '\n', length) : NULL;
-    return end != NULL ? (size_t)(end - text) : length;
 }
 
 /* The character at the front of UTF-8, and how many bytes it has. */
@@ -222,18 +365,20 @@ static inline size_t write_character(uint32_t character, char *out) {
 /* The number of characters that are shown of a name. */
 #define MOST_OF_NAME 200
 
-/* Whether the place of a refused registry is a definition. Any other place of a registry or a text is a JSON Pointer. */
-static inline bool is_definition(bcs_answer answer) {
-    return answer.fault == BCS_REGISTRY_TOO_NESTED || answer.fault == BCS_REGISTRY_REPEATED_NAME ||
-           answer.fault == BCS_REGISTRY_UNKNOWN_NAME;
+/* Whether the place is a JSON Pointer: neither a definition in a registry nor a step of a path. */
+static inline bool is_place_pointer(bcs_answer answer) {
+    return answer.status != BCS_PATH &&
+           (answer.status != BCS_REGISTRY ||
+            (answer.fault != BCS_REGISTRY_TOO_NESTED && answer.fault != BCS_REGISTRY_REPEATED_NAME &&
+             answer.fault != BCS_REGISTRY_UNKNOWN_NAME));
 }
 
-/* Writes the place of a refused registry or text in printable ASCII, and returns its length. Long names in a JSON Pointer are cut
-   as the program cuts them. A definition is cut like one name, since nothing marks where a name ends. Without an output it only
-   returns the length. */
+/* Writes the place of a refusal, if it isn't of bytes, in printable ASCII, and returns its length. Long names in a JSON Pointer are
+   cut as the program cuts them. A definition and a step are cut like one name, since nothing marks where a name ends. Without an
+   output it only returns the length. */
 static inline size_t write_place(bcs_answer answer, struct piece place, char *out) {
     static const char cut[] = "...(cut)";
-    const bool is_pointer = !is_definition(answer);
+    const bool is_pointer = is_place_pointer(answer);
     size_t length = 0, of_name = 0;
     while (place.length > 0) {
         char escaped[ESCAPE_ROOM];

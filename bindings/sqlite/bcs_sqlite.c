@@ -114,7 +114,7 @@ static void equal(sqlite3_context *context, int count, sqlite3_value **values) {
     }
 }
 
-/* The call that finds a part: by its path, or by its name in a notation. */
+/* The call that finds a part, which the second input names in the notation of the question. */
 typedef bcs_answer finding(const struct question *question);
 
 static bcs_answer find_by_path(const struct question *question) {
@@ -122,27 +122,16 @@ static bcs_answer find_by_path(const struct question *question) {
 }
 
 static bcs_answer find_by_name(const struct question *question) {
-    return bcs_handle_part_named(ASK(&question->ask), BCS_NAME, PIECE(question->second), PIECE(question->input));
-}
-
-static bcs_answer find_by_pointer(const struct question *question) {
-    return bcs_handle_part_named(ASK(&question->ask), BCS_POINTER, PIECE(question->second), PIECE(question->input));
+    return bcs_handle_part_named(ASK(&question->ask), question->notation, PIECE(question->second), PIECE(question->input));
 }
 
 static bcs_answer find_content(const struct question *question) {
-    return bcs_handle_content(ASK(&question->ask), BCS_STEPS, PIECE(question->second), PIECE(question->input));
-}
-
-static bcs_answer find_content_by_name(const struct question *question) {
-    return bcs_handle_content(ASK(&question->ask), BCS_NAME, PIECE(question->second), PIECE(question->input));
-}
-
-static bcs_answer find_content_by_pointer(const struct question *question) {
-    return bcs_handle_content(ASK(&question->ask), BCS_POINTER, PIECE(question->second), PIECE(question->input));
+    return bcs_handle_content(ASK(&question->ask), question->notation, PIECE(question->second), PIECE(question->input));
 }
 
 /* Where a part is. False: there is no such part, or the refusal is reported. */
-static bool find_part(sqlite3_context *context, struct question *question, finding *find, bcs_answer *answer) {
+static bool find_part(sqlite3_context *context, struct question *question, finding *find, uint32_t notation, bcs_answer *answer) {
+    question->notation = notation;
     *answer = find(question);
     if (answer->status != BCS_DONE && answer->status != BCS_NO) {
         refuse(context, question, *answer);
@@ -150,11 +139,11 @@ static bool find_part(sqlite3_context *context, struct question *question, findi
     return answer->status == BCS_DONE;
 }
 
-static void answer_part(sqlite3_context *context, finding *find, int count, sqlite3_value **values) {
+static void answer_part(sqlite3_context *context, finding *find, uint32_t notation, int count, sqlite3_value **values) {
     struct question question;
     bcs_answer answer;
     if (take_question_of_bytes(context, &question, 2, count, values)) {
-        if (find_part(context, &question, find, &answer)) {
+        if (find_part(context, &question, find, notation, &answer)) {
             sqlite3_result_blob64(context, question.input.at + answer.place, answer.length, SQLITE_TRANSIENT);
         }
         drop_question(&question);
@@ -162,34 +151,34 @@ static void answer_part(sqlite3_context *context, finding *find, int count, sqli
 }
 
 static void part(sqlite3_context *context, int count, sqlite3_value **values) {
-    answer_part(context, find_by_path, count, values);
+    answer_part(context, find_by_path, BCS_STEPS, count, values);
 }
 
 static void part_by_name(sqlite3_context *context, int count, sqlite3_value **values) {
-    answer_part(context, find_by_name, count, values);
+    answer_part(context, find_by_name, BCS_NAME, count, values);
 }
 
 static void part_by_pointer(sqlite3_context *context, int count, sqlite3_value **values) {
-    answer_part(context, find_by_pointer, count, values);
+    answer_part(context, find_by_name, BCS_POINTER, count, values);
 }
 
 static void content(sqlite3_context *context, int count, sqlite3_value **values) {
-    answer_part(context, find_content, count, values);
+    answer_part(context, find_content, BCS_STEPS, count, values);
 }
 
 static void content_by_name(sqlite3_context *context, int count, sqlite3_value **values) {
-    answer_part(context, find_content_by_name, count, values);
+    answer_part(context, find_content, BCS_NAME, count, values);
 }
 
 static void content_by_pointer(sqlite3_context *context, int count, sqlite3_value **values) {
-    answer_part(context, find_content_by_pointer, count, values);
+    answer_part(context, find_content, BCS_POINTER, count, values);
 }
 
 static void part_place(sqlite3_context *context, int count, sqlite3_value **values) {
     struct question question;
     bcs_answer answer;
     if (take_question_of_bytes(context, &question, 2, count, values)) {
-        if (find_part(context, &question, find_by_path, &answer)) {
+        if (find_part(context, &question, find_by_path, BCS_STEPS, &answer)) {
             sqlite3_result_int64(context, (sqlite3_int64)answer.place);
         }
         drop_question(&question);

@@ -46,7 +46,8 @@ struct question {
     sqlite3_int64 memory; /* of the call and its registry */
     char *format; /* its JSON, in memory of SQLite */
     struct piece input, second, views;
-    uint32_t form; /* of pieces */
+    uint32_t form;     /* of pieces */
+    uint32_t notation; /* of the second input, if it names a part */
 };
 
 static const struct piece no_bytes = {(const uint8_t *)"", 0};

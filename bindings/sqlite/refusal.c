@@ -35,40 +35,49 @@ static uint8_t *take_report(const struct refused *refused, struct report *report
     return text;
 }
 
-/* The place in printable ASCII, in memory of SQLite; null if memory ran out. The library reports names of a text, a registry or
-   modules as they are. */
+/* The place in printable ASCII, in memory of SQLite; null if memory ran out. The library reports names of a text, a registry, a path
+   or modules as they are. */
 static char *place_told(const struct refused *refused, struct piece place) {
-    char *text;
+    char *text, *in_view = NULL;
     if (is_stop(refused->answer)) {
-        return sqlite3_mprintf("%.*s", (int)place.length, (const char *)place.at);
+        return sqlite3_mprintf("byte %llu%s%.*s", (unsigned long long)refused->answer.place, place.length != 0 ? ", " : "",
+                               (int)place.length, (const char *)place.at);
     }
     text = sqlite3_malloc64(write_place(refused->answer, place, NULL) + 1);
-    if (text != NULL) {
-        text[write_place(refused->answer, place, text)] = '\0';
+    if (text == NULL) {
+        return NULL;
     }
-    return text;
+    text[write_place(refused->answer, place, text)] = '\0';
+    if (refused->view.number == 0) {
+        return text;
+    }
+    in_view = sqlite3_mprintf("line %llu of the views%s%s", (unsigned long long)refused->view.number, text[0] != '\0' ? ", " : "",
+                              text);
+    sqlite3_free(text);
+    return in_view;
 }
 
-/* The text of a refusal; null if memory ran out. */
-static char *message_of(const struct refused *refused, const char *name, const char *what) {
-    struct report report;
-    uint8_t *memory;
+/* The text of a refusal with what is known of it; null if memory ran out. */
+static char *placed_message(const struct refused *refused, const char *name, const char *what) {
+    const char *const larger = larger_limit(refused->ask, refused->answer.fault);
     char *where, *text = NULL;
-    if (!is_placed(refused->answer)) {
-        return sqlite3_mprintf("bcs: refused: %s%s", name, what);
-    }
-    memory = take_report(refused, &report);
+    struct report report;
+    uint8_t *memory = take_report(refused, &report);
     where = memory != NULL ? place_told(refused, report.place) : NULL;
-    if (where != NULL && is_stop(refused->answer)) {
-        text = sqlite3_mprintf("bcs: refused: %s at byte %llu%s%s", name, (unsigned long long)refused->answer.place,
-                               where[0] != '\0' ? ", " : "", where);
-    } else if (where != NULL) {
-        text = sqlite3_mprintf("bcs: refused: %s%s%s%s: %s", name, what, where[0] != '\0' ? " at " : "", where,
-                               report.message);
+    if (where != NULL) {
+        text = sqlite3_mprintf("bcs: refused: %s%s%s%s%s%s%s%s", name, what, where[0] != '\0' ? " at " : "", where,
+                               report.message[0] != '\0' ? ": " : "", report.message, larger != NULL ? "; pass " : "",
+                               larger != NULL ? larger : "");
     }
     sqlite3_free(where);
     sqlite3_free(memory);
     return text;
+}
+
+/* The text of a refusal; null if memory ran out. */
+static char *message_of(const struct refused *refused) {
+    const char *const name = bcs_fault_text(refused->answer.fault), *const what = what_is_refused(refused->answer);
+    return is_placed(refused->answer) ? placed_message(refused, name, what) : sqlite3_mprintf("bcs: refused: %s%s", name, what);
 }
 
 static void raise_refusal(sqlite3_context *context, const struct refused *refused) {
@@ -78,7 +87,7 @@ static void raise_refusal(sqlite3_context *context, const struct refused *refuse
         return;
     }
     if (refused->answer.status != BCS_MEMORY) {
-        text = message_of(refused, bcs_fault_text(refused->answer.fault), what_is_refused(refused->answer));
+        text = message_of(refused);
     }
     if (text == NULL) {
         sqlite3_result_error_nomem(context);
@@ -88,9 +97,41 @@ static void raise_refusal(sqlite3_context *context, const struct refused *refuse
     sqlite3_free(text);
 }
 
-void refuse(sqlite3_context *context, const struct question *question, bcs_answer answer) {
-    const struct refused refused = {answer, &question->ask, question->input, question->second};
+/* The refusal of a question, apart from its views. */
+static struct refused refused_of(const struct question *question, bcs_answer answer) {
+    return (struct refused){.answer = answer,
+                            .ask = &question->ask,
+                            .input = question->input,
+                            .second = question->second,
+                            .notation = question->notation,
+                            .format = question->ask.format};
+}
+
+/* A call with views refuses one of them, or the format of the value. */
+static void refuse_views(sqlite3_context *context, const struct question *question, struct refused refused) {
+    char *json = NULL;
+    bool has_memory = find_view(&question->ask, question->views, refused.answer, &refused.view) == BCS_DONE;
+    if (refused.view.format.at != NULL) {
+        json = sqlite3_malloc64(write_format(refused.view.format, NULL));
+        has_memory = json != NULL;
+    }
+    if (json != NULL) {
+        refused.format = (struct piece){(const uint8_t *)json, write_format(refused.view.format, json)};
+    }
+    if (!has_memory) {
+        refused.answer.status = BCS_MEMORY;
+    }
     raise_refusal(context, &refused);
+    sqlite3_free(json);
+}
+
+void refuse(sqlite3_context *context, const struct question *question, bcs_answer answer) {
+    const struct refused refused = refused_of(question, answer);
+    if (question->views.length != 0 && (answer.status == BCS_FORMAT || answer.status == BCS_PATH)) {
+        refuse_views(context, question, refused);
+    } else {
+        raise_refusal(context, &refused);
+    }
 }
 
 void refuse_registry(sqlite3_context *context, struct piece text, bcs_answer answer) {
@@ -124,7 +165,7 @@ static char *json_with(bcs_answer answer, const char *where, const char *message
 }
 
 char *json_of_stop(const struct question *question, bcs_answer answer) {
-    const struct refused refused = {answer, &question->ask, question->input, question->second};
+    const struct refused refused = refused_of(question, answer);
     struct report report;
     uint8_t *const memory = take_report(&refused, &report);
     char *const json = memory != NULL ? json_with(answer, (const char *)report.place.at, report.message) : NULL;

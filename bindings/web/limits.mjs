@@ -39,6 +39,12 @@ export function longestStringOf(json) {
   return longest;
 }
 
+/** Rejects a limit or an option that isn't one of these: a misspelt one would be left out. */
+export function requireKnown(given, names, what) {
+  const unknown = Object.keys(given).find((name) => !names.includes(name));
+  if (unknown !== undefined) throw new TypeError(`no ${what} is called ${unknown}: ${names.join(', ')}`);
+}
+
 /** A limit that a caller passes. */
 export function limitOf(number, name) {
   if (isUnsigned(number)) return number;

@@ -3,7 +3,7 @@ import { Calls } from './calls.mjs';
 import { BcsError } from './errors.mjs';
 import { Holder } from './holder.mjs';
 import { interruptible } from './interruptions.mjs';
-import { isUnsigned, MOST_DEPTH } from './limits.mjs';
+import { isUnsigned, MOST_DEPTH, requireKnown } from './limits.mjs';
 import { linesOfTypes, madeRegistryOf } from './modules.mjs';
 import { MoveTypes } from './move_types.mjs';
 import { reported } from './refusals.mjs';
@@ -50,7 +50,9 @@ class Bcs {
   }
 
   /** A registry, from its JSON. `names` has the names of containers whose values are addresses and integers of 256 bits. */
-  registry(text, { names } = {}) {
+  registry(text, options = {}) {
+    requireKnown(options, ['names'], 'option');
+    const { names } = options;
     const [bytes, moveTypes] = [bytesOf(text), new MoveTypes(names)];
     const holder = new Holder(this.#calls, bytes, moveTypes);
     this.answerOf((calls) => calls.open(holder.opened), (calls) => reported(calls.registryRefusal(bytes)));

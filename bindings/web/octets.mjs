@@ -41,12 +41,16 @@ export function copyOfIntegers(value) {
   return IntegerArray && new IntegerArray(value);
 }
 
+const BYTES = 'a Uint8Array, an ArrayBuffer or an array of numbers from 0 to 255';
+
 /** A copy of bytes: of an object that holds them, or an array of numbers from 0 to 255. */
-export function bytesOfAny(given) {
+export function bytesOfAny(given, wanted = `bytes are ${BYTES}`) {
   const bytes = copyOfBytes(given) ?? (Array.isArray(given) ? bytesOfNumbers(given) : undefined);
   if (bytes !== undefined) return bytes;
-  throw new TypeError('bytes are a Uint8Array, an ArrayBuffer or an array of numbers from 0 to 255');
+  throw new TypeError(wanted);
 }
+
+export const TEXT_WANTED = `a text is a string, or UTF-8 in ${BYTES}; JSON.stringify makes JSON of an object`;
 
 /** Reads each item once, since that may run the caller's code, which may answer differently the next time. */
 function bytesOfNumbers(numbers) {

@@ -2,10 +2,13 @@
 import { FORMS } from './calls.mjs';
 import { interruptible } from './interruptions.mjs';
 import { FormatCalls } from './format_calls.mjs';
-import { limitOf, MOST_DEPTH } from './limits.mjs';
+import { limitOf, MOST_DEPTH, requireKnown } from './limits.mjs';
 import { bytesOfAny } from './octets.mjs';
 import { bytesForCall, bytesOf, stringOfUtf8 } from './texts.mjs';
 import { viewsOf } from './views.mjs';
+
+const OF_VALUES = ['plainOptions'];
+const OF_EXAMPLES = ['variant', 'full'];
 
 /**
  * A registry that is read and open. A format is a container's name, an object, or a JSON text: `"U8"`, `{"SEQ":"U8"}`.
@@ -25,7 +28,9 @@ export class Registry {
   }
 
   /** The same registry with other limits: how many containers may be open at once, and how many nodes a value may have. */
-  withLimits({ depth = MOST_DEPTH, nodes }) {
+  withLimits(given) {
+    requireKnown(given, ['depth', 'nodes'], 'limit');
+    const { depth = MOST_DEPTH, nodes } = given;
     const limits = { depth: limitOf(depth, 'depth'), nodes: nodes === undefined ? undefined : limitOf(nodes, 'nodes') };
     return new Registry(this.#bcs, this.#holder, limits);
   }
@@ -59,12 +64,14 @@ export class Registry {
    * The value whose bytes are the whole input. With `plainOptions`, an option is `null` or its value wherever that can't mean two
    * values.
    */
-  decode(format, bytes, options) {
+  decode(format, bytes, options = {}) {
+    requireKnown(options, OF_VALUES, 'option');
     return this.#on(format, (calls) => calls.valueOf(calls.decoded(bytesOfAny(bytes)), options));
   }
 
   /** The value at the beginning of the input, and how many bytes it has. What follows isn't read. */
-  decodePrefix(format, bytes, options) {
+  decodePrefix(format, bytes, options = {}) {
+    requireKnown(options, OF_VALUES, 'option');
     return this.#on(format, (calls) => {
       const { text, length } = calls.decodedPrefix(bytesOfAny(bytes));
       return { value: calls.valueOf(text, options), length };
@@ -82,7 +89,8 @@ export class Registry {
   }
 
   /** The value as `decode` returns it: maps in the order of their keys, bytes as a `Uint8Array`. */
-  normalise(format, value, options) {
+  normalise(format, value, options = {}) {
+    requireKnown(options, OF_VALUES, 'option');
     return this.#on(format, (calls) => calls.valueOf(calls.normalised(calls.jsonOf(value)), options));
   }
 
@@ -108,12 +116,14 @@ export class Registry {
   }
 
   /** A value of the format to start from, as `decode` returns it; with `full`, each option, list and map has an element. */
-  example(format, options) {
+  example(format, options = {}) {
+    requireKnown(options, [...OF_EXAMPLES, ...OF_VALUES], 'option');
     return this.#on(format, (calls) => calls.valueOf(exampleBy(calls, options), options));
   }
 
   /** The JSON text of such a value, as `bcs example` prints it. */
-  exampleText(format, options) {
+  exampleText(format, options = {}) {
+    requireKnown(options, OF_EXAMPLES, 'option');
     return this.#on(format, (calls) => exampleBy(calls, options));
   }
 
@@ -188,6 +198,6 @@ export class Registry {
   }
 }
 
-function exampleBy(calls, { variant = '', full = false } = {}) {
+function exampleBy(calls, { variant = '', full = false }) {
   return calls.example(full, bytesOf(variant));
 }

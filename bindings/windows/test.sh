@@ -19,10 +19,7 @@ set --
 [ -e "$wine" ] || set -- "$@" wine64
 if [ $# != 0 ]; then
     echo "windows: installing $*"
-    if ! { apt-get update -qq && DEBIAN_FRONTEND=noninteractive apt-get install -y -qq --no-install-recommends "$@"; } \
-        >/dev/null 2>&1; then
-        fail "these packages can't be installed: $*"
-    fi
+    "$root/tests/debian.py" "$@" || fail "these packages can't be installed: $*"
 fi
 for name in bcs.exe bcs.dll bcs.lib; do
     [ -e "$folder/$name" ] || fail "there is no $folder/$name: bindings/windows/build.sh makes it"

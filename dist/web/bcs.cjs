@@ -142,12 +142,16 @@ function copyOfIntegers(value) {
   return IntegerArray && new IntegerArray(value);
 }
 
+const BYTES = 'a Uint8Array, an ArrayBuffer or an array of numbers from 0 to 255';
+
 /** A copy of bytes: of an object that holds them, or an array of numbers from 0 to 255. */
-function bytesOfAny(given) {
+function bytesOfAny(given, wanted = `bytes are ${BYTES}`) {
   const bytes = copyOfBytes(given) ?? (Array.isArray(given) ? bytesOfNumbers(given) : undefined);
   if (bytes !== undefined) return bytes;
-  throw new TypeError('bytes are a Uint8Array, an ArrayBuffer or an array of numbers from 0 to 255');
+  throw new TypeError(wanted);
 }
+
+const TEXT_WANTED = `a text is a string, or UTF-8 in ${BYTES}; JSON.stringify makes JSON of an object`;
 
 /** Reads each item once, since that may run the caller's code, which may answer differently the next time. */
 function bytesOfNumbers(numbers) {
@@ -191,7 +195,7 @@ const decoder = new TextDecoder('utf-8', { fatal: true, ignoreBOM: true });
 
 /** What a caller passes as JSON, a name or a path, as bytes. */
 function bytesOf(text) {
-  return typeof text === 'string' ? encoder.encode(wellFormed(text)) : bytesOfAny(text);
+  return typeof text === 'string' ? encoder.encode(wellFormed(text)) : bytesOfAny(text, TEXT_WANTED);
 }
 
 /** The same for one call, before any other. */
@@ -1351,6 +1355,12 @@ function longestStringOf(json) {
   return longest;
 }
 
+/** Rejects a limit or an option that isn't one of these: a misspelt one would be left out. */
+function requireKnown(given, names, what) {
+  const unknown = Object.keys(given).find((name) => !names.includes(name));
+  if (unknown !== undefined) throw new TypeError(`no ${what} is called ${unknown}: ${names.join(', ')}`);
+}
+
 /** A limit that a caller passes. */
 function limitOf(number, name) {
   if (isUnsigned(number)) return number;
@@ -1696,6 +1706,9 @@ class FormatCalls {
 
 // Registries and their calls, as JavaScript has them.
 
+const OF_VALUES = ['plainOptions'];
+const OF_EXAMPLES = ['variant', 'full'];
+
 /**
  * A registry that is read and open. A format is a container's name, an object, or a JSON text: `"U8"`, `{"SEQ":"U8"}`.
  *
@@ -1714,7 +1727,9 @@ class Registry {
   }
 
   /** The same registry with other limits: how many containers may be open at once, and how many nodes a value may have. */
-  withLimits({ depth = MOST_DEPTH, nodes }) {
+  withLimits(given) {
+    requireKnown(given, ['depth', 'nodes'], 'limit');
+    const { depth = MOST_DEPTH, nodes } = given;
     const limits = { depth: limitOf(depth, 'depth'), nodes: nodes === undefined ? undefined : limitOf(nodes, 'nodes') };
     return new Registry(this.#bcs, this.#holder, limits);
   }
@@ -1748,12 +1763,14 @@ class Registry {
    * The value whose bytes are the whole input. With `plainOptions`, an option is `null` or its value wherever that can't mean two
    * values.
    */
-  decode(format, bytes, options) {
+  decode(format, bytes, options = {}) {
+    requireKnown(options, OF_VALUES, 'option');
     return this.#on(format, (calls) => calls.valueOf(calls.decoded(bytesOfAny(bytes)), options));
   }
 
   /** The value at the beginning of the input, and how many bytes it has. What follows isn't read. */
-  decodePrefix(format, bytes, options) {
+  decodePrefix(format, bytes, options = {}) {
+    requireKnown(options, OF_VALUES, 'option');
     return this.#on(format, (calls) => {
       const { text, length } = calls.decodedPrefix(bytesOfAny(bytes));
       return { value: calls.valueOf(text, options), length };
@@ -1771,7 +1788,8 @@ class Registry {
   }
 
   /** The value as `decode` returns it: maps in the order of their keys, bytes as a `Uint8Array`. */
-  normalise(format, value, options) {
+  normalise(format, value, options = {}) {
+    requireKnown(options, OF_VALUES, 'option');
     return this.#on(format, (calls) => calls.valueOf(calls.normalised(calls.jsonOf(value)), options));
   }
 
@@ -1797,12 +1815,14 @@ class Registry {
   }
 
   /** A value of the format to start from, as `decode` returns it; with `full`, each option, list and map has an element. */
-  example(format, options) {
+  example(format, options = {}) {
+    requireKnown(options, [...OF_EXAMPLES, ...OF_VALUES], 'option');
     return this.#on(format, (calls) => calls.valueOf(exampleBy(calls, options), options));
   }
 
   /** The JSON text of such a value, as `bcs example` prints it. */
-  exampleText(format, options) {
+  exampleText(format, options = {}) {
+    requireKnown(options, OF_EXAMPLES, 'option');
     return this.#on(format, (calls) => exampleBy(calls, options));
   }
 
@@ -1877,7 +1897,7 @@ class Registry {
   }
 }
 
-function exampleBy(calls, { variant = '', full = false } = {}) {
+function exampleBy(calls, { variant = '', full = false }) {
   return calls.example(full, bytesOf(variant));
 }
 
@@ -1965,7 +1985,9 @@ class Bcs {
   }
 
   /** A registry, from its JSON. `names` has the names of containers whose values are addresses and integers of 256 bits. */
-  registry(text, { names } = {}) {
+  registry(text, options = {}) {
+    requireKnown(options, ['names'], 'option');
+    const { names } = options;
     const [bytes, moveTypes] = [bytesOf(text), new MoveTypes(names)];
     const holder = new Holder(this.#calls, bytes, moveTypes);
     this.answerOf((calls) => calls.open(holder.opened), (calls) => reported(calls.registryRefusal(bytes)));

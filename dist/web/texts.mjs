@@ -1,6 +1,6 @@
 // Strings as UTF-8, and back. A lone surrogate is rejected, since it would turn into another character.
 import { BcsError } from './errors.mjs';
-import { bytesOfAny } from './octets.mjs';
+import { bytesOfAny, TEXT_WANTED } from './octets.mjs';
 
 const SHORT_TEXT = 8192;
 const encoder = new TextEncoder();
@@ -11,7 +11,7 @@ const decoder = new TextDecoder('utf-8', { fatal: true, ignoreBOM: true });
 
 /** What a caller passes as JSON, a name or a path, as bytes. */
 export function bytesOf(text) {
-  return typeof text === 'string' ? encoder.encode(wellFormed(text)) : bytesOfAny(text);
+  return typeof text === 'string' ? encoder.encode(wellFormed(text)) : bytesOfAny(text, TEXT_WANTED);
 }
 
 /** The same for one call, before any other. */

@@ -121,9 +121,9 @@ def place_in_arguments(driver: Driver, line: re.Match[str], words: list[str]) ->
     if "...(cut)" in line["words"]:
         raise Unsayable
     if line["place"].startswith("PATH"):
-        told = place_told(driver, "path_place", *question, b"", path_of(words[2]), "steps")
+        told = place_told(driver, "path_place", *question, b"", path_of(words[2]), "steps", where=right.where)
     else:
-        told = place_told(driver, "format_place", *question)
+        told = place_told(driver, "format_place", *question, where=right.where)
     return without_hint(right), told and without_hint(told)
 
 

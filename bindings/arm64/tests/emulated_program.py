@@ -16,7 +16,7 @@ WRITE_FAULT = "fault: write\nin the standard output\n"
 READ_FAULT = "fault: read\nin the standard input\n"
 NO_FILE = (
     "No such file or directory"
-    "; a value itself goes to standard input, and a registry or a module itself starts with {"
+    "; a value itself goes to standard input, a registry itself starts with {, and modules with { or ["
 )
 
 # A limit on addresses with which the heap passes every request to malloc.

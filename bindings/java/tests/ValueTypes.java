@@ -20,6 +20,7 @@ import java.util.HexFormat;
 import java.util.List;
 import java.util.Map;
 import java.util.Optional;
+import java.util.function.Function;
 
 /** Values as Java types, and where values and types are rejected: {@code java ValueTypes EXAMPLES}. */
 final class ValueTypes extends Check {
@@ -177,6 +178,39 @@ final class ValueTypes extends Check {
         equal(HexFormat.of().formatHex(lists.encode("L", new Raw(List.of(1)))), "01" + U64);
     }
 
+    /** What a cast that nobody checks has put into a generic type is rejected where it stands, and an integer of another class isn't. */
+    @SuppressWarnings("unchecked")
+    private static void polluted() throws BcsException {
+        record Order(List<Boolean> flags, long amount) {}
+        record Parts(Map<String, Boolean> map, Optional<Boolean> option, List<Unit> units, List<String> texts, List<byte[]> bytes,
+                List<Samples.Shape> shapes, List<Long> numbers, List<List<Long>> lists) {}
+        Object[] right = {Map.of("a", true), Optional.of(true), List.of(new Unit()), List.of("a"), List.of(new byte[1]),
+                List.of(new Samples.Dot()), List.of(1), List.of(List.of((short) 1))};
+        Registry registry = Registry.open(("{'Order':{'STRUCT':[{'amount':'U64'},{'flags':{'SEQ':'BOOL'}}]},'Parts':{'STRUCT':["
+                + "{'map':{'MAP':{'KEY':'STR','VALUE':'BOOL'}}},{'option':{'OPTION':'BOOL'}},{'units':{'SEQ':'UNIT'}},{'texts':{'SEQ':'STR'}},"
+                + "{'bytes':{'SEQ':'BYTES'}},{'shapes':{'SEQ':{'TYPENAME':'E'}}},{'numbers':{'SEQ':'U64'}},{'lists':{'SEQ':{'SEQ':'U64'}}}]},")
+                .replace('\'', '"') + Samples.REGISTRY.substring(1));
+        for (Object flag : List.of("true],\"amount\":\"1000000\",\"flags\":[true", "true", 1)) {
+            List<Boolean> flags = (List<Boolean>) (List<?>) List.of(flag);
+            refused(Kind.VALUE, "WrongType", -1, "/flags/0", "BOOL takes a Boolean, not " + flag.getClass().getSimpleName(),
+                    () -> registry.encode("Order", new Order(flags, 7)));
+        }
+        Function<Object[], Parts> made = x -> new Parts((Map<String, Boolean>) x[0], (Optional<Boolean>) x[1], (List<Unit>) x[2],
+                (List<String>) x[3], (List<byte[]>) x[4], (List<Samples.Shape>) x[5], (List<Long>) x[6], (List<List<Long>>) x[7]);
+        equal(HexFormat.of().formatHex(registry.encode("Parts", made.apply(right))),
+                "01016101" + "0101" + "01" + "010161" + "010100" + "0100" + "01" + U64 + "0101" + U64);
+        String[][] wrong = {{"/map/0/1", "BOOL takes a Boolean"}, {"/option/some", "BOOL takes a Boolean"}, {"/units/0", "UNIT takes a Unit"},
+                {"/texts/0", "STR takes a String"}, {"/bytes/0", "BYTES takes bytes, or Hex(…) for digits"},
+                {"/shapes/0", "E takes a Variant, or a record of a sealed interface"}, {"/numbers/0", "U64 takes an integer"},
+                {"/lists/0", "SEQ of U64 takes a List or an array"}};
+        for (int i = 0; i < wrong.length; i++) {
+            Object[] parts = right.clone();
+            parts[i] = i == 0 ? Map.of("a", 1.5) : i == 1 ? Optional.of(1.5) : List.of(1.5);
+            refused(Kind.VALUE, "WrongType", -1, wrong[i][0], wrong[i][1] + ", not Double",
+                    () -> registry.encode("Parts", made.apply(parts)));
+        }
+    }
+
     /** What a string in JSON means as bytes, and that as a value it is never bytes. */
     private static void twoDoors() throws BcsException {
         for (String format : List.of("\"BYTES\"", "{\"SEQ\":\"U8\"}")) {
@@ -266,6 +300,8 @@ final class ValueTypes extends Check {
                     () -> plain.encode("A", "0x1"));
             equal(named.encodeJson("A", "\"" + digits + "\"").length, 32);
         }
+        Names both = Names.STANDARD.withAddresses("A").withI256("A");
+        equal(thrown(IllegalArgumentException.class, () -> Registry.open(text, both)).getMessage(), "two forms are given for \"A\"");
         for (String name : List.of("B", "C")) {
             equal(thrown(IllegalArgumentException.class, () -> Registry.open(text, Names.STANDARD.withU256(name))).getMessage(),
                     "the registry has no newtype of 32 bytes called \"" + name + "\"");
@@ -318,6 +354,7 @@ final class ValueTypes extends Check {
         types();
         pointers();
         declared();
+        polluted();
         twoDoors();
         check();
         beans();

@@ -34,6 +34,23 @@ SELECT bcs_encode('{"A":{"STRUCT":[{"a/~":{"SEQ":"BYTES"}}]}}', 'A', '{"a/~":["0
 SELECT bcs_is('{"a~é/\u0000":{"STRUCT":[{"\n":{"TYPENAME":"Z"}}]}}', '"U8"', '\x07');
 -- A name is cut at 200 signs, and so long a pointer has more room than at first.
 SELECT replace(told(format($$bcs_encode_json('{"A":{"STRUCT":[{"%1$s":"U8"}]}}', 'A', '{"%1$s":true}')$$, repeat('~', 201))), repeat('~0', 200), '..');
+-- So are a format, a path and views. The rows have more of these.
+SELECT bcs_is('{}', '{"SEQ":7}', '\x07');
+SELECT bcs_is('{}', E'a\né', '\x07');
+SELECT bcs_part('{}', '"U8"', '\x07', 'inner//2');
+SELECT bcs_part_place('{}', '"U8"', '\x07', E'inner/~1é\n');
+SELECT bcs_content_by_name('{}', '"U8"', '\x07', 'x');
+SELECT bcs_part_by_pointer('{}', '"U8"', '\x07', 'x');
+SELECT bcs_explain_with('{}', '{"SEQ":7}', '\x0107', 'ways', 'inside .=A');
+SELECT bcs_explain_with('{}', '"BYTES"', '\x0107', 'ways', 'inside .=A');
+SELECT bcs_explain_with('{}', '"BYTES"', '\x0107', 'ways', E'\ninside .="U8"\ninside ."=\\"="={"SEQ":7}\ninside .="U8"');
+SELECT bcs_explain_with('{}', '"BYTES"', '\x0107', 'ways', E'inside .="U8"\ncall .=f');
+SELECT bcs_explain_with('{}', '"BYTES"', '\x0107', 'ways', 'u256 é');
+SELECT bcs_explain_with('{}', '"BYTES"', '\x0107', 'ways', 'inside .');
+-- A long step is cut, too.
+SELECT replace(told(format($$bcs_part('{}', '"U8"', '\x07', 'inner/%s')$$, repeat('b', 194))), repeat('b', 193), '..');
+-- And what was expected in bytes.
+SELECT bcs_decode('{}', '{"SEQ":"BOOL"}', '\x0102');
 -- The names of containers are any texts.
 SELECT bcs_decode(format('{%s:{"NEWTYPESTRUCT":"U8"}}', to_json(name)), name, '\x07')
     FROM (VALUES ('a"b'), (E'a\\b'), (E'a\nb'), (E'a\x01'), ('é'), (' '), ('[')) AS names (name);

@@ -8,6 +8,14 @@ SELECT bcs_is('{}', '{"SEQ":"UNIT"}', '\xffffffff07'), bcs_fault('{}', '{"SEQ":"
 SELECT told($$bcs_encode('{}', '{"SEQ":"BOOL"}', '[true]', 1)$$);
 SELECT told($$bcs_is('{}', '"U8"', '\x07', -1)$$), told($$bcs_is('{}', '"U8"', '\x07', 4294967296)$$);
 SELECT told($$bcs_is('{}', '"U8"', '\x07', 1, -1)$$), told($$bcs_is('{}', '"U8"', '\x07', 1, 501)$$);
+-- What to do about a limit: of the call, of the setting, or of both.
+SELECT bcs_scan('{}', '{"TUPLE":["U8","U8"]}', '\x0102', 2);
+SELECT bcs_encode_json('{}', '{"SEQ":"U8"}', '[1,2,3]', 3);
+SELECT bcs_scan('{}', '{"SEQ":"UNIT"}', '\xffffffff07');
+SELECT bcs_scan('{}', '{"SEQ":"UNIT"}', '\xffffffff07', 4294967295);
+SELECT bcs_scan('{"L":{"NEWTYPESTRUCT":{"OPTION":{"TYPENAME":"L"}}}}', 'L', '\x010100', depth => 1);
+-- Pieces that stop inside a byte string have no detail. (The nodes are a list, the byte string, an array, and 6247 bytes.)
+SELECT bcs_explain_with('{}', '{"SEQ":"BYTES"}', ('\x01808002' || repeat('00', 32768))::bytea, 'ways', 'inside [0]={"TUPLEARRAY":{"CONTENT":"U8","SIZE":32768}}', 50000);
 -- A length of a gigabyte that isn't there.
 SELECT told($$bcs_decode('{}', '"BYTES"', '\x8080808004')$$);
 -- Depth: a list of 100 links, and of one more. The server looks at its stack before.
@@ -19,6 +27,20 @@ SELECT told($$bcs_is(links(), 'L', decode(repeat('01', 499) || '00', 'hex'), 100
 SET max_stack_depth = '7MB';
 SELECT bcs_is(links(), 'L', decode(repeat('01', 499) || '00', 'hex'), 1000, 500);
 SELECT told($$bcs_decode(links(), 'L', decode(repeat('01', 299) || '00', 'hex'), 1000, 500)$$);
+-- There is no larger depth than 500, nor a setting for how deep JSON nests.
+CREATE FUNCTION hint(statement text) RETURNS text LANGUAGE plpgsql AS $$
+DECLARE
+    hint text;
+BEGIN
+    EXECUTE 'select (' || statement || ')::text';
+    RETURN 'no error';
+EXCEPTION WHEN OTHERS THEN
+    GET STACKED DIAGNOSTICS hint = PG_EXCEPTION_HINT;
+    RETURN SQLSTATE || ' ' || hint;
+END $$;
+SELECT hint($$bcs_decode(links(), 'L', decode(repeat('01', 501), 'hex'), 1000, 499)$$);
+SELECT hint($$bcs_decode(links(), 'L', decode(repeat('01', 501), 'hex'), 1000, 500)$$);
+SELECT hint($$bcs_decode(links(), 'L', decode(repeat('01', 299) || '00', 'hex'), 1000, 500)$$);
 -- With formats of as many levels as there may be, each with a map, a container takes the most of the stack.
 CREATE FUNCTION widest() RETURNS text IMMUTABLE LANGUAGE sql AS
     $$ SELECT '{"L":{"STRUCT":[{"a":' || repeat('{"MAP":{"KEY":"U8","VALUE":', 30) || '{"OPTION":{"TYPENAME":"L"}}'

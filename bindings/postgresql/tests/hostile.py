@@ -143,7 +143,7 @@ class Costs(Measured):
     def test_timeout(self) -> None:
         """A query with many calls ends at the timeout, and one call with all nodes long before."""
         run(self.session, "set statement_timeout = '1s'")
-        self.ends("54000", 100, f"select bcs_scan(%s, 'T0', '', {ALL})", doubling(40))
+        self.ends("54000", 300, f"select bcs_scan(%s, 'T0', '', {ALL})", doubling(40))
         calls = f"select count(bcs_is(%s, 'T26', '', {MOST})) from generate_series(1, 1000000) as n"
         self.ends("57014", 1200, calls, doubling(40))
 
@@ -353,9 +353,10 @@ class Open(Measured):
             ("select bcs_is(%s, '\"UNIT\"', '')", large(0) + " " * 60_000_000),
             ("select bcs_is('{}', %s, '')", '{"TUPLE":[%s]}' % ",".join(['{"SEQ":{"OPTION":"U8"}}'] * 400_000)),
         ]
-        run(self.session, "set statement_timeout = '700ms'")
         for statement, argument in statements:
+            run(self.session, "set statement_timeout = '700ms'")
             self.assertEqual(refusal(self.session, statement, argument)[0], "57014")
+            run(self.session, "set statement_timeout = 0")
             self.assertEqual(self.kept(), (0, 0))
 
     def test_out_of_memory(self) -> None:

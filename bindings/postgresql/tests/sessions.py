@@ -270,6 +270,31 @@ class Memory(Database):
         self.assertEqual(value(self.session, call, registry % fields), 300003)
         self.assertEqual(value(self.session, "select pg_backend_pid()"), pid)
 
+    def test_want_of_memory_in_refusals(self) -> None:
+        """With too little memory to find the place of a refusal, that is the error. With enough, the place is right."""
+        calls = [
+            (
+                "bcs_is(%s, '{\"TUPLE\":[' || repeat('\"U8\",', 100000) || '7]}', '\\x')",
+                "BadShape in the format at /TUPLE/100000",
+            ),
+            (
+                "bcs_explain_with(%s, '\"BYTES\"', '', 'ways', repeat(E'inside .=\"U8\"\n', 20000) || 'inside .=A')",
+                "UnknownName in the format at line 20001 of the views",
+            ),
+        ]
+        pid, refused = value(self.session, "select pg_backend_pid()"), 0
+        self.assertIs(value(self.session, "select bcs_is('{}', '\"U8\"', '\\x07')"), True)
+        for call, told in calls:
+            right = "22023", f"bcs: refused: {told}"
+            for number in range(24):
+                with address_space(pid, process_memory(pid, "VmSize") + (number << 20)):
+                    answer = refusal(self.session, "select " + call, "{}" + " " * number)
+                self.assertIn(answer, [right, ("53200", "out of memory")])
+                refused += answer != right
+            self.assertEqual(refusal(self.session, "select " + call, "{}"), right)
+        self.assertGreater(refused, 0)
+        self.assertEqual(value(self.session, "select pg_backend_pid()"), pid)
+
     def test_many_calls(self) -> None:
         """A tenth of them are refused. What the server's compiler of expressions allocates isn't measured."""
         calls = """do $$ begin
@@ -328,6 +353,15 @@ class Latin1(Database):
         )
         told = refusal(self.session, "select bcs_encode(%s, 'Zürich', '{\"größe\":7}')", registry)
         self.assertEqual(told, ("22P02", "bcs: refused: BadShape at /gr\\u00f6\\u00dfe"))
+        for call, words in [
+            ("bcs_part('{}', '\"U8\"', '\\x07', 'größe')", "BadPath in the path at step 1 gr\\u00f6\\u00dfe"),
+            ("bcs_is('{}', '\"größe\"', '\\x07')", "BadShape in the format"),
+            (
+                "bcs_explain_with('{}', '\"BYTES\"', '\\x0107', 'ways', 'inside .größe={\"SEQ\":\"größe\"}')",
+                "BadShape in the format at line 1 of the views, /SEQ",
+            ),
+        ]:
+            self.assertEqual(refusal(self.session, "select " + call), ("22023", f"bcs: refused: {words}"))
         run(self.session, "insert into bcs_registries values ('stadt', %s)", registry)
         self.assertEqual(value(self.session, "select bcs_decode('stadt', 'Zürich', '\\x01')"), {"größe": True})
 

@@ -8,7 +8,7 @@ from typing import Any, Generic, TypeVar, Union
 
 from . import values
 
-__all__ = ["AnyName", "Data", "Format", "Name", "PlainName", "Text", "bytes_of", "bytes_of_text", "hint_of", "json_of"]
+__all__ = ["AnyName", "Data", "Format", "Name", "PlainName", "Text", "bytes_of", "bytes_of_text", "json_of"]
 
 Text = Union[str, bytes]
 Data = Union[bytes, bytearray, memoryview]
@@ -36,13 +36,15 @@ Format = Union[AnyName, Name[Any]]
 
 def bytes_of_text(text: Text) -> bytes:
     """What isn't Unicode is passed on, too, so that it is refused as invalid JSON."""
-    return str.encode(text, "utf-8", "surrogatepass") if isinstance(text, str) else bytes_of(text)
+    if isinstance(text, str):
+        return str.encode(text, "utf-8", "surrogatepass")
+    return bytes_of(text, "a text is needed here, as a str or bytes")
 
 
-def bytes_of(data: Data) -> bytes:
+def bytes_of(data: Data, needed: str = "bytes are needed here") -> bytes:
     octets = values.octets_of(data)
     if octets is None:
-        raise TypeError(f"bytes are needed here, not {values.name_of(type(data))}")
+        raise TypeError(f"{needed}, not {values.name_of(type(data))}")
     return octets
 
 
@@ -59,12 +61,3 @@ def json_of(format: Format) -> bytes:
         # (what a class of its own calls equal may be another name)
         return _json_of_str(str.__str__(format))
     return values.json_of_format(format) if isinstance(format, Mapping) else bytes_of(format)
-
-
-_WORDS = {_json_of_str(word): word for word in values.WORDS}
-
-
-def hint_of(format: bytes) -> str:
-    """What to write for a format without parts that was taken for a container's name, such as U64; or nothing."""
-    word = _WORDS.get(format)
-    return "" if word is None else f"""; for the format {word}, write '"{word}"'"""

@@ -89,6 +89,7 @@ _CALLS: dict[str, list[Any]] = {
 }
 _RESULTS: dict[str, Any] = {"bcs_close": None, "bcs_handle_nodes_for": ctypes.c_uint32}
 # Only where bytes stop being a value is there an offset: the faults from the first on, below the second.
+TOO_LITTLE_STACK = "the thread has too little stack left for this call"
 _STOPS = range(401, 501)
 # How long most reports on a refusal are, at most.
 _REPORT = 200
@@ -201,7 +202,7 @@ def _require_resources(answer: Answer) -> None:
     if answer.status == Status.MEMORY:
         raise MemoryError
     if answer.status == Status.STACK:
-        raise StackError("", message="the thread has too little stack left for this call")
+        raise StackError("", message=TOO_LITTLE_STACK)
 
 
 def _room_of(size: int) -> Union[bytearray, mmap.mmap]:

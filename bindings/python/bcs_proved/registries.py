@@ -10,7 +10,7 @@ error reports what was changed. `merge` joins registries that agree: a container
 same in each.
 
 Options:
-  -o, --output FILE  write the JSON to FILE
+  -o, --output FILE  write the JSON to FILE, or if it is -, to standard output
   -h, --help         print this text
   -V, --version      print the version
 
@@ -45,7 +45,7 @@ __all__ = ["from_yaml", "main", "merged"]
 
 # (this file also runs by itself)
 _VERSION = "0.1.0"
-_STANDARD_INPUT = "-"
+_STANDARD_STREAM = "-"
 
 # The proved reader rejects a registry that nests deeper.
 _DEPTH = 130
@@ -270,11 +270,11 @@ def merged(registries: list[tuple[str, dict[str, Any]]]) -> dict[str, Any]:
 
 
 def _shown(name: str) -> str:
-    return "the standard input" if name == _STANDARD_INPUT else name
+    return "the standard input" if name == _STANDARD_STREAM else name
 
 
 def _content_of(name: str) -> bytes:
-    if name == _STANDARD_INPUT:
+    if name == _STANDARD_STREAM:
         return _all_of(sys.stdin.buffer, "the standard input")
     try:
         file = open(name, "rb")
@@ -329,17 +329,17 @@ def _arguments(words: list[str]) -> tuple[list[str], Optional[str]]:
     if names[:1] in (["-o"], ["--output"]):
         if len(names) < 2 or not names[1]:
             raise _Misuse(f"{names[0]} needs a file")
-        output, names = names[1], names[2:]
+        output, names = None if names[1] == _STANDARD_STREAM else names[1], names[2:]
     for name in names:
-        if name.startswith("-") and name != _STANDARD_INPUT or not name:
+        if name.startswith("-") and name != _STANDARD_STREAM or not name:
             raise _Misuse(f"unexpected argument '{name}' found")
     if is_merge and len(names) < 2:
         raise _Misuse("merge needs two registries or more")
     if not is_merge and len(names) > 1:
         raise _Misuse(f"unexpected argument '{names[1]}' found; to join registries, use merge")
-    if names.count(_STANDARD_INPUT) > 1:
+    if names.count(_STANDARD_STREAM) > 1:
         raise _Misuse("only one registry can be the standard input")
-    return names or [_STANDARD_INPUT], output
+    return names or [_STANDARD_STREAM], output
 
 
 def main(words: Optional[list[str]] = None) -> int:

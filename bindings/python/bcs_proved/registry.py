@@ -11,10 +11,10 @@ from collections.abc import Iterable, Mapping
 from typing import Any, Literal, NamedTuple, Optional, TypeVar, Union, overload
 
 from . import values
-from .errors import BcsError, BytesError, ExampleError, FormatError, GrowthError, PathError, RegistryError, TextError
-from .errors import ValueTypeError
-from .formats import AnyName, Data, Format, Name, PlainName, Text, bytes_of, bytes_of_text, hint_of, json_of
-from .library import Answer, Handle, Library, Question, Report, Status, library_of, standard_library
+from .errors import BytesError, ExampleError, FormatError, GrowthError, PathError, RegistryError, TextError
+from .errors import StackError, ValueTypeError
+from .formats import AnyName, Data, Format, Name, PlainName, Text, bytes_of, bytes_of_text, json_of
+from .library import TOO_LITTLE_STACK, Answer, Handle, Library, Question, Report, Status, library_of, standard_library
 from .limits import MOST_NODES, Limits
 from .names import own_forms
 from .reading import Read, Readers, value_of
@@ -189,7 +189,7 @@ class Registry:
         """A JSON Schema of the JSON of the format's values."""
         question = self._question(format, limits)
         answer, text = question.put("bcs_handle_schema", 4000)
-        self._require(question, answer, FormatError)
+        question.require(answer, FormatError)
         schema: dict[str, Any] = json.loads(bytes(text))
         return schema
 
@@ -217,7 +217,7 @@ class Registry:
     def _example(self, question: Question, variant: str, full: bool) -> memoryview:
         name = bytes_of_text(variant)
         answer, text = question.put("bcs_handle_example", 1000, int(full), name, len(name))
-        self._require(question, answer, ExampleError)
+        question.require(answer, ExampleError)
         return text
 
     def show(self, name: str = "", *, as_json: bool = False) -> str:
@@ -334,7 +334,7 @@ class Registry:
 
     def _decoded(self, question: Question, data: bytes) -> memoryview:
         answer, text = question.put("bcs_handle_from_bcs", 4 * len(data) + 100, data, len(data))
-        self._require(question, answer, BytesError, "bcs_handle_stop_refusal", data)
+        question.require(answer, BytesError, "bcs_handle_stop_refusal", data)
         return text
 
     def normalise(
@@ -367,7 +367,7 @@ class Registry:
             # (the call doesn't say which of the two it refuses)
             for text in (first, second):
                 self._put_text(question, "bcs_handle_normalise", text)
-        self._require(question, answer, TextError)
+        question.require(answer, TextError)
         return True
 
     def scan(self, format: Format, data: Data, limits: Optional[Limits] = None) -> int:
@@ -377,7 +377,7 @@ class Registry:
 
     def _scanned(self, question: Question, data: bytes) -> int:
         answer = question.ask("bcs_handle_scan", data, len(data))
-        self._require(question, answer, BytesError, "bcs_handle_stop_refusal", data)
+        question.require(answer, BytesError, "bcs_handle_stop_refusal", data)
         return answer.length
 
     def part(self, format: Format, data: Data, path: str, limits: Optional[Limits] = None) -> Optional[Part]:
@@ -444,7 +444,7 @@ class Registry:
     def _part(self, question: Question, answer: Answer, data: bytes) -> Optional[Part]:
         if answer.status == Status.NO:
             return None
-        self._require(question, answer, BytesError, "bcs_handle_stop_refusal", data)
+        question.require(answer, BytesError, "bcs_handle_stop_refusal", data)
         return Part(answer.place, data[answer.place : answer.place + answer.length])
 
     def explain(
@@ -502,7 +502,7 @@ class Registry:
             self._check(question)
             for view in views:
                 self._require_view(question, view)
-        self._require(question, answer, BytesError)
+        question.require(answer, BytesError)
         return str(text, "utf-8")
 
     def _require_view(self, question: Question, view: View) -> None:
@@ -522,11 +522,13 @@ class Registry:
 
     def _read(self, question: Question, text: memoryview, plain_options: bool) -> Any:
         """The value of a format that normal JSON represents."""
-        read = self._reader_of(question.format, plain_options)
         # (a large document has little room for copies of itself)
         with text:
             document = str(text, "utf-8")
-        return value_of(read, document)
+        try:
+            return value_of(self._reader_of(question.format, plain_options), document)
+        except RecursionError:
+            raise StackError("", message=TOO_LITTLE_STACK) from None
 
     def _reader_of(self, format: bytes, plain_options: bool) -> Read:
         try:
@@ -568,21 +570,10 @@ class Registry:
             raise ValueError("the registry is closed")
         return handle
 
-    @staticmethod
-    def _require(
-        question: Question, answer: Answer, refused: type[BcsError], call: str = "", data: bytes = b""
-    ) -> None:
-        """Raises the error that an answer means, unless it is DONE."""
-        try:
-            question.require(answer, refused, call, data)
-        except FormatError as fault:
-            hint = hint_of(question.format) if fault.reason == "UnknownName" else ""
-            raise FormatError(fault.reason, fault.place, fault.at, fault.message + hint) from None
-
     def _check(self, question: Question) -> None:
-        self._require(question, question.ask("bcs_handle_check"), FormatError)
+        question.require(question.ask("bcs_handle_check"), FormatError)
 
     def _put_text(self, question: Question, call: str, text: bytes) -> memoryview:
         answer, output = question.put(call, 2 * len(text) + 100, text, len(text))
-        self._require(question, answer, TextError, "bcs_handle_text_refusal", text)
+        question.require(answer, TextError, "bcs_handle_text_refusal", text)
         return output

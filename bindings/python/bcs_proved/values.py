@@ -19,7 +19,7 @@ from typing import Any, Optional, Union, final
 
 from .names import BYTES_OF_OWN_FORM
 
-__all__ = ["Format", "Formats", "Hex", "Rejected", "WORDS", "json_of", "json_of_format", "name_of", "octets_of"]
+__all__ = ["Format", "Formats", "Hex", "Rejected", "json_of", "json_of_format", "name_of", "octets_of"]
 
 # The JSON of a value nests at most this deep.
 _NESTING = 100
@@ -48,6 +48,7 @@ _Quick = Callable[[Any, int], str]
 _quoted = json.JSONEncoder(ensure_ascii=False).encode
 # (the same, and undocumented)
 _quoted_at_once = getattr(json.encoder, "encode_basestring", _quoted)
+_SURROGATE = re.compile("[\ud800-\udfff]")
 
 
 @final
@@ -135,8 +136,8 @@ def json_of(format: Format, value: Any, nodes: int) -> bytes:
         text = format.quick(value, _NESTING)
         # (each node has a character at least)
         if len(text) <= nodes:
-            return text.encode("utf-8", "surrogatepass")
-    except (_Slow, RecursionError):
+            return text.encode()
+    except (_Slow, RecursionError, UnicodeEncodeError):
         pass
     return _slow_json_of(format, value, nodes)
 
@@ -150,7 +151,7 @@ def _slow_json_of(format: Format, value: Any, nodes: int) -> bytes:
     text = "".join(out)
     # (a large value has little room for its pieces beside its text)
     out.clear()
-    # (the library rejects lone surrogates, which aren't UTF-8 and so not JSON)
+    # (names may have lone surrogates, which the library rejects: they aren't UTF-8 and so not JSON)
     return text.encode("utf-8", "surrogatepass")
 
 
@@ -297,7 +298,10 @@ class _Text(Format):
     def open(self, value: Any, out: _Pieces) -> Optional[_Writing]:
         if not isinstance(value, str):
             raise self.wrong(value)
-        out.append(_text_of(value))
+        text = _text_of(value)
+        if not text.isascii() and _SURROGATE.search(text):
+            raise Rejected("NotJson", "STR takes Unicode, and this str has half of a surrogate pair")
+        out.append(text)
         return None
 
     def quick(self, value: Any, levels: int) -> str:
@@ -491,9 +495,11 @@ class _List(Format):
             raise _Slow
         if type(self._element) is not _Number:
             return f"[{_joined(zip(itertools.repeat(self._quick), value), levels - 1)}]"
-        if not _are_plain(value):
+        # (another thread may change the list after it was checked)
+        items = value.copy()
+        if not _are_plain(items):
             raise _Slow
-        return _numbers_at_once(value)
+        return _numbers_at_once(items)
 
     def _writing(self, items: list[Any], out: _Pieces) -> _Writing:
         number, element = 0, self._element
@@ -779,7 +785,7 @@ _UNSUPPORTED = _Unsupported()
 _UNSUPPORTED_WORDS = ("CHAR", "F32", "F64")
 _U8 = _Number("U8", 8, False)
 # The formats without parts.
-WORDS: dict[str, Format] = {
+_WORDS: dict[str, Format] = {
     **{"UNIT": _Unit(), "BOOL": _Bool(), "STR": _Text(), "BYTES": _Octets("BYTES")},
     **{f"{sign}{bits}": _Number(f"{sign}{bits}", bits, sign == "I") for sign in "UI" for bits in (8, 16, 32, 64, 128)},
     **{word: _UNSUPPORTED for word in _UNSUPPORTED_WORDS},
@@ -798,7 +804,7 @@ class Formats:
     def format(self, format: Any) -> Format:
         """Of a format's JSON."""
         if isinstance(format, str):
-            return WORDS[format]
+            return _WORDS[format]
         ((kind, inner),) = format.items()
         if kind == "TYPENAME":
             return self._own.get(inner) or self._named.setdefault(inner, _Named(self, inner))
@@ -838,7 +844,7 @@ class Formats:
             seen.add(name)
             container = self._containers[name]
             if container == "UNITSTRUCT":
-                return WORDS["UNIT"]
+                return _WORDS["UNIT"]
             ((kind, inner),) = container.items()
             if kind != "NEWTYPESTRUCT":
                 return self._content(kind, inner)
@@ -861,7 +867,7 @@ class Formats:
 
     def _payload(self, payload: Any) -> Format:
         if isinstance(payload, str):
-            return WORDS[payload]
+            return _WORDS[payload]
         ((kind, inner),) = payload.items()
         return self._content(kind, inner)
 

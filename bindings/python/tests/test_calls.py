@@ -3,13 +3,29 @@
 import array
 import ctypes
 import decimal
+import inspect
 import json
+import sys
 import unittest
 from typing import Any
 
-from bcs_proved import Format, FormatError, Limits, LimitsError, PathError, Registry, RegistryError
+from bcs_proved import (
+    Format,
+    FormatError,
+    Limits,
+    LimitsError,
+    PathError,
+    Registry,
+    RegistryError,
+    StackError,
+    TextError,
+)
 
 PAYMENT = {"Payment": {"STRUCT": [{"to": "STR"}, {"amount": "U64"}]}}
+
+
+class Text(str):
+    """A str of another class."""
 
 
 class Accepted(unittest.TestCase):
@@ -70,6 +86,37 @@ class Refused(unittest.TestCase):
         for find in (self.registry.part, self.registry.part_by_name, self.registry.part_by_pointer):
             with self.assertRaisesRegex(PathError, "BadPath"):
                 find('"U8"', b"\x07", "/\ud800")
+
+    def test_lone_surrogates_in_values(self) -> None:
+        """The place is that of the string."""
+        strings = '{"SEQ":{"OPTION":"STR"}}'
+        for value in ("\ud800", "a\udfff", "\ud83d\ude00", "é" * 1000 + "\udbff"):
+            for wrong in (value, Text(value)):
+                with self.assertRaises(TextError) as raised:
+                    self.registry.encode(strings, [None, {"some": "\U0001f600"}, {"some": wrong}])
+                message = "STR takes Unicode, and this str has half of a surrogate pair"
+                self.assertEqual(
+                    (raised.exception.reason, raised.exception.at, raised.exception.message),
+                    ("NotJson", "/2/some", message),
+                )
+        self.assertEqual(self.registry.encode('"STR"', "\U0001f600").hex(), "04f09f9880")
+
+    def test_little_stack(self) -> None:
+        """Python ends deep calls itself, long before the stack ends."""
+        registry = Registry({"L": {"STRUCT": [{"next": {"OPTION": {"TYPENAME": "L"}}}]}})
+        value: dict[str, Any] = {"next": None}
+        for _ in range(48):
+            value = {"next": {"some": value}}
+        data = registry.encode("L", value)
+
+        def decoded(frames: int) -> Any:
+            return registry.decode("L", data) if frames == 0 else decoded(frames - 1)
+
+        limit = sys.getrecursionlimit()
+        self.assertEqual(decoded(0), value)
+        with self.assertRaises(StackError):
+            decoded(limit - len(inspect.stack()) - 60)
+        self.assertEqual(decoded(0), value)
 
     def test_types_in_registries(self) -> None:
         """`json` would make names of `True` and `None`, and text of bytes."""

@@ -10,7 +10,7 @@ import unittest
 import unittest.mock
 from typing import Any, Callable
 
-from bcs_proved import BcsError, FormatError, Library, Registry, RegistryError
+from bcs_proved import BcsError, FormatError, Library, Registry, RegistryError, ValueTypeError
 from bcs_proved.library import Answer
 
 HERE = pathlib.Path(__file__).resolve().parent
@@ -141,6 +141,30 @@ class Handles(unittest.TestCase):
             self.assertEqual(self.library.counts, (1, 0))
         registry.close()
         self.assertEqual(self.library.counts, (1, 1))
+
+    def test_a_list_that_another_thread_changes(self) -> None:
+        """A string that comes in place of a number is rejected, and is never JSON."""
+        registry, items, is_over = Registry("{}", self.library), [5] * 200, threading.Event()
+        changed: list[Any] = items
+
+        def change() -> None:
+            while not is_over.is_set():
+                for item in '7","8', 5:
+                    changed[-1] = item
+
+        interval, thread = sys.getswitchinterval(), threading.Thread(target=change)
+        sys.setswitchinterval(1e-6)
+        thread.start()
+        try:
+            for _ in range(2000):
+                try:
+                    self.assertEqual(registry.encode({"SEQ": "U16"}, items), b"\xc8\x01" + b"\5\0" * 200)
+                except ValueTypeError as fault:
+                    self.assertEqual(fault.at, "/199")
+        finally:
+            is_over.set()
+            thread.join()
+            sys.setswitchinterval(interval)
 
     def test_a_refused_registry_holds_none(self) -> None:
         with self.assertRaises(RegistryError):

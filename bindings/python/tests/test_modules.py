@@ -62,10 +62,10 @@ class Modules(unittest.TestCase):
 
     def test_wrong_types(self) -> None:
         wrong: list[tuple[Any, Any, str]] = [
-            (json.loads(MODULE), [], "bytes are needed here, not dict"),
-            ([], [], "bytes are needed here, not list"),
-            (None, [], "bytes are needed here, not NoneType"),
-            (7, [], "bytes are needed here, not int"),
+            (json.loads(MODULE), [], "a text is needed here, as a str or bytes, not dict"),
+            ([], [], "a text is needed here, as a str or bytes, not list"),
+            (None, [], "a text is needed here, as a str or bytes, not NoneType"),
+            (7, [], "a text is needed here, as a str or bytes, not int"),
             (MODULE, "u8", "types are a list of str, not str"),
             (MODULE, b"u8", "types are a list of str, not bytes"),
             (

@@ -72,7 +72,7 @@ class Places(unittest.TestCase):
     def test_hints(self) -> None:
         """A format without parts isn't a container's name."""
         for word in ["U64", "BYTES", "F32"]:
-            hint = f"""; for the format {word}, write '"{word}"'"""
+            hint = f'; the format {word} is JSON, "{word}" with its quotes'
             self.tells(FormatError, "", f"no container is called {word}{hint}", self.registry.encode, word, 5)
         self.tells(FormatError, "", "no container is called Payment", self.registry.encode, "Payment", 5)
 

@@ -193,6 +193,8 @@ class Command(unittest.TestCase):
             self.assertIn("\n\nUsage: bcs-registry ", errors)
         none, out = self.room / "none.yaml", self.room / "none/out.json"
         one = self.file("one.json", "{}")
+        self.assertEqual(self.run_with("-o", "-", one), (0, ""))
+        self.assertFalse(pathlib.Path("-").exists(), "- is standard output")
         for words, expected in [
             ([str(none)], f"fault: open\nin the file {none}: No such file or directory\n"),
             ([str(self.room)], f"fault: open\nin the file {self.room}: Is a directory\n"),

@@ -12,6 +12,9 @@ use std::fmt::{self, Write};
 pub(crate) fn json_of<T: Serialize + ?Sized>(value: &T, at: At) -> Result<String, Mismatch> {
     let mut out = String::new();
     value.serialize(Writer { at, nested: 0, is_octet: false, out: &mut out })?;
+    if at.walk.has_failed() {
+        return Err(Mismatch::new("the type's Serialize went on after the error of a part"));
+    }
     Ok(out)
 }
 
@@ -97,6 +100,12 @@ impl<'w> Writer<'w> {
         Ok(Writer { at: self.at.part(shape)?, nested: self.nested, is_octet, out: &mut *self.out })
     }
 
+    /// Writes a part of the value. The code of a type may drop the error of a part, and would have a value without it.
+    fn put_part<T: Serialize + ?Sized>(&mut self, shape: &Shape, is_octet: bool, value: &T) -> Result<(), Mismatch> {
+        let walk = self.at.walk;
+        self.part(shape, is_octet).and_then(|part| value.serialize(part)).inspect_err(|_| walk.fail())
+    }
+
     /// Opens an array or an object.
     fn open(&mut self, sign: char) -> Result<(), Mismatch> {
         if self.nested == NESTING {
@@ -111,7 +120,7 @@ impl<'w> Writer<'w> {
     fn put_some<T: Serialize + ?Sized>(mut self, content: &'w Shape, value: &T) -> Result<(), Mismatch> {
         self.open('{')?;
         self.out.push_str("\"some\":");
-        self.part(content, false).and_then(|part| value.serialize(part)).map_err(|error| error.under("some"))?;
+        self.put_part(content, false, value).map_err(|error| error.under("some"))?;
         self.out.push('}');
         Ok(())
     }
@@ -398,8 +407,7 @@ impl Items<'_> {
             self.writer.out.push(',');
         }
         self.writer
-            .part(shape, is_octet)
-            .and_then(|part| value.serialize(part))
+            .put_part(shape, is_octet, value)
             .map_err(|error| in_variant(self.variant, error.under(self.count)))?;
         self.count += 1;
         Ok(())
@@ -463,10 +471,7 @@ impl Fields<'_> {
         }
         push_head(self.writer.out, name, field);
         let shape = field.map_or(&VOID, |field| &field.shape);
-        self.writer
-            .part(shape, false)
-            .and_then(|part| value.serialize(part))
-            .map_err(|error| in_variant(self.variant, error.under(name)))?;
+        self.writer.put_part(shape, false, value).map_err(|error| in_variant(self.variant, error.under(name)))?;
         self.count += 1;
         Ok(())
     }
@@ -531,10 +536,7 @@ fn put_half<T: Serialize + ?Sized>(
     let Shape::Entry(halves) = entry else {
         return Err(Mismatch::unfit(entry, "a map"));
     };
-    writer
-        .part(&halves[half], false)
-        .and_then(|part| value.serialize(part))
-        .map_err(|error| error.under(half).under(count))
+    writer.put_part(&halves[half], false, value).map_err(|error| error.under(half).under(count))
 }
 
 impl ser::SerializeMap for Entries<'_> {

@@ -232,11 +232,13 @@ pub(crate) struct Walk<'w> {
     pub(crate) probe: Probe,
     /// How many more nodes the value may have.
     nodes: Cell<u64>,
+    /// Whether a part couldn't be written.
+    has_failed: Cell<bool>,
 }
 
 impl<'w> Walk<'w> {
     pub(crate) fn new(shapes: &'w Shapes, has_stack: &'w dyn Fn() -> bool, nodes: u64) -> Walk<'w> {
-        Walk { shapes, has_stack, probe: Probe::new(), nodes: Cell::new(nodes) }
+        Walk { shapes, has_stack, probe: Probe::new(), nodes: Cell::new(nodes), has_failed: Cell::new(false) }
     }
 
     /// Counts nodes. The library counts each, but only once it has the JSON, and that of a value with shared parts may be
@@ -246,6 +248,14 @@ impl<'w> Walk<'w> {
         let left = self.nodes.get().checked_sub(nodes as u64).ok_or_else(Mismatch::too_many_nodes)?;
         self.nodes.set(left);
         Ok(())
+    }
+
+    pub(crate) fn fail(&self) {
+        self.has_failed.set(true);
+    }
+
+    pub(crate) fn has_failed(&self) -> bool {
+        self.has_failed.get()
     }
 }
 

@@ -2,7 +2,7 @@
 #![cfg(feature = "serde_json")]
 
 use bcs_proved::{Error, ErrorKind, Format, Hex, Registry};
-use serde::ser::{Serialize, SerializeMap, SerializeStruct, Serializer};
+use serde::ser::{Serialize, SerializeMap, SerializeSeq, SerializeStruct, SerializeTuple, Serializer};
 use serde_json::{Value, json};
 use std::collections::{BTreeMap, BTreeSet, BinaryHeap};
 use std::marker::PhantomData;
@@ -552,6 +552,60 @@ struct Fails;
 impl Serialize for Fails {
     fn serialize<S: Serializer>(&self, _: S) -> Result<S::Ok, S::Error> {
         Err(serde::ser::Error::custom("no value today"))
+    }
+}
+
+/// A type that drops the error of its first part, and goes on.
+struct GoesOn(u8);
+
+impl Serialize for GoesOn {
+    fn serialize<S: Serializer>(&self, serializer: S) -> Result<S::Ok, S::Error> {
+        match self.0 {
+            0 => {
+                let mut items = serializer.serialize_seq(None)?;
+                let _ = items.serialize_element(&7_u64);
+                items.serialize_element(&2_u8)?;
+                items.end()
+            }
+            1 => {
+                let mut items = serializer.serialize_tuple(2)?;
+                items.serialize_element(&1_u8)?;
+                let _ = items.serialize_element(&300_u16);
+                items.serialize_element(&2_u8)?;
+                items.end()
+            }
+            2 => {
+                let mut fields = serializer.serialize_struct("Point", 2)?;
+                fields.serialize_field("x", &1_u8)?;
+                let _ = fields.serialize_field("y", "a");
+                fields.end()
+            }
+            _ => {
+                let mut map = serializer.serialize_map(None)?;
+                map.serialize_key("x")?;
+                let _ = map.serialize_value(&7_u64);
+                map.serialize_value(&7_u8)?;
+                map.end()
+            }
+        }
+    }
+}
+
+#[test]
+fn a_part_whose_error_is_dropped_is_not_left_out() {
+    let registry = Registry::read(r#"{"Point":{"STRUCT":[{"x":"U8"},{"y":"U16"}]}}"#).unwrap();
+    let rows = [
+        (0, r#"{"SEQ":"U16"}"#),
+        (0, r#"{"SEQ":"U8"}"#),
+        (1, r#"{"TUPLEARRAY":{"CONTENT":"U8","SIZE":2}}"#),
+        (1, r#"{"TUPLE":["U8","U8"]}"#),
+        (2, r#"{"TYPENAME":"Point"}"#),
+        (3, r#"{"MAP":{"KEY":"STR","VALUE":"U8"}}"#),
+    ];
+    for (value, format) in rows {
+        let error = registry.encode(Format::json(format), &GoesOn(value)).unwrap_err();
+        let words = "the type's Serialize went on after the error of a part";
+        assert_eq!((error.kind(), error.message()), (ErrorKind::Value, words), "{format}");
     }
 }
 

@@ -197,3 +197,15 @@ fn types_that_do_not_fit_are_refused() {
     assert_eq!(error.to_string(), "refused: WrongType: U8 takes an integer, not a string");
     assert_eq!(plain().decode::<u8>(number, []).unwrap_err().reason(), Some("EndOfInput"));
 }
+
+/// Of members with one name the last counts, and a number before it may be as large as a float gets.
+#[test]
+fn overwritten_members() {
+    for number in ["1.797693134862315807e308", "17976931348623158079e289", "0.00017976931348623158e312"] {
+        let registry = Registry::read(format!(r#"{{"A":{number},"A":{{"NEWTYPESTRUCT":"U16"}}}}"#)).unwrap();
+        assert_eq!(registry.encode("A", &1u16).unwrap(), [1, 0]);
+        let format = format!(r#"{{"SEQ":{number},"SEQ":"U16"}}"#);
+        assert_eq!(registry.encode(format.as_str(), &vec![1u16]).unwrap(), [1, 1, 0]);
+        assert_eq!(registry.decode::<Vec<u16>>(format.as_str(), [1, 1, 0]).unwrap(), [1]);
+    }
+}

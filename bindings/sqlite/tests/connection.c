@@ -129,8 +129,24 @@ static const struct {
     {"select bcs_explain_with('{}','\"BYTES\"',x'0107','json','inside .=\"U8\"')",
      "{\"bytes\":\"01\",\"kind\":\"length\",\"name\":\".\",\"path\":\".\",\"place\":0,\"value\":1,\"what\":\"BYTES\"}\n"
      "{\"bytes\":\"07\",\"kind\":\"unsigned\",\"name\":\"[bcs]\",\"path\":null,\"place\":1,\"value\":\"7\",\"what\":\"U8\"}\n{\"end\":2}\n"},
-    {"select bcs_explain_with('{}','\"BYTES\"',x'0107','json','inside .')", "bcs: refused: BadPath in the path"},
-    {"select bcs_explain_with('{}','\"BYTES\"',x'0107','json','inside .=A')", "bcs: refused: UnknownName in the format"},
+    {"select bcs_is('{}','{\"SEQ\":7}',x'07')", "bcs: refused: BadShape in the format at /SEQ: expected a format, found 7"},
+    {"select bcs_is('{\"Point\":\"UNITSTRUCT\"}','{\"SEQ\":{\"TYPENAME\":\"point\"}}',x'00')",
+     "bcs: refused: UnknownName in the format: no container is called point; did you mean Point?"},
+    {"select bcs_part('{}','\"U8\"',x'07','inner//2')", "bcs: refused: BadPath in the path at step 2: an empty step"},
+    {"select bcs_part_by_name('{}','\"U8\"',x'07','x')", "bcs: refused: BadPath in the path: expected a name such as .payload.args[1]"},
+    {"select bcs_content_by_pointer('{}','\"U8\"',x'07','x')",
+     "bcs: refused: BadPath in the path: expected a JSON Pointer such as /payload/args/1"},
+    {"select bcs_explain_with('{}','\"BYTES\"',x'0107','json','inside .')",
+     "bcs: refused: BadPath in the path at line 1 of the views: "
+     "expected inside NAME=FORMAT, call NAME=FUNCTION, address NAME, u256 NAME or i256 NAME"},
+    {"select bcs_explain_with('{}','\"BYTES\"',x'0107','json','inside .=A')",
+     "bcs: refused: UnknownName in the format at line 1 of the views: no container is called A"},
+    {"select bcs_explain_with('{}','\"BYTES\"',x'0107','json',char(10) || 'inside .=\"U8\"' || char(10) || 'inside .\"=\\\"=\"={\"SEQ\":7}')",
+     "bcs: refused: BadShape in the format at line 3 of the views, /SEQ: expected a format, found 7"},
+    {"select bcs_explain_with('{}','{\"SEQ\":7}',x'0107','json','inside .=A')",
+     "bcs: refused: BadShape in the format at /SEQ: expected a format, found 7"},
+    {"select bcs_scan('{}','{\"TUPLE\":[\"U8\",\"U8\"]}',x'0102',2)",
+     "bcs: refused: TooManyNodes at byte 1, [1]: expected U8; pass larger nodes"},
     {"select bcs_decode(null,'A',x'07')", "null"},
     {"select bcs_registry_of_modules('[]','vector<u8>\nu8')",
      "{\"u8\":{\"NEWTYPESTRUCT\":\"U8\"},\"vector<u8>\":{\"NEWTYPESTRUCT\":\"BYTES\"}}"},
@@ -146,7 +162,8 @@ static const struct {
      "bcs: refused: BadHex at /a~1~0/1: an odd number of digits; each byte has two"},
     {"select bcs_equal(" REGISTRY ",'A','{\"x\":7,\"y\":[]}','{\"x\":7}')",
      "bcs: refused: MissingField: no member is called y"},
-    {"select bcs_decode(" REGISTRY ",'A',x'0702')", "bcs: refused: EndOfInput at byte 2, .y[0]"},
+    {"select bcs_decode(" REGISTRY ",'A',x'0702')",
+     "bcs: refused: EndOfInput at byte 2, .y[0]: expected the length of STR, found the end of the input"},
     {"select bcs_is('{\"A\":{\"STRUCT\":7}}','\"U8\"',x'07')",
      "bcs: refused: BadShape in the registry at /A/STRUCT: expected an array of fields, found 7"},
     {OF_NAME("replace(hex(zeroblob(100)),'0','~') || 'b'"),
@@ -177,12 +194,18 @@ static void answers(void) {
 static void hostile(void) {
     sqlite3 *database = opened();
     is_error(database, "select bcs_decode('{}','{\"SEQ\":\"UNIT\"}',x'ffffffff07')",
-             "bcs: refused: TooManyNodes at byte 5, [999999]");
+             "bcs: refused: TooManyNodes at byte 5, [999999]: expected room for a value; pass larger nodes");
     is_error(database, "select bcs_encode('{}','\"U8\"',replace(hex(zeroblob(50000)),'0','[') || replace(hex(zeroblob(50000)),'0',']'))",
              "bcs: refused: NotJson: line 1, column 128: arrays and objects are nested more than 127 levels deep; this program reads no more");
     is_error(database, "select bcs_decode('{\"L\":{\"NEWTYPESTRUCT\":{\"OPTION\":{\"TYPENAME\":\"L\"}}}}','L',"
              "cast(replace(hex(zeroblob(50000)),'0',char(1)) as blob))",
-             "bcs: refused: TooDeep at byte 100, " TEN("??????????"));
+             "bcs: refused: TooDeep at byte 100, " TEN("??????????") ": expected room for L; pass a larger depth");
+    /* There is no larger depth than 500, nor a setting for how deep JSON nests. */
+    is_error(database, "select bcs_decode('{\"L\":{\"NEWTYPESTRUCT\":{\"OPTION\":{\"TYPENAME\":\"L\"}}}}','L',"
+             "cast(replace(hex(zeroblob(300)),'0',char(1)) as blob),1000,500)",
+             "bcs: refused: TooDeep at byte 500, " TEN(TEN("?????")) ": expected room for L");
+    is_error(database, "select bcs_decode('{\"L\":{\"NEWTYPESTRUCT\":{\"OPTION\":{\"TYPENAME\":\"L\"}}}}','L',"
+             "cast(replace(hex(zeroblob(150)),'0',char(1)) || char(0) as blob),1000,500)", "bcs: refused: TooNested");
     is_error(database, "select bcs_encode('{}','\"STR\"',cast(x'226100622200' as text))",
              "bcs: refused: NotJson: line 1, column 3: a NUL byte; remove it");
     is_error(database, "select bcs_is(x'7b00','\"U8\"',x'07')",
@@ -202,7 +225,36 @@ static void hostile(void) {
     is_error(database, OF_NAME("printf('%.*c',17000000,'b')"),
              "bcs: refused: BadShape: found true, expected an integer from 0 to 255 (U8)");
     is_error(database, "select bcs_scan('{\"A\":{\"STRUCT\":[{\"' || printf('%.*c',17000000,'b') || '\":\"U8\"}]}}','A',x'')",
-             "bcs: refused: EndOfInput at byte 0");
+             "bcs: refused: EndOfInput at byte 0: expected U8, found the end of the input");
+    is_error(database, "select bcs_part('{}','\"U8\"',x'07',printf('%.*c',17000000,'b'))", "bcs: refused: BadPath in the path");
+    /* A format, a path and views with control characters, with characters beyond ASCII, that are too long, or that aren't Unicode. */
+    is_error(database, "select bcs_is('{}',char(233,10,128512),x'07')",
+             "bcs: refused: UnknownName in the format: no container is called \\u00e9\\u000a\\ud83d\\ude00");
+    is_error(database, "select bcs_is('{}',printf('%.*c',201,'b'),x'07')",
+             "bcs: refused: UnknownName in the format: no container is called " TWO_HUNDRED("b") "...(cut)");
+    is_error(database, "select bcs_is('{}',cast(x'22ff22' as text),x'07')", "bcs: refused: NotJson in the format");
+    is_error(database, "select bcs_part('{}','\"U8\"',x'07','inner/~1' || char(233,10,128512))",
+             "bcs: refused: BadPath in the path at step 2 ~1\\u00e9\\u000a\\ud83d\\ude00: expected a number, inner, or key: and hexadecimal digits");
+    is_error(database, "select bcs_part('{}','\"U8\"',x'07',cast(x'696e006572' as text))",
+             "bcs: refused: BadPath in the path at step 1 in\\u0000er: expected a number, inner, or key: and hexadecimal digits");
+    is_error(database, "select bcs_part('{}','\"U8\"',x'07','inner/' || printf('%.*c',194,'b'))",
+             "bcs: refused: BadPath in the path at step 2 " TEN(TEN("b")) TEN("bbbbbbbbb") "bbb" "...(cut): "
+             "expected a number, inner, or key: and hexadecimal digits");
+    is_error(database, "select bcs_part('{}','\"U8\"',x'07',cast(x'ff' as text))", "bcs: refused: BadPath in the path");
+    is_error(database, "select bcs_explain_with('{}','\"BYTES\"',x'0107','json','inside .=' || char(233))",
+             "bcs: refused: UnknownName in the format at line 1 of the views: no container is called \\u00e9");
+    is_error(database, "select bcs_explain_with('{}','\"BYTES\"',x'0107','json',char(233,10) || 'u256 ' || char(233))",
+             "bcs: refused: BadPath in the path at line 1 of the views: "
+             "expected inside NAME=FORMAT, call NAME=FUNCTION, address NAME, u256 NAME or i256 NAME");
+    is_error(database, "select bcs_explain_with('{}','\"BYTES\"',x'0107','json','u256 ' || char(233))",
+             "bcs: refused: UnknownName in the format at line 1 of the views: the registry has no newtype of 32 bytes with this name");
+    is_error(database, "select bcs_is('{}','" TEN("{\"SEQ\":{\"SEQ\":{\"SEQ\":{\"SEQ\":") "\"U8\"" TEN("}}}}") "',x'07')",
+             "bcs: refused: TooNested in the format");
+    is_error(database, "select bcs_explain_with('{}','\"BYTES\"',x'0107','json','inside .="
+             TEN("{\"SEQ\":{\"SEQ\":{\"SEQ\":{\"SEQ\":") "\"U8\"" TEN("}}}}") "')",
+             "bcs: refused: TooNested in the format at line 1 of the views");
+    is_error(database, "select bcs_explain_with('{}','\"BYTES\"',x'0107','json','inside .=\"U8\"' || char(10) || 'call .=f')",
+             "bcs: refused: UnknownName in the format at line 2 of the views: the registry has no arguments of this function");
     closed(database);
 }
 

@@ -410,5 +410,43 @@ class Faults(unittest.TestCase):
         self.assertLess(cost, 6 * judged + len(data) / 10_000)
 
 
+class Refusals(unittest.TestCase):
+    """The last piece of a long format, of a long path or of many views is refused. Finding it takes a few times as long
+    as a call that accepts them."""
+
+    def test_costs(self) -> None:
+        database, count = opened(), 100_000
+        for call, begin, good, bad, told in [
+            (
+                "bcs_is('{}', ?, x'')",
+                '{"TUPLE":[' + '"U8",' * count,
+                '"U8"]}',
+                "7]}",
+                "at /TUPLE/100000: expected a format",
+            ),
+            ("bcs_part('{}', '\"U8\"', x'07', ?)", "inner/" * count, "0", "x", "at step 100001 x: expected a number"),
+            (
+                "bcs_explain_with('{}', '\"BYTES\"', x'0107', 'ways', ?)",
+                'inside .="U8"\n' * count,
+                'inside .="U8"',
+                "inside .=A",
+                "at line 100001 of the views: no container is called A",
+            ),
+        ]:
+            with self.subTest(call=call):
+                with self.assertRaisesRegex(sqlite3.OperationalError, told):
+                    database.execute(f"select {call}", [begin + bad])
+                accepted = self.spent(database, call, begin + good)
+                refused = min(self.spent(database, call, begin + bad) for _ in range(3))
+                print(f"hostile: {call} took {accepted:.2f} s, and {refused:.2f} for a refusal")
+                self.assertLess(refused, 6 * accepted + count / 200_000)
+
+    def spent(self, database: sqlite3.Connection, call: str, argument: str) -> float:
+        start = time.process_time()
+        with contextlib.suppress(sqlite3.OperationalError):
+            database.execute(f"select {call}", [argument]).fetchall()
+        return time.process_time() - start
+
+
 if __name__ == "__main__":
     unittest.main()

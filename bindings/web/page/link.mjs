@@ -23,10 +23,10 @@ export async function stateOf(fragment) {
   }
 }
 
-/** A state is an object of texts. */
-function checked(state) {
-  const texts = [state.registry, state.format, state.side, state.content, state.first, state.second];
-  return texts.every((text) => typeof text === 'string') ? state : undefined;
+/** A state is an object of texts, and of the formats of byte strings by their names, which older links don't have. */
+function checked({ registry, format, side, content, first, second, inside = {} }) {
+  const texts = [registry, format, side, content, first, second, ...Object.values(inside)];
+  return texts.every((text) => typeof text === 'string') ? { registry, format, side, content, first, second, inside } : undefined;
 }
 
 async function piped(blob, stream) {

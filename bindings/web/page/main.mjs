@@ -5,7 +5,7 @@ import { coded, decoded } from './coding.mjs';
 import { Digits } from './digits.mjs';
 import { Lights } from './lights.mjs';
 import { fragmentOf, stateOf } from './link.mjs';
-import { counted, shownName, shownNumber } from './names.mjs';
+import { counted, listedNames, shownName, shownNumber } from './names.mjs';
 import { Pane } from './pane.mjs';
 import { lineAndColumn, rangeAt, rangeOfLine } from './places.mjs';
 import { Questions } from './questions.mjs';
@@ -30,6 +30,8 @@ class Page {
   #tree = new Tree($('tree'), this.#lights);
   #side = 'text';
   #coding = 'hex';
+  // whether the reader has typed what that side holds, or opened it
+  #isOwn = false;
   #part = '';
   // the formats of the byte strings that the reader opened, by their names, and the one that can be opened now
   #inside = {};
@@ -107,15 +109,17 @@ class Page {
     const { registry, format, side, content } = this.#examples[i];
     $('example').value = String(i);
     await this.#show({ registry, format, side, content });
-    if (content === '' && $('example').value === String(i)) await this.#fill('blank', {});
+    if (content === '' && $('example').value === String(i)) await this.#fillBlank();
   }
 
   /** Takes over a whole state: that of an example, or of a link. */
-  async #show({ registry, format, side, content }) {
+  async #show({ registry, format, side, content, inside = {} }) {
     this.#coding = $('coding').value = 'hex';
     this.panes.registry.content = registry;
     this.#side = side;
-    this.#inside = {};
+    this.#isOwn = false;
+    this.#inside = inside;
+    $('modules-verdict').textContent = '';
     this.panes[side].content = content;
     this.panes[this.#otherSide].content = '';
     await this.#readRegistry(format);
@@ -124,10 +128,15 @@ class Page {
   /** The registry of modules, which takes the place of the one that is there, or goes beside its containers. */
   async #makeRegistry(beside) {
     const asked = { modules: this.panes.modules.content, types: this.panes.types.content, beside };
+    const verdict = $('modules-verdict');
+    if (asked.types.trim() === '') {
+      verdict.className = 'bad';
+      verdict.textContent = 'name a type or a function, each on a line of its own';
+      return;
+    }
     const told = await this.#questions.ask('modules', asked);
     if (told === undefined) return;
     const { answer, refusal } = told;
-    const verdict = $('modules-verdict');
     verdict.className = refusal ? 'bad' : 'good';
     verdict.textContent = refusal ? toldOfRefusal(refusal) : shownName(answer.notes || 'a registry was made', 1000);
     this.panes.modules.mark(refusal?.kind === 'modules' ? rangeOf(this.panes.modules.content, refusal) : undefined);
@@ -136,12 +145,17 @@ class Page {
     await this.#readOwnRegistry();
   }
 
-  /** A registry without the container that was chosen gets its own root, and a blank value of that. */
+  /**
+   * Of a registry without the container that was chosen, its root is chosen, with a blank value if the reader hasn't typed
+   * one. A format that the reader typed stays.
+   */
   async #readOwnRegistry() {
     $('example').value = OWN;
     this.#inside = {};
-    const isOther = await this.#readRegistry(this.#format, true);
-    if (isOther) await this.#fill('blank', {});
+    const isOther = await this.#readRegistry(this.#format, $('container').value !== OWN);
+    if (!isOther) return;
+    const isKept = this.#isOwn && this.panes[this.#side].content.trim() !== '';
+    await (isKept ? this.#answer() : this.#fillBlank());
   }
 
   /** Whether the format is now the root of the registry, in place of one that isn't there. */
@@ -160,7 +174,9 @@ class Page {
   }
 
   #listContainers(names, format) {
-    const options = names.map((name) => new Option(shownName(name, 60), JSON.stringify({ TYPENAME: name })));
+    const listed = listedNames(names);
+    const options = names.map((name, i) => new Option(listed[i], JSON.stringify({ TYPENAME: name })));
+    for (const [i, option] of options.entries()) option.title = shownName(names[i], 400);
     $('container').replaceChildren(...options, new Option('another format', OWN));
     $('container').value = format;
     if ($('container').selectedIndex < 0) $('container').value = OWN;
@@ -215,6 +231,7 @@ class Page {
   #changed(side) {
     $('example').value = OWN;
     this.#side = side;
+    this.#isOwn = true;
     this.#later('value', () => this.#answer());
   }
 
@@ -241,10 +258,11 @@ class Page {
     this.#digits.show(explained);
     this.#tree.show(explained);
     this.#tellLit(-1, -1);
-    $('opening').hidden = true;
+    $('opening').hidden = $('part').hidden = true;
     $('pieces-note').textContent = noteOn(explained);
     if (fault) this.#tellFault(fault, explained.stop);
-    else tellVerdict('', `${counted(answer.length, 'byte', 'bytes')}:`, ` the one encoding of this value.${toldOfTrouble(explained.trouble)}`);
+    else if (explained.trouble) tellVerdict('bad', 'Byte strings stay closed:', toldOfTrouble(explained.trouble, answer.length));
+    else tellVerdict('', `${counted(answer.length, 'byte', 'bytes')}:`, ' the one encoding of this value.');
   }
 
   #fillOtherSide({ text, digits, length }) {
@@ -272,7 +290,9 @@ class Page {
     const range = pane.isCut ? undefined : rangeOf(pane.content, fault);
     pane.mark(range);
     const way = at ? ` At ${shownName(at, 400)}:` : '';
-    const words = detail === undefined || reason === 'NotJson' ? '' : `${way} ${shownName(detail, 400)}.`;
+    // (the button tells the line)
+    const told = reason === 'NotJson' ? detail?.replace(/^line \d+, column \d+(: |$)/, '') : detail;
+    const words = told ? `${way} ${shownName(told, 400)}.` : '';
     tellVerdict('bad', `Refused${range ? ' at ' : ''}`, `: ${reason}. ${sentenceOn(kind, reason)}${words}`, range && (() => {
       const { line, column } = lineAndColumn(pane.content, range[0]);
       const button = document.createElement('button');
@@ -283,29 +303,30 @@ class Page {
     })());
   }
 
-  /** The line below the views: what is lit. */
+  /** The line below the views: what is lit. The buttons stay where the pointer leaves the views. */
   #tellLit(from, to) {
     const { pieces } = this.#explained;
     const lit = pieces.slice(Math.max(from, 0), Math.max(to, 0));
     $('detail').textContent = lit.length === 0 ? 'Point at digits or at a row, or go there by the arrow keys.' : detailOf(lit);
     // No part is inside a key.
+    if (lit.length === 0) return;
     this.#offerOpening(lit);
     const name = lit.length === 1 && lit[0].path !== null ? lit[0].name : null;
     $('part').hidden = name === null;
-    this.#part = name === null ? '' : `bcs part --name ${quoted(name)} registry.json ${quoted(this.#wordOfFormat)} value.hex`;
+    const coding = this.#coding === 'base64' ? '--base64 ' : '';
+    this.#part = name === null ? '' : `bcs part ${coding}--name ${quoted(name)} registry.json ${quoted(this.#wordOfFormat)} value.${this.#coding}`;
   }
 
-  /** Offers to open the byte string that is lit, or to close the opened one. It stays where the pointer leaves the views. */
+  /** Offers to open the byte string that is lit, or to close the opened one. */
   #offerOpening(lit) {
     const byteString = byteStringOf(lit);
-    const opened = lit.length > 0 ? openedAround(lit[0].name, Object.keys(this.#inside)) : undefined;
-    if (lit.length === 0) return;
+    const opened = openedAround(lit[0].name, Object.keys(this.#inside));
     const name = byteString?.name ?? opened;
     $('opening').hidden = name === undefined;
     if (name === undefined) return;
     this.#opening = name;
     const containers = [...$('container').options].filter(({ value }) => value !== OWN);
-    const options = containers.map(({ text, value }) => new Option(text, value));
+    const options = containers.map((option) => option.cloneNode(true));
     $('inside').replaceChildren(new Option(this.#inside[name] === undefined ? 'choose a container' : 'close it', CLOSED), ...options);
     $('inside').value = this.#inside[name] ?? CLOSED;
     $('inside').ariaLabel = `Open ${shownName(name, 100)} as`;
@@ -322,12 +343,20 @@ class Page {
     }
   }
 
-  async #fill(question, asked) {
+  /** Fills in a blank value, unless the reader types meanwhile. */
+  #fillBlank() {
+    this.#isOwn = false;
+    return this.#fill('blank', {}, () => this.#isOwn);
+  }
+
+  async #fill(question, asked, isTyped = () => false) {
     const { answer, refusal } = (await this.#questions.ask(question, { ...this.#asked, ...asked })) ?? {};
+    if (isTyped()) return;
     if (refusal) this.#tellFault(refusal);
     if (!answer) return;
     const { front, isCut } = typeof answer.text === 'string' ? { front: answer.text, isCut: false } : answer.text;
     if (isCut) return tellVerdict('bad', 'Too long:', ' it isn’t shown here.');
+    if (question === 'blank') this.#isOwn = false;
     this.panes.text.content = front;
     this.#side = 'text';
     await this.#answer();
@@ -351,7 +380,9 @@ class Page {
     if (told === undefined) return;
     const { answer, refusal } = told;
     verdict.className = answer?.isEqual ? 'good' : 'bad';
-    verdict.textContent = refusal ? `refused: ${refusal.reason ?? refusal.detail}` : answer.isEqual ? 'equal' : 'different';
+    const refused = refusal ?? answer.refusal;
+    const which = answer?.which === undefined ? '' : `the ${answer.which} document is `;
+    verdict.textContent = refused ? which + toldOfRefusal(refused) : answer.isEqual ? 'equal' : 'different';
   }
 
   // Links, the clipboard and files
@@ -362,7 +393,8 @@ class Page {
     // (a link has hexadecimal digits)
     const { bytes } = this.#side === 'bytes' && this.#coding !== 'hex' ? decoded(shown, this.#coding) : {};
     const content = bytes === undefined ? shown : coded(bytes, 'hex');
-    const fragment = await fragmentOf({ registry, format, side: this.#side, content, first, second });
+    if (!('CompressionStream' in globalThis)) return flash($('link'), 'Not in this browser');
+    const fragment = await fragmentOf({ registry, format, side: this.#side, content, first, second, inside: this.#inside });
     if (fragment === undefined) return flash($('link'), 'Too long for a link');
     history.replaceState(null, '', `#${fragment}`);
     flash($('link'), (await copied(location.href)) ? 'Link copied' : 'In the address bar');
@@ -413,15 +445,17 @@ class Page {
     if (file.size > MOST_OPENED) return tellVerdict('bad', 'No answer:', ' the file is above 256 MiB.');
     const { pane } = $('file').dataset;
     const bytes = new Uint8Array(await file.arrayBuffer());
-    if (pane === 'bytes') this.#coding = $('coding').value = 'hex';
-    this.panes[pane].content = pane === 'bytes' ? digitsIn(bytes) : new TextDecoder().decode(bytes);
+    // (the page saves such files, and never guesses)
+    const isBase64 = file.name.endsWith('.base64');
+    if (pane === 'bytes') this.#coding = $('coding').value = isBase64 ? 'base64' : 'hex';
+    this.panes[pane].content = pane === 'bytes' && !isBase64 ? digitsIn(bytes) : new TextDecoder().decode(bytes);
     this.panes[pane].whenChanged();
   }
 }
 
 const FORMAT_WORDS = /^(UNIT|BOOL|STR|BYTES|CHAR|[UI](8|16|32|64|128)|F32|F64)$/;
 const DIGIT_FAULTS = {
-  sign: 'two hexadecimal digits stand for each byte, 0 to 9 and a to f. There is another sign.',
+  sign: 'two hexadecimal digits stand for each byte, 0 to 9 and a to f. If this is base64, choose that.',
   odd: 'two hexadecimal digits stand for each byte. One is missing.',
   base64: 'this isn’t base64 with its padding, or choose hexadecimal.',
 };
@@ -476,7 +510,7 @@ function rangeOf(text, { reason, at, detail }) {
 }
 
 function toldOfRefusal({ reason, at, detail }) {
-  const words = [reason, at && `at ${shownName(at, 200)}`, detail && shownName(detail, 200)];
+  const words = [reason, at && `at ${shownName(at, 200)}`, detail && shownName(detail, 4000)];
   return `refused: ${words.filter(Boolean).join(', ')}`;
 }
 
@@ -489,13 +523,12 @@ function toldOfContainers({ count, names }) {
   return counted(count, 'container', 'containers') + listed;
 }
 
-/** Why the byte strings stay closed. */
-function toldOfTrouble(trouble) {
-  if (trouble === undefined) return '';
-  const { reason, place, want, name, detail } = trouble;
+/** Why the byte strings stay closed, for a value of so many bytes. */
+function toldOfTrouble({ reason, place, want, name, detail }, length) {
   const where = place === undefined ? '' : ` at byte ${shownNumber(place)}`;
   const words = want === undefined ? shownName(detail ?? '', 200) : `expected there: ${shownName(want)}, at ${shownName(name, 200)}`;
-  return ` Its byte strings stay closed, since one isn’t a value of its format: ${reason}${where}, ${words}.`;
+  const whole = `The ${counted(length, 'byte', 'bytes')} are the one encoding of the value around it.`;
+  return ` one isn’t a value of its format: ${reason}${where}, ${words}. ${whole}`;
 }
 
 /** The content of the byte string that is lit, alone or behind its length. */

@@ -187,7 +187,17 @@ function normal({ registry: text, format, content }) {
 }
 
 function compare({ registry: text, format, first, second }) {
-  return { isEqual: opened(text).registry.equalText(format, first, second) };
+  const { registry } = opened(text);
+  for (const [which, document] of Object.entries({ first, second })) {
+    try {
+      registry.encodeText(format, document);
+    } catch (error) {
+      const refusal = refusalOf(error);
+      if (refusal.kind !== 'text') throw error;
+      return { which, refusal };
+    }
+  }
+  return { isEqual: registry.equalText(format, first, second) };
 }
 
 /** The whole of the last value, for the clipboard or a file. */

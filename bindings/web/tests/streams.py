@@ -28,7 +28,7 @@ NUMBER = ["encode", "{}", '"I16"']
 BYTES = ["--raw", "{}", '{"SEQ":"U8"}']
 NO_FILE = (
     "No such file or directory"
-    "; a value itself goes to standard input, and a registry or a module itself starts with {"
+    "; a value itself goes to standard input, a registry itself starts with {, and modules with { or ["
 )
 WRITE_FAULT = b"fault: write\nin the standard output\n"
 

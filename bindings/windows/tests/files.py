@@ -16,7 +16,7 @@ REGISTRY = '{"S":{"STRUCT":[{"id":"U8"},{"owner":"BOOL"}]}}'
 # Beyond ASCII, with characters beyond 16 bits, with blanks and in folders.
 NO_FILE = (
     "No such file or directory"
-    "; a value itself goes to standard input, and a registry or a module itself starts with {"
+    "; a value itself goes to standard input, a registry itself starts with {, and modules with { or ["
 )
 NAMES = ["é.json", "漢字😀.json", "a b/c d.json", "é/ß.json", "%TEMP%.json", "it's.json", "(1)&^!.json", "-.json"]
 # Windows had a limit of 260 characters for a path.

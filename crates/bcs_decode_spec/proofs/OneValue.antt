@@ -1,5 +1,5 @@
 -- A value of each kind, from exact parsers of its parts.
-use Rattle.bcs_decode_spec.proofs.Prelude.{◌≡◌, ℕ, suc, ◌^◌, ◌==◌, nat_le, false, List, ◌∷◌, ◌++◌, length, None, refl, sym, ap, ap₂, subst, ◌∙◌, arith, inl, inr, false≢true, and_parts, and_from, ltb-true, lt-ltb, leb-true, le-leb, eq-eqb, nat-same, Width, byte_len, bits, uleb, le, holds_signed-is, is-holds_signed, Shape, shape, Entries, Content, of, Tree, Trees, tree, Pairs, count, pair_count, nodes, trees_nodes, pairs_nodes, all_fit, plain, plain_items, plain_pairs, length_limit, all_hold, pairs_hold, Reason, BadBool, Unsupported, IsDecodable, Parser, chain, give, fail_here, node, length_here, bytes_here, text_here, flag_here, unsigned_here, signed_here, items_here, pairs_here, option_here, building, Stopping, AfterLength, BytesStop, TextStop, FlagStop, FailStop, OptionStop, NodeStop, ItemsStop, PairsStop, AreBytes, Reads, Exact}
+use Rattle.bcs_decode_spec.proofs.Prelude.{◌≡◌, ℕ, suc, ◌^◌, ◌==◌, nat_le, false, List, ◌∷◌, ◌++◌, length, None, refl, sym, ap, ap₂, subst, ◌∙◌, arith, inl, inr, false≢true, and_parts, and_from, ltb-true, lt-ltb, leb-true, le-leb, eq-eqb, nat-same, Width, byte_len, bits, uleb, le, holds_signed-is, is-holds_signed, Shape, Entries, Content, of, Tree, Trees, Pairs, count, pair_count, nodes, trees_nodes, pairs_nodes, all_fit, plain, plain_items, plain_pairs, length_limit, all_hold, pairs_hold, Reason, BadBool, Unsupported, IsDecodable, Parser, chain, give, fail_here, node, length_here, bytes_here, text_here, flag_here, unsigned_here, signed_here, items_here, pairs_here, option_here, building, Stopping, AfterLength, BytesStop, TextStop, FlagStop, FailStop, OptionStop, NodeStop, ItemsStop, PairsStop, AreBytes, Reads, Exact}
 use Rattle.bcs_registry_model.specs.Shape as shape
 use Rattle.bcs_value_model.specs.Tree as tree
 use Rattle.bcs_decode_spec.proofs.Combine.{exact_give, exact_fail_here, exact_same, exact_node, GiveReads, NoReads, NoStop}

@@ -5,3 +5,4 @@ pub mod Steps
 pub mod Exact
 pub mod Laws
 pub mod Stop
+pub mod Width

@@ -1,6 +1,7 @@
 //! The contents of a container or a variant.
 
 use bcs_registry::{Container, Format, Named, Registry, VariantFormat};
+use bcs_registry_model::Kind;
 use std::collections::BTreeMap;
 
 /// The contents of a container, or the payload of a variant.
@@ -8,6 +9,8 @@ use std::collections::BTreeMap;
 pub(crate) enum Content<'a> {
     Unit,
     One(&'a Format),
+    /// The bytes of an integer of Move, of which BCS has no format.
+    Number(&'a Format),
     Row(&'a [Format]),
     Fields(&'a [Named<Format>]),
     Variants(Enum<'a>),
@@ -34,11 +37,28 @@ impl<'a> Content<'a> {
     pub(crate) fn of(name: &'a str, container: &'a Container) -> Content<'a> {
         match container {
             Container::UnitStruct => Content::Unit,
-            Container::NewTypeStruct(format) => Content::One(format),
+            Container::NewTypeStruct(format) => newtype(name, format),
             Container::TupleStruct(formats) => Content::Row(formats.as_slice()),
             Container::Struct(fields) => Content::Fields(fields.as_slice()),
             Container::Enum(variants) => Content::Variants(Enum { name, variants }),
         }
+    }
+}
+
+// Registries of chains and of `bcs from-move` have such containers for `u256` and `i256`.
+fn newtype<'a>(name: &str, format: &'a Format) -> Content<'a> {
+    let is_number = name.eq_ignore_ascii_case("u256") || name.eq_ignore_ascii_case("i256");
+    if is_number && has_32_bytes(format) {
+        Content::Number(format)
+    } else {
+        Content::One(format)
+    }
+}
+
+fn has_32_bytes(format: &Format) -> bool {
+    match format.kind() {
+        Kind::TupleArray(element, size) => size == 32 && matches!(element, Format::U8),
+        _ => false,
     }
 }
 

@@ -42,7 +42,7 @@ impl fmt::Display for Expected<'_> {
             Expected::Whole(number, found) => {
                 write!(f, "{found}")?;
                 write_whole(*number, f)?;
-                f.write_str(found.advice())
+                f.write_str(found.advice(*number))
             }
             Expected::Unsupported(word) => {
                 write!(f, "BCS has no {word}; this format can't have a value")

@@ -26,6 +26,7 @@ pub(crate) fn expectation<'a>(
     let expectation = match target {
         Target::Content(Content::Unit) => Some(Expected::Words("expected null")),
         Target::Content(Content::One(format)) => format_expectation(format, outline),
+        Target::Content(Content::Number(format)) => number_expectation(format, outline),
         Target::Content(Content::Row(formats)) => row_expectation(formats.len() as u64, json),
         Target::Content(Content::Fields(fields)) => struct_expectation(alloc, fields, json)?,
         Target::Content(Content::Variants(choices)) => {
@@ -46,6 +47,16 @@ fn format_expectation<'a>(format: &Format, outline: &'a Outline) -> Option<Expec
         Kind::Map(_, _) => map_expectation(json),
         Kind::Tuple(formats) => row_expectation(formats.len() as u64, json),
         Kind::TupleArray(element, size) => array_expectation(element, size, json),
+    }
+}
+
+// The bytes of a number of 256 bits. If the digits of a decimal number are padded, they are those of another number.
+fn number_expectation<'a>(format: &Format, outline: &'a Outline) -> Option<Expected<'a>> {
+    match (&outline.json, format_expectation(format, outline)) {
+        (Json::String(_) | Json::Number(_), Some(_)) => Some(Expected::Words(
+            "write 64 hexadecimal digits, the lowest byte first: 1000 is e803 and 60 zeros",
+        )),
+        (_, expectation) => expectation,
     }
 }
 

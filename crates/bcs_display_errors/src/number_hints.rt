@@ -2,14 +2,17 @@
 
 use crate::json_outline::Outline;
 use bcs_display_refusal::Name;
+use bcs_registry_model::IntegerKind;
 use serde_json::Value as Json;
 use std::fmt;
 
 /// What was found where an integer was expected, written in front of what was expected.
 #[derive(Clone, Copy)]
 pub(crate) enum FoundNumber<'a> {
-    /// A number, as the document writes it, perhaps in a string.
-    Number(Name<'a>),
+    /// A number, as the document writes it.
+    Bare(Name<'a>),
+    /// A number in a string.
+    Quoted(Name<'a>),
     /// Another string.
     Text(Name<'a>),
     /// Anything else, by these words.
@@ -19,8 +22,8 @@ pub(crate) enum FoundNumber<'a> {
 impl<'a> FoundNumber<'a> {
     pub(crate) fn of(outline: &'a Outline) -> FoundNumber<'a> {
         match &outline.json {
-            Json::Number(_) => FoundNumber::Number(Name::of(outline.digits.as_str())),
-            Json::String(text) if is_whole(text) => FoundNumber::Number(Name::of(text.as_str())),
+            Json::Number(_) => FoundNumber::Bare(Name::of(outline.digits.as_str())),
+            Json::String(text) if is_whole(text) => FoundNumber::Quoted(Name::of(text.as_str())),
             Json::String(text) => FoundNumber::Text(Name::of(text.as_str())),
             Json::Null => FoundNumber::Other("null"),
             Json::Bool(true) => FoundNumber::Other("true"),
@@ -31,12 +34,22 @@ impl<'a> FoundNumber<'a> {
     }
 
     /// What is wrong with the digits of a number, if they spell none of this program's, after what was expected.
-    pub(crate) fn advice(self) -> &'static str {
+    pub(crate) fn advice(self, expected: IntegerKind) -> &'static str {
         match self {
-            FoundNumber::Number(name) | FoundNumber::Text(name) => advice_for(name.text()),
+            FoundNumber::Bare(name) if expected.byte_len() > 8 && is_long(name.text()) => QUOTES,
+            FoundNumber::Bare(name) | FoundNumber::Quoted(name) | FoundNumber::Text(name) => {
+                advice_for(name.text())
+            }
             FoundNumber::Other(_) => "",
         }
     }
+}
+
+const QUOTES: &str = "; a number above 64 bits belongs in double quotes";
+
+// Whether these are the digits of a number that may be above 64 bits.
+fn is_long(text: &str) -> bool {
+    is_whole(text) && text.len() > 18
 }
 
 // What to leave out of digits.
@@ -84,7 +97,10 @@ fn is_decimal(text: &str) -> bool {
 impl fmt::Display for FoundNumber<'_> {
     fn fmt<W: fmt::Write>(&self, f: &mut fmt::Formatter<W>) -> fmt::Result {
         match self {
-            FoundNumber::Number(number) => write!(f, "found {number}, "),
+            FoundNumber::Bare(number) | FoundNumber::Quoted(number) => write!(
+                f,
+                "found {number}, "
+            ),
             FoundNumber::Text(text) => write!(f, "found \"{text}\", "),
             FoundNumber::Other(words) => write!(f, "found {words}, "),
         }

@@ -37,10 +37,14 @@ fn bad_step(alloc: Global, number: u64, text: &str) -> Result<Refusal, AllocErro
     Ok(Refusal::of("BadPath", location, message).in_argument("PATH"))
 }
 
+const NAMED: &str =
+    "expected a number, inner, or key: and hexadecimal digits; a name such as .a[0] belongs to --name";
+
 // What is wrong with an invalid step that isn't empty.
 fn message_of(text: &str) -> &'static str {
     match text.strip_prefix("key:") {
         Some(digits) if has_prefix(digits.as_bytes()) => PREFIX,
+        _ if text.len() > 1 && text.starts_with('.') => NAMED,
         _ => "expected a number, inner, or key: and hexadecimal digits",
     }
 }

@@ -69,7 +69,7 @@ impl<'a> Target<'a> {
                 _ => return None,
             },
             Target::Content(Content::Row(formats)) => formats.get(number)?,
-            Target::Content(Content::One(format)) => match format {
+            Target::Content(Content::One(format) | Content::Number(format)) => match format {
                 Format::Map(key, value) => return Some(Target::Entry(key, value)),
                 Format::Seq(element) | Format::TupleArray(element, _) => element,
                 Format::Tuple(formats) => formats.get(number)?,

@@ -37,5 +37,6 @@ pub(crate) fn wrong_count(
     Ok(InnerStop {
         stop: Stop { reason, place },
         refusal: refusal_with(alloc, reason, halt, message)?,
+        past: u64::MAX,
     })
 }

@@ -19,6 +19,8 @@ const UNSUPPORTED: &str = "BCS has no F32, F64 or CHAR; this format can't have a
 pub(crate) struct InnerStop {
     pub stop: Stop,
     pub refusal: Refusal,
+    /// The byte offset after the byte string, or the greatest one.
+    pub past: u64,
 }
 
 /// The same, and what is printed about it.

@@ -117,12 +117,13 @@ fn with_views(
     match put_walk(alloc, scene, bytes, walk, LEVELS, &mut out)? {
         Inside::Ended(ending) => {
             let stop = ending.inner.stop;
+            let inside = bytes.get(..ending.inner.past as usize).unwrap_or(bytes);
             put_stop(
                 scene.style,
                 stop,
                 ending.end,
                 ending.halt,
-                bytes,
+                inside,
                 &mut out.text,
             )?;
             Ok(Explanation {

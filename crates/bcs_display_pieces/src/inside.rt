@@ -158,6 +158,7 @@ fn inner_stop(
             place: start.saturating_add(stop.place),
         },
         refusal: refusal_at(alloc, registry, stop.reason, &walk.halt, found)?,
+        past: start.saturating_add(bytes.len() as u64),
     })
 }
 

@@ -22,7 +22,7 @@ pub(crate) fn bad_path(
     text: &str,
 ) -> Result<RefusedView, AllocError> {
     let expected = match argument {
-        "--call" => "expected NAME=FUNCTION, as in .args=0x1::coin::transfer",
+        "--call" => "expected NAME=FUNCTION, as in .args=0x1::aptos_account::transfer",
         _ => "expected NAME=FORMAT, as in .args[1]=\"U64\"",
     };
     let refusal = refused(alloc, argument, "BadPath", text, expected)?;
@@ -42,7 +42,7 @@ pub(crate) fn refused_name(
     let expected = match fault {
         RegistryFault::OutOfMemory => return Err(AllocError),
         RegistryFault::UnknownName =>
-            "expected a format whose names are containers of the registry",
+            "expected containers of the registry; a format without a name is JSON, as '\"U64\"'",
         RegistryFault::NotJson
         | RegistryFault::BadShape
         | RegistryFault::BadNumber

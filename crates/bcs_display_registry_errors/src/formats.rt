@@ -74,9 +74,18 @@ pub fn unknown_name(
     let Some(name) = first_unknown(&format, registry.containers()) else {
         return Ok(None);
     };
-    let suggestion = Suggestion::of(nearest_container(alloc, registry.containers(), name)?);
+    let nearest = nearest_container(alloc, registry.containers(), name)?;
+    let meant = meant_word(alloc, name)?;
     let name = Name::of(name);
-    let message = format!(in alloc; "no container is called {name}{suggestion}")?;
+    let message = match (nearest, meant) {
+        (None, Some(meant)) => format!(in alloc;
+            "no container is called {name}; the format {meant} is JSON, \"{meant}\" with its quotes"
+        )?,
+        (nearest, _) => {
+            let suggestion = Suggestion::of(nearest);
+            format!(in alloc; "no container is called {name}{suggestion}")?
+        }
+    };
     Ok(Some(unknown("FORMAT", message)))
 }
 

@@ -5,7 +5,8 @@ use bcs_registry::Container;
 use std::alloc::{AllocError, Global};
 use std::collections::BTreeMap;
 
-/// The container with the nearest name, if one is near.
+/// The container with the same name but for case and zeros at the front of addresses, or else with the nearest name, if
+/// one is near.
 pub(crate) fn nearest_container<'a>(
     alloc: Global,
     containers: &'a BTreeMap<String, Container>,
@@ -13,10 +14,26 @@ pub(crate) fn nearest_container<'a>(
 ) -> Result<Option<&'a str>, AllocError> {
     let mut search = NearestName::to(word);
     for name in containers.keys() {
-        if search.is_over() {
-            break;
+        if has_same_addresses(name.as_str(), word) {
+            return Ok(Some(name.as_str()));
         }
         search.consider(alloc, name.as_str())?;
     }
     Ok(search.found())
+}
+
+/// Whether the names are the same but for case and for zeros after each `0x`, as in `0x01::coin::Coin` and
+/// `0x1::coin::Coin`.
+fn has_same_addresses(name: &str, word: &str) -> bool {
+    let (mut name, mut word) = (name, word);
+    for _ in 0..word.len() {
+        match (name.split_once("0x"), word.split_once("0x")) {
+            (Some((before, after)), Some((front, rest))) if before.eq_ignore_ascii_case(front) => {
+                name = after.trim_start_matches('0');
+                word = rest.trim_start_matches('0');
+            }
+            _ => break,
+        }
+    }
+    name.eq_ignore_ascii_case(word)
 }

@@ -28,21 +28,33 @@ pub(crate) fn put_found(
             out.extend_from_slice(text.as_bytes())
         }
         Value::String(word) => put_word(alloc, part, word, out),
-        Value::Array(_) => {
+        Value::Array(items) => {
             out.extend_from_slice(b", found an array")?;
-            out.extend_from_slice(advice_for_array(part).as_bytes())
+            out.extend_from_slice(advice_for_array(part, items).as_bytes())
         }
         Value::Object(members) => put_members(alloc, part, members, out),
     }
 }
 
-fn advice_for_array(part: Part) -> &'static str {
+fn advice_for_array(part: Part, items: &[Value]) -> &'static str {
     match part {
+        Part::Registry if are_modules(items) => MODULES,
         Part::Registry => VALUE,
         Part::Format => "; a list is {\"SEQ\":\"U8\"}, and a tuple {\"TUPLE\":[\"U8\",\"U8\"]}",
         Part::Variants =>
             "; write an object, {\"0\":{\"NAME\":\"UNIT\"}}, with the number of each variant",
         _ => "",
+    }
+}
+
+const MODULES: &str = "; these are modules of Move: bcs from-move makes a registry from them";
+
+/// Whether the first item is like a module of Aptos or Sui.
+fn are_modules(items: &[Value]) -> bool {
+    match items.first() {
+        Some(Value::Object(members)) => members.contains_key("abi")
+            || members.contains_key("structs"),
+        _ => false,
     }
 }
 
@@ -178,6 +190,9 @@ fn put_member(alloc: Global, part: Part, name: &str, out: &mut Vec<u8>) -> Resul
     if part == Part::Format && name == "VARIABLE" {
         return out.extend_from_slice(b"; the tracer left this format open: trace more values");
     }
+    if part == Part::Container && FORMATS.contains(&name) {
+        return put_around("; write {\"NEWTYPESTRUCT\":{\"", name, "\":..}}", out);
+    }
     match meant_among(alloc, name, names)? {
         Some(meant) => put_around("; did you mean ", meant, "?", out),
         None => put_names(names, out),
@@ -217,9 +232,8 @@ pub(crate) fn looks_like_value(json: &Value) -> bool {
 fn looks_like_container(member: &Value) -> bool {
     match member {
         Value::String(word) => is_container_word(word.as_str()) || word_format(word).is_some(),
-        Value::Object(members) => members
-            .iter()
-            .any(|(name, _)| is_container_word(name.as_str())),
+        Value::Object(members) => members.iter().any(|(name, _)| is_container_word(name.as_str())
+            || FORMATS.contains(&name.as_str())),
         _ => false,
     }
 }

@@ -3,6 +3,7 @@
 use crate::formats::{put_type_name, wrong_count};
 use crate::maker::Maker;
 use crate::missing::note_missing;
+use bcs_display_mistakes::Suggestion;
 use bcs_move_types::declarations::Declaration;
 use bcs_move_types::modules::Modules;
 use bcs_move_types::move_type::MoveType;
@@ -48,14 +49,18 @@ pub(crate) fn find_type<'a, 'm>(
 ) -> Result<Option<&'a Declaration<'m>>, MoveFault> {
     match modules.declared_type(head) {
         Some(declaration) => Ok(Some(declaration)),
-        None if modules.has_module_of(head) => Err(unknown_name(alloc, head, place)),
+        None if modules.has_module_of(head) => {
+            let nearest = modules.nearest(alloc, head)?;
+            Err(unknown_name(alloc, head, nearest, place))
+        }
         None => Ok(None),
     }
 }
 
-fn unknown_name(alloc: Global, head: &str, place: &Place<'_>) -> MoveFault {
+fn unknown_name(alloc: Global, head: &str, nearest: Option<&str>, place: &Place<'_>) -> MoveFault {
+    let suggestion = Suggestion::of(nearest);
     let message = format!(in alloc;
-        "the module of {head} is here, and has no struct or enum with this name, nor a function that others may call"
+        "the module of {head} is here, and has no struct or enum with this name, nor a function that others may call{suggestion}"
     );
     refusal_with(alloc, MoveRefusalName::UnknownName, place, message)
 }

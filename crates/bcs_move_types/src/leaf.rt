@@ -20,6 +20,25 @@ pub enum Leaf {
     Signer,
 }
 
+/// All of them.
+pub(crate) const LEAVES: &[Leaf] = &[
+    Leaf::Bool,
+    Leaf::U8,
+    Leaf::U16,
+    Leaf::U32,
+    Leaf::U64,
+    Leaf::U128,
+    Leaf::U256,
+    Leaf::I8,
+    Leaf::I16,
+    Leaf::I32,
+    Leaf::I64,
+    Leaf::I128,
+    Leaf::I256,
+    Leaf::Address,
+    Leaf::Signer,
+];
+
 impl Leaf {
     /// The name that both chains print.
     pub fn word(self) -> &'static str {
@@ -44,24 +63,7 @@ impl Leaf {
 
     /// The leaf with this name.
     pub(crate) fn called(word: &str) -> Option<Leaf> {
-        Some(match word {
-            "bool" => Leaf::Bool,
-            "u8" => Leaf::U8,
-            "u16" => Leaf::U16,
-            "u32" => Leaf::U32,
-            "u64" => Leaf::U64,
-            "u128" => Leaf::U128,
-            "u256" => Leaf::U256,
-            "i8" => Leaf::I8,
-            "i16" => Leaf::I16,
-            "i32" => Leaf::I32,
-            "i64" => Leaf::I64,
-            "i128" => Leaf::I128,
-            "i256" => Leaf::I256,
-            "address" => Leaf::Address,
-            "signer" => Leaf::Signer,
-            _ => return None,
-        })
+        LEAVES.iter().copied().find(|leaf| leaf.word() == word)
     }
 
     /// The leaf that the JSON of Sui spells this way.

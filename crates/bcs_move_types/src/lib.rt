@@ -19,3 +19,4 @@ pub mod shown;
 mod sui_types;
 pub mod type_text;
 pub mod words;
+mod wrong_types;

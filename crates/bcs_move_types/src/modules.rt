@@ -8,8 +8,9 @@ use crate::qualified::{module_called, split_name};
 use crate::refusal::{MoveFault, MoveRefusalName, refusal, refusal_with};
 use crate::shown::quoted;
 use crate::words::is_name;
+use bcs_display_mistakes::NearestName;
 use serde_json::Value;
-use std::alloc::Global;
+use std::alloc::{AllocError, Global};
 use std::collections::BTreeMap;
 
 /// The JSON of a module.
@@ -59,6 +60,34 @@ impl<'m> Modules<'m> {
     pub fn function(&self, full: &str) -> Option<&Declaration<'m>> {
         self.functions.get(full)
     }
+
+    /// What was probably meant by a name that the module doesn't declare, without the module's name.
+    pub fn nearest<'a>(
+        &'a self,
+        alloc: Global,
+        full: &'a str,
+    ) -> Result<Option<&'a str>, AllocError> {
+        let (module, name) = split_name(full);
+        let mut search = NearestName::to(name);
+        consider_all(alloc, module, &self.types, &mut search)?;
+        consider_all(alloc, module, &self.functions, &mut search)?;
+        Ok(search.found())
+    }
+}
+
+fn consider_all<'a>(
+    alloc: Global,
+    module: &str,
+    declared: &'a BTreeMap<String, Declaration<'_>>,
+    search: &mut NearestName<'a>,
+) -> Result<(), AllocError> {
+    for full in declared.keys() {
+        let (owner, name) = split_name(full.as_str());
+        if owner == module {
+            search.consider(alloc, name)?;
+        }
+    }
+    Ok(())
 }
 
 /// A module that is being added.

@@ -3,6 +3,7 @@
 use crate::place::Place;
 use crate::refusal::{MoveFault, MoveRefusalName, refusal_with};
 use crate::repeated_members::refuse_repeated_members;
+use bcs_display_mistakes::json_mistake;
 use serde_json::{Error, Value};
 use std::alloc::Global;
 
@@ -13,18 +14,19 @@ pub fn modules_value(alloc: Global, text: &str) -> Result<Value, MoveFault> {
             refuse_repeated_members(alloc, text)?;
             Ok(value)
         }
-        Err(error) => Err(no_json(alloc, &error)),
+        Err(error) => Err(no_json(alloc, text.as_bytes(), &error)),
     }
 }
 
-fn no_json(alloc: Global, error: &Error) -> MoveFault {
+fn no_json(alloc: Global, text: &[u8], error: &Error) -> MoveFault {
     if error.is_memory() {
         return MoveFault::OutOfMemory;
     }
-    let line = error.line();
-    let column = error.column();
-    let message = format!(in alloc;
-        "this isn't JSON, or nests more than 127 deep: see line {line}, column {column}"
-    );
+    let Some(mistake) = json_mistake(alloc, text) else {
+        return MoveFault::OutOfMemory;
+    };
+    let (line, column) = mistake.line_and_column(text);
+    let words = mistake.words;
+    let message = format!(in alloc; "line {line}, column {column}: {words}");
     refusal_with(alloc, MoveRefusalName::NotJson, &Place::At(""), message)
 }

@@ -5,9 +5,9 @@ use crate::move_type::{DEEPEST, LONGEST, MoveType};
 use crate::place::Place;
 use crate::printing::too_long;
 use crate::qualified::declared_called;
-use crate::refusal::{MoveFault, MoveRefusalName, refusal, refusal_with};
+use crate::refusal::{MoveFault, MoveRefusalName, refusal};
 use crate::words::parameter_called;
-use bcs_display_refusal::Name;
+use crate::wrong_types::no_type;
 use std::alloc::{AllocError, AllocFailed, Global};
 
 /// What is left of the text of a type.
@@ -50,7 +50,7 @@ impl<'a> Cursor<'a> {
 }
 
 /// How many bytes come before the first sign or space.
-fn word_len(text: &str) -> usize {
+pub(crate) fn word_len(text: &str) -> usize {
     for (index, byte) in text.as_bytes().iter().enumerate() {
         if matches!(*byte, b' ' | b'<' | b'>' | b',' | b'&') {
             return index;
@@ -94,14 +94,6 @@ pub fn type_of_text(alloc: Global, text: &str, place: &Place<'_>) -> Result<Move
         Err(TextFault::TooDeep) => Err(too_deep(alloc, place)),
         Err(TextFault::OutOfMemory) => Err(MoveFault::OutOfMemory),
     }
-}
-
-fn no_type(alloc: Global, text: &str, place: &Place<'_>) -> MoveFault {
-    let text = Name::of(text);
-    let message = format!(in alloc;
-        "\"{text}\" isn't a type: write one like 0x1::coin::Coin<u64>, vector<u8> or u64"
-    );
-    refusal_with(alloc, MoveRefusalName::BadType, place, message)
 }
 
 /// Refuses a type that nests too deep.
@@ -181,7 +173,8 @@ fn type_called(alloc: Global, word: &str, arguments: Vec<MoveType>) -> Result<Mo
     }
 }
 
-fn simple_type(word: &str) -> Option<MoveType> {
+/// The type of this word alone.
+pub(crate) fn simple_type(word: &str) -> Option<MoveType> {
     match Leaf::called(word) {
         Some(leaf) => Some(MoveType::Leaf(leaf)),
         None => Some(MoveType::Parameter(parameter_called(word)?)),

@@ -61,6 +61,8 @@ impl Registry {
     pub fn named_container(&self, format: &Format) -> Option<&Container>
         ensures found { IfSome result (λ c. (name : List ℕ) × (shape_of format.now ≡ name_shape name)
             × (content_at name self.now ≡ content (container_of c.now))) }
+        ensures named { (name : List ℕ) → shape_of format.now ≡ name_shape name
+            → option_map (λ c. container_of c.now) result ≡ container_at name self.now }
         ensures well_formed { IsWellFormed self.now }
     {
         self.recall();

@@ -52,7 +52,7 @@ fn no_content(alloc: Global, work: &Work) -> Result<Refusal, AllocError> {
         fault: Some("NoContent"),
         message: Vec::from_slice(
             alloc,
-            b"only STR, BYTES, and lists and arrays of U8 have a content; leave out --content",
+            b"only STR, BYTES, and lists and arrays of U8 have a content, and no container around one: explain --paths prints its PATH; or leave out --content",
         )?,
     })
 }

@@ -35,7 +35,7 @@ cause_text Other = []
 
 -- behind that, where a reader may have given the content in place of a name
 abbrev pub advice_text : OpenCause → List ℕ
-advice_text Missing = codes "; a value itself goes to standard input, and a registry or a module itself starts with {"
+advice_text Missing = codes "; a value itself goes to standard input, a registry itself starts with {, and modules with { or ["
 advice_text _ = []
 
 -- ---- the line

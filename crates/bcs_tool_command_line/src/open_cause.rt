@@ -60,7 +60,7 @@ impl OpenCause {
     {
         match self {
             OpenCause::Missing =>
-                "; a value itself goes to standard input, and a registry or a module itself starts with {",
+                "; a value itself goes to standard input, a registry itself starts with {, and modules with { or [",
             _ => "",
         }
     }

@@ -18,8 +18,8 @@ pub const MODULES: &str =
     Aptos or Sui returns for a module or a package, or an array of such answers";
 
 pub const TYPE: &str =
-    "A type, such as 0x1::coin::Coin<0x1::aptos_coin::AptosCoin>, or a function, whose arguments have \
-    containers of their own, such as 0x1::coin::transfer::arg0";
+    "A type, such as 0x1::coin::Coin<0x1::aptos_coin::AptosCoin>, or a function, such as \
+    0x1::aptos_account::transfer, whose arguments get containers: 0x1::aptos_account::transfer::arg0 and so on";
 
 pub const CONTAINER: &str =
     "The container to print, with everything it depends on, instead of the whole registry";

@@ -10,19 +10,24 @@ import java.util.Optional;
 
 /** Makes an encoder, with those of its parts. */
 final class Encoders {
-    /** Encoders of types that contain themselves form cycles, so one exists before its body. */
+    /**
+     * Encoders of types that contain themselves form cycles, so one exists before its body. The value may have another class than
+     * the type says, by a cast that Java doesn't check; of an integer, big checks the class.
+     */
     private static final class Late implements Encoder {
         private final Node node;
+        private final Class<?> type;
         private Encoder body;
 
-        Late(Node node) {
+        Late(Node node, Type type) {
             this.node = node;
+            this.type = Types.isInteger(type) ? Object.class : Types.boxed(Types.raw(type));
         }
 
         @Override
         public void write(JsonWriter w, Object value) {
-            if (value == null) {
-                throw node.mismatch(null);
+            if (!type.isInstance(value)) {
+                throw node.mismatch(value == null ? null : value.getClass());
             }
             w.begin(node, value);
             body.write(w, value);
@@ -65,7 +70,7 @@ final class Encoders {
         }
         Codec.Pair pair = new Codec.Pair(node, type);
         if (!made.containsKey(pair)) {
-            Late late = new Late(node);
+            Late late = new Late(node, type);
             made.put(pair, late);
             late.body = body(node, type);
         }

@@ -28,6 +28,9 @@ final class Formats {
 
     private void rename(String name, Kind kind, boolean isSigned) {
         Node node = containers.get(name);
+        if (node != null && (node.kind == Kind.ADDRESS || node.kind == Kind.BIG_INTEGER)) {
+            throw new IllegalArgumentException("two forms are given for " + Mismatch.quoted(name));
+        }
         if (node != null && node.kind == Kind.NEWTYPE && node.parts.get(0).kind == Kind.BYTES
                 && node.parts.get(0).length == ADDRESS_LENGTH) {
             node.kind = kind;

@@ -1,5 +1,6 @@
 package bcsproved;
 
+import java.lang.invoke.MethodType;
 import java.lang.reflect.GenericArrayType;
 import java.lang.reflect.ParameterizedType;
 import java.lang.reflect.Type;
@@ -33,6 +34,11 @@ final class Types {
             return raw(wildcard.getUpperBounds()[0]);
         }
         return raw(((TypeVariable<?>) type).getBounds()[0]);
+    }
+
+    /** The class of objects with the values of this class, which may be a primitive. */
+    static Class<?> boxed(Class<?> type) {
+        return MethodType.methodType(type).wrap().returnType();
     }
 
     /** A wildcard is its bound. */

@@ -95,7 +95,7 @@ rows::items-returns-clause-reads g t c =
 
 pub rows::elements-returns-in-Some-clause-reads : goal.rows::elements-returns-in-Some-clause-reads
 rows::elements-returns-in-Some-clause-reads g t c =
-    let found = c.in-Some.ensures in
+    let found = c.in-Some.ensures.reads in
     Reads-as (λ p m b. items_same skipping _ _ (λ o l s. found.1 c.args.reader.now.registry.now c.args.depth o l s) c.args.count p m b) c.skip_integers.ensures.reads
 
 pub rows::elements-returns-in_err-value-clause-reads : goal.rows::elements-returns-in_err-value-clause-reads
