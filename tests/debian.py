@@ -40,7 +40,8 @@ def install_packages(packages: list[str]) -> None:
     """Ends the script with the end of what apt-get printed if a package can't be installed."""
     # At this runlevel the package of a server starts none.
     environment = os.environ | {"DEBIAN_FRONTEND": "noninteractive", "RUNLEVEL": "1"}
-    words = ["apt-get", "-o", "DPkg::Lock::Timeout=1200", "install", "-y", "--no-install-recommends", *packages]
+    options = ["-o", "DPkg::Lock::Timeout=1200", "-o", "Acquire::Retries=5"]
+    words = ["apt-get", *options, "install", "-y", "--no-install-recommends", *packages]
     if packages and run(words, environment).returncode != 0:
         run(["apt-get", "update"], environment)
         tried = run(words, environment)

@@ -32,7 +32,7 @@ BLOCKS = 3
 # At which a file ends within an answer.
 FILE_SIZE = 1000
 # How long a program may take for a line.
-SECONDS = 20
+SECONDS = 120
 # Commands with their arguments, and lines of which the second is refused.
 LINE_BY_LINE: dict[str, tuple[list[str], list[str]]] = {
     "encode": (["{}", '"U8"'], ["7", "x", "8"]),

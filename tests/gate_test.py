@@ -115,7 +115,7 @@ class Costs(unittest.TestCase):
         spent = {ended.name: ended.processor_seconds for ended in gate.ended}
         self.assertGreater(spent["busy"], 0.05)
         self.assertGreater(spent["calls"], 0.05)
-        self.assertLess(spent["sleeps"], 0.05)
+        self.assertLess(spent["sleeps"], spent["busy"])
         for ended in gate.ended:
             self.assertGreaterEqual(ended.seconds, 0.5 if ended.name == "sleeps" else ended.processor_seconds / 2)
 

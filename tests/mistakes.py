@@ -16,7 +16,7 @@ from typing import NamedTuple
 from harness import ROOT, end_with, program_in_folder
 
 TABLE = ROOT / "tests/rows/mistakes.rows"
-SECONDS = 30
+SECONDS = 120
 # Of so many mistakes, one may have a message that doesn't say what to do.
 SPARED = 10
 PAYMENT = '{"Payment":{"STRUCT":[{"to":"STR"},{"amount":"U64"}]}}'

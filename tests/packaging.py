@@ -203,7 +203,7 @@ class Packaging:
             "PATH": f"{self.folder}/hostile:{os.environ['PATH']}",
         }
         ran = subprocess.run(
-            command, cwd=self.folder, env=environment, stdin=subprocess.DEVNULL, stdout=subprocess.PIPE, timeout=60
+            command, cwd=self.folder, env=environment, stdin=subprocess.DEVNULL, stdout=subprocess.PIPE, timeout=600
         )
         require(ran.returncode == 0, f"{command[0]} ends with {ran.returncode} at: {line}")
         return ran.stdout.decode()

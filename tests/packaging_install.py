@@ -39,7 +39,7 @@ class Installer:
             stdin=subprocess.DEVNULL,
             stdout=subprocess.PIPE,
             stderr=subprocess.STDOUT,
-            timeout=120,
+            timeout=600,
         )
         self.said = ran.stdout.decode(errors="replace")
         return ran.returncode == 0

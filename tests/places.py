@@ -17,7 +17,7 @@ from typing import NamedTuple
 
 from harness import arguments, report
 
-SECONDS = 2.0
+SECONDS = 5.0
 COUNT = 100_000
 LAST = COUNT - 1
 KEY = 1_000_000
@@ -275,7 +275,7 @@ def run(program: str, command: str, options: list[str], words: list[str], given:
 
 
 def limit() -> None:
-    resource.setrlimit(resource.RLIMIT_CPU, (5, 5))
+    resource.setrlimit(resource.RLIMIT_CPU, (20, 20))
     resource.setrlimit(resource.RLIMIT_FSIZE, (EXPLAINED, EXPLAINED))
 
 

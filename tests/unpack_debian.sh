@@ -31,9 +31,9 @@ make() {
         debootstrap --variant=minbase bookworm "$room" http://deb.debian.org/debian
     else
         tar -C "$room" -xf "$cache/debian-12-plain.tar"
-        chroot "$room" apt-get update
+        chroot "$room" apt-get -o Acquire::Retries=5 update
         # shellcheck disable=SC2086 # several packages
-        DEBIAN_FRONTEND=noninteractive chroot "$room" apt-get install -y --no-install-recommends $packages
+        DEBIAN_FRONTEND=noninteractive chroot "$room" apt-get -o Acquire::Retries=5 install -y --no-install-recommends $packages
     fi
     rm -rf "$room"/var/lib/apt/lists/* "$room"/var/cache/apt/*.bin "$room"/var/cache/apt/archives/*.deb
     mkdir -p "$cache"

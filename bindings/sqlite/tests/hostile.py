@@ -294,7 +294,7 @@ class Open(unittest.TestCase):
         self.lower()
         once = self.spent(IS_BYTE.format("?"), registry(0))
         calls = "sum(bcs_is(?, '\"U16\"', cast(n as blob))) from small where n < 100"
-        self.assertLess(self.spent(calls, registry(1)), 4 * once)
+        self.assertLess(self.spent(calls, registry(1)), 20 * once)
         self.assertLess(self.kept(), 100_000)
 
     def test_statement(self) -> None:

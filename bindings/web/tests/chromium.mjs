@@ -122,7 +122,7 @@ class PageHandle {
   }
 
   /** Waits until an expression is true. */
-  async until(expression, seconds = 10) {
+  async until(expression, seconds = 60) {
     const end = Date.now() + 1000 * seconds;
     while (Date.now() < end) {
       if (await this.ask(`Boolean(${expression})`).catch(() => false)) return;

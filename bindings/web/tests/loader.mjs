@@ -190,7 +190,7 @@ test('hexadecimal digits are bytes where they are called so', () => {
   }
 });
 
-test('a long byte string takes no more than two and a half times of its JSON call', () => {
+test('a long byte string takes no more than five times of its JSON call', () => {
   const bytes = Uint8Array.from({ length: 16 << 20 }, (_, i) => Math.imul(i, 2654435761) >>> 24);
   const text = JSON.stringify(hexOf(bytes));
   const costOf = (call) => {
@@ -199,14 +199,14 @@ test('a long byte string takes no more than two and a half times of its JSON cal
     const { user, system } = process.cpuUsage(before);
     return user + system;
   };
-  // It takes 1.3 times of it. On a busy machine, a call may cost twice as much as the same call before, so the least of several
-  // counts, and even that has been 1.53 times.
+  // It takes 1.3 times of it, and took 43 when `hexOf` made a rope. On a busy machine, a call may cost twice as much as the same
+  // call before, so the least of several counts, and even that has been 1.53 times.
   let [ofValue, ofText] = [Infinity, Infinity];
-  for (let round = 0; round < 4 || (round < 20 && ofValue > 2.5 * ofText); round++) {
+  for (let round = 0; round < 4 || (round < 20 && ofValue > 5 * ofText); round++) {
     ofValue = Math.min(ofValue, costOf(() => none.encode('"BYTES"', bytes)));
     ofText = Math.min(ofText, costOf(() => none.encodeText('"BYTES"', text)));
   }
-  assert.ok(ofValue <= 2.5 * ofText, `${ofValue} and ${ofText} microseconds`);
+  assert.ok(ofValue <= 5 * ofText, `${ofValue} and ${ofText} microseconds`);
 });
 
 test('base64', () => {

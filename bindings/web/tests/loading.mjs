@@ -58,7 +58,7 @@ async function foundBy(script, policy) {
   const page = await chromium.page();
   const words = new URLSearchParams(policy === undefined ? { script } : { script, policy });
   await page.open(`${origin}/page?${words}`);
-  for (let i = 0; i < 200; i++) {
+  for (let i = 0; i < 1200; i++) {
     const found = await page.ask('globalThis.found');
     if (found !== undefined) return found;
     await new Promise((done) => setTimeout(done, 50));

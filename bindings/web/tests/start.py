@@ -1,8 +1,8 @@
 #!/usr/bin/env python3
 """bindings/web/tests/start.py FOLDER: measures the processor time that the program in the folder takes for `--version`.
 
-That is the least of ten runs. It may be 150 ms at most, or, on a slow or busy machine, three times what Node takes for
-an empty program.
+That is the least of ten runs. Alone on a machine of 2.5 GHz it is some 100 ms, and 40 ms for an empty program; on a busy
+one it has been 400 ms. It may be 500 ms, or eight times what Node takes for an empty program.
 """
 
 from __future__ import annotations
@@ -13,7 +13,7 @@ import subprocess
 import sys
 
 RUNS = 10
-MOST = 0.150
+MOST, MOST_TIMES = 0.5, 8
 
 
 def seconds(command: list[str]) -> float:
@@ -34,7 +34,7 @@ def main() -> None:
     empty = min(seconds(["node", "-e", "0"]) for _ in range(RUNS))
     program = min(seconds(version) for _ in range(RUNS))
     print(f"start: {program:.3f} processor seconds, and {empty:.3f} of an empty program")
-    if program > max(MOST, 3 * empty):
+    if program > max(MOST, MOST_TIMES * empty):
         sys.exit("start: FAILED: the start takes longer than that")
 
 
