@@ -38,7 +38,7 @@ fn bad_step(alloc: Global, number: u64, text: &str) -> Result<Refusal, AllocErro
 }
 
 const NAMED: &str =
-    "expected a number, inner, or key: and hexadecimal digits; a name such as .a[0] belongs to --name";
+    "expected a number, inner, or key: and hexadecimal digits; a name such as .a[0] belongs to --name, or to a call by name";
 
 // What is wrong with an invalid step that isn't empty.
 fn message_of(text: &str) -> &'static str {

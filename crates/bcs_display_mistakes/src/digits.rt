@@ -55,6 +55,8 @@ fn words_for_byte(text: &[u8], byte: u8) -> &'static str {
     match byte {
         b'\n' | b'\r' => "a line feed; join the lines (xxd -p -c0), or read each with --lines",
         b' ' | b'\t' => "a space; remove the spaces between digits",
+        b':' => "a colon; remove the colons between digits",
+        b'\\' => "\\x isn't part of the digits; remove it",
         0..=0x1f | 0x7f..=0xff => "not a hexadecimal digit; --raw reads bytes as they are",
         _ => words_for_character(text),
     }

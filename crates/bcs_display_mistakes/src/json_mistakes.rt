@@ -102,6 +102,7 @@ pub(crate) fn words_for_name(byte: u8) -> &'static str {
         b'/' | b'#' => COMMENT,
         b',' => "a name is missing before the comma",
         b':' => "a name is missing before the colon",
+        b'0'..=b'9' => "a digit where a name belongs; a number has no comma between its digits",
         0 => NUL,
         _ => "a name belongs here, in double quotes",
     }
@@ -112,6 +113,7 @@ pub(crate) fn words_after_whole(byte: u8) -> &'static str {
     match byte {
         b'/' | b'#' => COMMENT,
         0 => NUL,
+        b',' => "the document is complete before this comma; a number has none between its digits",
         b'"' | b'{' | b'[' | b'-' => SECOND,
         _ if byte.is_ascii_alphanumeric() => SECOND,
         _ => "the document is complete before this character; remove what follows",

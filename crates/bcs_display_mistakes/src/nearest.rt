@@ -47,10 +47,15 @@ impl<'a> NearestName<'a> {
         }
     }
 
-    /// Takes the name if it is near, and nearer than all names before. It is near if at most a third of the longer one's
-    /// characters differ, where two neighbours in the wrong order count once. A name that the search can't afford isn't near.
+    /// Takes the name if it is near, and nearer than all names before. It is near if it differs only in case, or if at most a
+    /// third of the longer one's characters differ, where two neighbours in the wrong order count once. A name that the search
+    /// can't afford isn't near.
     pub fn consider(&mut self, alloc: Global, name: &'a str) -> Result<(), AllocError> {
         if !self.looks_at(name) {
+            return Ok(());
+        }
+        if name.eq_ignore_ascii_case(self.word) {
+            self.found = Some(Near { name, edits: 0 });
             return Ok(());
         }
         let size = name.chars().count();

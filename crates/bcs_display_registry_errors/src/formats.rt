@@ -28,11 +28,14 @@ pub fn unknown_word(
         (None, Some(meant)) => format!(in alloc;
             "no container is called {name}; did you mean the format '\"{meant}\"', in both quotes?"
         )?,
+        (None, None) => {
+            format!(in alloc;
+                "no container is called {name}; a format without a name is JSON, as '\"U64\"' or '{{\"SEQ\":\"U8\"}}'"
+            )?
+        }
         (nearest, _) => {
             let suggestion = Suggestion::of(nearest);
-            format!(in alloc;
-                "no container is called {name}{suggestion}; a format without a name is JSON, as '\"U64\"' or '{{\"SEQ\":\"U8\"}}'"
-            )?
+            format!(in alloc; "no container is called {name}{suggestion}")?
         }
     };
     Ok(Some(unknown("FORMAT", message)))

@@ -5,8 +5,8 @@ use bcs_registry::Container;
 use std::alloc::{AllocError, Global};
 use std::collections::BTreeMap;
 
-/// The container with the same name but for case and zeros at the front of addresses, or else with the nearest name, if
-/// one is near.
+/// The first container with the same name but for type arguments, or for case and zeros at the front of addresses; or else
+/// the one with the nearest name, if one is near.
 pub(crate) fn nearest_container<'a>(
     alloc: Global,
     containers: &'a BTreeMap<String, Container>,
@@ -14,12 +14,20 @@ pub(crate) fn nearest_container<'a>(
 ) -> Result<Option<&'a str>, AllocError> {
     let mut search = NearestName::to(word);
     for name in containers.keys() {
-        if has_same_addresses(name.as_str(), word) {
+        if has_same_addresses(name.as_str(), word) || lacks_arguments(word, name.as_str()) {
             return Ok(Some(name.as_str()));
         }
         search.consider(alloc, name.as_str())?;
     }
     Ok(search.found())
+}
+
+/// Whether a word is the name without its type arguments, as `0x1::coin::Coin` is `0x1::coin::Coin<u64>` without them.
+fn lacks_arguments(word: &str, name: &str) -> bool {
+    match (name.split_once('<'), name.rsplit_once('>')) {
+        (Some((before, _)), Some((_, after))) => word.strip_prefix(before) == Some(after),
+        _ => false,
+    }
 }
 
 /// Whether the names are the same but for case and for zeros after each `0x`, as in `0x01::coin::Coin` and

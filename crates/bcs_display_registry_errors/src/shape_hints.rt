@@ -58,6 +58,8 @@ fn are_modules(items: &[Value]) -> bool {
     }
 }
 
+const VARIANT: &[u8] = b"; a variant has a number and a name, as in {\"0\":{\"NAME\":\"UNIT\"}}";
+
 /// The advice about JSON that isn't like that of a registry.
 pub(crate) const VALUE: &str = "; this looks like a value, and not like a registry";
 
@@ -69,6 +71,7 @@ fn put_word(alloc: Global, part: Part, word: &str, out: &mut Vec<u8>) -> Result<
         Part::Format => put_format_advice(alloc, word, out),
         Part::Container => put_whole_advice(alloc, word, "UNITSTRUCT", "NEWTYPESTRUCT", out),
         Part::Payload => put_whole_advice(alloc, word, "UNIT", "NEWTYPE", out),
+        Part::Variant if word == "UNIT" => out.extend_from_slice(VARIANT),
         Part::Variant => put_around("; write {\"", word, "\":\"UNIT\"}", out),
         Part::Formats => put_formats_advice(word, out),
         Part::Size => out.extend_from_slice(b"; write the number without quotes"),

@@ -74,7 +74,14 @@ fn put_missing(
                 " {full} for {place}, by sui_getNormalizedMoveModule of {address} and {name}"
             )?
         }
-        _ => format!(in alloc; " {full} for {place}, from /v1/accounts/{address}/module/{name}")?,
+        Some(Chain::Aptos) => {
+            format!(in alloc; " {full} for {place}, from /v1/accounts/{address}/module/{name}")?
+        }
+        None => {
+            format!(in alloc;
+                " {full} for {place}: on Aptos from /v1/accounts/{address}/module/{name}, on Sui by sui_getNormalizedMoveModule"
+            )?
+        }
     };
     message.push_str(words.as_str())
 }
