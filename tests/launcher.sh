@@ -158,6 +158,26 @@ test_where() {
     rm $own
 }
 
+# test_processors: by these features of theirs, in the order in which Linux lists them.
+test_processors() {
+    local feature
+    sed -i "s,/proc/cpuinfo,$room/processor," bcs
+    script bin/uname "echo Linux x86_64"
+    for feature in "sse4_1 sse4_2 popcnt lahf_lm" "sse4_2 x2apic movbe popcnt tsc_deadline_timer" "popcnt sse4_2" "cx16 sse4_2 popcnt"; do
+        printf 'model name\t: one\nflags\t\t: fpu %s\nbogomips\t: 1\n' "$feature" >processor
+        runs "on a processor with $feature" taken
+    done
+    for feature in "ssse3 cx16 sse4_1 lahf_lm" "sse4_1 sse4_2 lahf_lm" "popcnt lahf_lm sse4a" "sse4_2x popcnt" "sse4_2 avx512_vpopcntdq"; do
+        printf 'model name\t: one\nflags\t\t: fpu %s\nbogomips\t: 1\n' "$feature" >processor
+        ends 4 'x86-64-v2' check
+    done
+    : >processor
+    runs "on a system that doesn't describe its processor" taken
+    rm processor
+    runs "on a system without the description" taken
+    rm bin/uname
+}
+
 # test_machines: each kind of machine is one by the name that a `uname` of its own gives it, and arm64 by a loader in this
 # folder.
 test_machines() {
@@ -181,5 +201,6 @@ test_sources
 test_own_build
 test_build
 test_where
+test_processors
 test_machines
 echo "launcher: ./bcs runs the program in dist/, or with BCS_OWN_BUILD=1 what --build built; --where compares the sources"

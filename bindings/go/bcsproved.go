@@ -81,12 +81,19 @@ func Open(registry []byte, names ...Names) (*Registry, error) {
 	if !isSupported {
 		return nil, ErrUnsupported
 	}
+	if len(names) > 1 {
+		return nil, &Error{Kind: KindRegistry, Reason: "UnknownName", Place: -1, Message: "Names: Open takes at most one"}
+	}
+	var own Names
+	if len(names) == 1 {
+		own = names[0]
+	}
 	var handle *C.bcs_handle
 	answer := C.bcs_open(&handle, at(registry), size(registry))
 	if answer.status != C.BCS_DONE {
 		return nil, refusalOfRegistry(answer, KindRegistry, registry)
 	}
-	s := &shared{handle: handle, names: append(names, Names{})[0].orDefault()}
+	s := &shared{handle: handle, names: own.orDefault()}
 	runtime.SetFinalizer(s, (*shared).close)
 	opened := &Registry{shared: s}
 	if len(names) == 0 {

@@ -56,7 +56,7 @@ func (w *writer) dynamic(n *node, v reflect.Value, isWhole bool) error {
 		}
 		return n.mismatch(nil)
 	}
-	if v.Kind() == reflect.Pointer && w.isKey {
+	if w.isKey && contains(v.Type(), reflect.Pointer) {
 		return n.rejectPointers(v.Type())
 	}
 	if v.Kind() == reflect.Pointer && v.IsNil() && !isWhole {

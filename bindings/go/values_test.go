@@ -366,6 +366,8 @@ func TestKeysOfMaps(t *testing.T) {
 		{pairs, map[*[2]uint16]uint8{}, pointers, pointers},
 		{pairs, map[any]uint8{&[2]int{1, 2}: 3}, "at /0/0: " + `{"TUPLEARRAY":{"CONTENT":"U16","SIZE":2}} ` + pointers, interfaces},
 		{pairs, map[[2]any]uint8{{1, ptr(2)}: 3}, "at /0/0/1: U16 " + pointers, interfaces},
+		{pairs, map[any]uint8{[2]*int{nil, nil}: 3}, "at /0/0: " + `{"TUPLEARRAY":{"CONTENT":"U16","SIZE":2}} ` + pointers, interfaces},
+		{tuples, map[any]uint8{of[*uint8]{}: 2}, `at /0/0: {"TUPLE":["U8"]} ` + pointers, interfaces},
 		{pairs, []Entry{{&[2]int{1, 2}, 3}}, "010100020003", "010100020003"},
 		{tuples, map[of[uint8]]uint8{{1}: 2}, "010102", "010102"},
 		{tuples, map[[1]of[int]]uint8{}, "at /-/0/0: U8 takes an integer, not bcsproved.of[int]", "at /-/0/0: U8 takes an integer"},
@@ -437,6 +439,13 @@ func TestNamesOfContainers(t *testing.T) {
 		if _, err := Open(text, names); err == nil || !strings.Contains(err.Error(), "Names: two forms are given for") {
 			t.Errorf("%v: %v", names, err)
 		}
+	}
+	several := []Names{{Addresses: []string{"AccountAddress"}}, {U256: []string{"U256"}}}
+	if _, err := Open(text, several...); err == nil || err.Error() != "refused: UnknownName: Names: Open takes at most one" {
+		t.Error(err)
+	}
+	if _, err := Open(text, several[:1]...); err != nil || len(several[1].U256) != 1 {
+		t.Errorf("%v, and the caller's Names are %v", err, several)
 	}
 	registry, err := Open(text, Names{[]string{"AccountAddress"}, []string{"U256"}, []string{"Int"}})
 	if err != nil {

@@ -25,7 +25,8 @@ type Call struct{ Name, Function string }
 
 // ExplainWith is Explain with views. Bytes in a byte string that aren't exactly one value are damage, at their place in data.
 func (r *Registry) ExplainWith(format string, data []byte, form Form, views Views) (*Explanation, error) {
-	lines, err := views.lines()
+	all := views.all()
+	lines, err := linesOfViews(all)
 	if err != nil {
 		return nil, err
 	}
@@ -35,66 +36,99 @@ func (r *Registry) ExplainWith(format string, data []byte, form Form, views View
 	}
 	defer q.end()
 	out, answer := output(guess(len(data), 64), func(out *C.uint8_t, length C.size_t) C.bcs_answer {
-		return C.bcs_handle_explain_with(q.handle, at(q.format), size(q.format), q.depth, q.nodes, C.uint32_t(form), at(lines),
-			size(lines), at(data), size(data), out, length)
+		return q.explainWith(form, lines, data, out, length)
 	})
-	switch answer.status {
-	case C.BCS_PATH:
-		return nil, badPath(answer, "expected views with names such as .payload.args[1]")
-	case C.BCS_FORMAT:
-		return nil, q.refusalOfFormats(answer, views)
+	if answer.status == C.BCS_PATH || answer.status == C.BCS_FORMAT {
+		return nil, q.refusalOfViews(answer, all)
 	}
 	return q.explanation(out, answer, data)
 }
 
-// refusalOfFormats returns the error for the first format that is refused: that of the value, or one of the views.
-func (q *question) refusalOfFormats(answer C.bcs_answer, views Views) error {
-	formats := [][]byte{q.format}
-	for _, inside := range views.Inside {
-		formats = append(formats, formatJSON(inside.Format))
+func (q *question) explainWith(form Form, lines, data []byte, out *C.uint8_t, length C.size_t) C.bcs_answer {
+	return C.bcs_handle_explain_with(q.handle, at(q.format), size(q.format), q.depth, q.nodes, C.uint32_t(form), at(lines),
+		size(lines), at(data), size(data), out, length)
+}
+
+// refusalOfViews returns the error for the format of the value, if it is refused, or else for the first view that is refused.
+func (q *question) refusalOfViews(answer C.bcs_answer, views []view) error {
+	if refused, is := q.refusalOfFormat(answer, q.format).(*Error); !is || refused.Message != "" {
+		return q.refusalOfFormat(answer, q.format)
 	}
-	for _, format := range formats {
-		err := refusalOf(KindFormat, answer, func(out *C.uint8_t, length C.size_t) C.bcs_answer {
-			return C.bcs_handle_format_place(q.handle, at(format), size(format), out, length)
-		})
-		if refused, is := err.(*Error); !is || refused.Message != "" {
-			return err
+	for _, v := range views {
+		alone := q.explainWith(FormJSON, []byte(v.line()), nil, nil, 0)
+		switch alone.status {
+		case C.BCS_PATH:
+			return badView(v.name, v.word+": expected a name such as .payload.args[1]")
+		case C.BCS_FORMAT:
+			return q.refusalOfView(alone, v)
 		}
 	}
 	return newError(KindFormat, answer)
 }
 
-// lines returns the views, a line for each, as C takes them.
-func (v Views) lines() ([]byte, error) {
-	var lines []string
-	var refused error
-	add := func(view, name, rest string) {
-		switch {
-		case refused != nil:
-		case strings.Contains(name+rest, "\n"):
-			refused = badView(name, "a line feed, which no view may have")
-		case rest != "" && !endsOutsideQuotes(name):
-			refused = badView(name, "expected a name such as .payload.args[1]")
-		default:
-			lines = append(lines, view+" "+name+rest)
+// refusalOfView returns the error for a view whose format, function or container isn't in the registry.
+func (q *question) refusalOfView(answer C.bcs_answer, v view) error {
+	err := q.refusalOfFormat(answer, v.format)
+	if refused, is := err.(*Error); is {
+		if v.format == nil {
+			refused.Message = v.missing
 		}
+		refused.Message = v.word + " " + v.name + ": " + refused.Message
 	}
+	return err
+}
+
+// refusalOfFormat returns the error for a format, without a message if it isn't the one that is refused.
+func (q *question) refusalOfFormat(answer C.bcs_answer, format []byte) error {
+	return refusalOf(KindFormat, answer, func(out *C.uint8_t, length C.size_t) C.bcs_answer {
+		return C.bcs_handle_format_place(q.handle, at(format), size(format), out, length)
+	})
+}
+
+// view is one of the views, as C takes it.
+type view struct {
+	word, name, rest string
+	format           []byte // of a byte string
+	missing          string // what is wrong if it is refused and has no format
+}
+
+func (v view) line() string {
+	return v.word + " " + v.name + v.rest
+}
+
+func (v Views) all() []view {
+	var all []view
 	for _, inside := range v.Inside {
-		add("inside", inside.Name, "="+string(formatJSON(inside.Format)))
+		format := formatJSON(inside.Format)
+		all = append(all, view{"inside", inside.Name, "=" + string(format), format, ""})
 	}
 	for _, call := range v.Calls {
-		add("call", call.Name, "="+call.Function)
+		all = append(all, view{"call", call.Name, "=" + call.Function, nil, "the registry has no arguments of this function"})
 	}
-	for _, container := range v.Addresses {
-		add("address", container, "")
+	for _, of := range []struct {
+		word  string
+		names []string
+	}{{"address", v.Addresses}, {"u256", v.U256s}, {"i256", v.I256s}} {
+		for _, container := range of.names {
+			all = append(all, view{of.word, container, "", nil, "the registry has no newtype of 32 bytes with this name"})
+		}
 	}
-	for _, container := range v.U256s {
-		add("u256", container, "")
+	return all
+}
+
+// linesOfViews returns the views, a line for each, as C takes them.
+func linesOfViews(views []view) ([]byte, error) {
+	var lines []string
+	for _, v := range views {
+		switch {
+		case strings.Contains(v.name+v.rest, "\n"):
+			return nil, badView(v.name, v.word+": a line feed, which no view may have")
+		case v.rest != "" && !endsOutsideQuotes(v.name):
+			return nil, badView(v.name, v.word+": expected a name such as .payload.args[1]")
+		}
+		lines = append(lines, v.line())
 	}
-	for _, container := range v.I256s {
-		add("i256", container, "")
-	}
-	return []byte(strings.Join(lines, "\n")), refused
+	return []byte(strings.Join(lines, "\n")), nil
 }
 
 // endsOutsideQuotes reports whether a = behind the name ends it, since the name has none outside quotes.

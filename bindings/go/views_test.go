@@ -40,15 +40,16 @@ func TestRefusedViews(t *testing.T) {
 		at    string
 		words string
 	}{
-		{Views{Inside: []Inside{{"", "f"}}}, KindPath, "", "expected views"},
-		{Views{Inside: []Inside{{".a=b", "f"}}}, KindPath, ".a=b", "expected a name"},
-		{Views{Inside: []Inside{{`."a`, "f"}}}, KindPath, `."a`, "expected a name"},
-		{Views{Calls: []Call{{".args\n", "f"}}}, KindPath, ".args\n", "a line feed"},
-		{Views{U256s: []string{"A\nB"}}, KindPath, "A\nB", "a line feed"},
-		{Views{Inside: []Inside{{".memo", "Nope"}}}, KindFormat, "", "no container is called Nope"},
-		{Views{Inside: []Inside{{".memo", `{"SEQ":"U7"}`}}}, KindFormat, "/SEQ", "expected a format"},
-		{Views{Calls: []Call{{".args", "g"}}}, KindFormat, "", ""},
-		{Views{Addresses: []string{"f"}}, KindFormat, "", ""},
+		{Views{Inside: []Inside{{".memo", "f"}}, Calls: []Call{{"", "f"}}}, KindPath, "", "call: expected a name"},
+		{Views{Inside: []Inside{{".a=b", "f"}}}, KindPath, ".a=b", "inside: expected a name"},
+		{Views{Inside: []Inside{{`."a`, "f"}}}, KindPath, `."a`, "inside: expected a name"},
+		{Views{Calls: []Call{{".args\n", "f"}}}, KindPath, ".args\n", "call: a line feed"},
+		{Views{U256s: []string{"A\nB"}}, KindPath, "A\nB", "u256: a line feed"},
+		{Views{Inside: []Inside{{".memo", "Nope"}}}, KindFormat, "", "inside .memo: no container is called Nope"},
+		{Views{Inside: []Inside{{".memo", `{"SEQ":"U7"}`}}}, KindFormat, "/SEQ", "inside .memo: expected a format"},
+		{Views{Calls: []Call{{".args", "f"}, {".args", "g"}}}, KindFormat, "", "call .args: the registry has no arguments of this function"},
+		{Views{Addresses: []string{"Account", "f"}}, KindFormat, "", "address f: the registry has no newtype of 32 bytes with this name"},
+		{Views{I256s: []string{""}}, KindFormat, "", "i256 : the registry has no newtype"},
 	} {
 		_, err := registry.ExplainWith("Note", []byte{0, 0}, FormJSON, row.views)
 		var refused *Error

@@ -79,6 +79,8 @@ public final class Tests extends Check {
              "f":{"STRUCT":[{"arg0":"U16"}]},"f::arg0":{"NEWTYPESTRUCT":"U16"},
              "Account":{"NEWTYPESTRUCT":{"TUPLEARRAY":{"CONTENT":"U8","SIZE":32}}}}""";
 
+    private static final String A_NAME = "expected a name such as .payload.args[1]";
+
     /** The rows of tests/rows/explain_views.rows and contents.py have more. */
     private static void views() throws BcsException {
         Registry registry = Registry.open(NOTED);
@@ -90,13 +92,16 @@ public final class Tests extends Check {
         equal(damage.reason() + " " + damage.place() + " " + damage.at(), "BadBool 3 null");
         damage = registry.explain("Note", unhex("00"), Form.WAYS, bool).damage();
         equal(damage.reason() + " " + damage.place() + " " + damage.at(), "EndOfInput 1 .args");
-        badViews(registry, Kind.PATH, "BadPath", null, "expected views with names such as .payload.args[1]", Views.NONE.withInside("", "f"));
-        badViews(registry, Kind.PATH, "BadPath", ".a=b", "expected a name such as .payload.args[1]", Views.NONE.withInside(".a=b", "f"));
-        badViews(registry, Kind.PATH, "BadPath", ".\"a", "expected a name such as .payload.args[1]", Views.NONE.withCall(".\"a", "f"));
-        badViews(registry, Kind.PATH, "BadPath", "A\n", "a line feed, which no view may have", Views.NONE.withU256("A\n"));
-        badViews(registry, Kind.FORMAT, "UnknownName", "", "no container is called Qqqqq", Views.NONE.withInside(".memo", "Qqqqq"));
-        badViews(registry, Kind.FORMAT, "UnknownName", null, null, Views.NONE.withCall(".args", "g"));
-        badViews(registry, Kind.FORMAT, "UnknownName", null, null, Views.NONE.withAddress("f"));
+        Views memo = Views.NONE.withInside(".memo", "f");
+        badViews(registry, Kind.PATH, "BadPath", "", "inside: " + A_NAME, memo.withInside("", "f"));
+        badViews(registry, Kind.PATH, "BadPath", ".a=b", "inside: " + A_NAME, memo.withInside(".a=b", "f"));
+        badViews(registry, Kind.PATH, "BadPath", ".\"a", "call: " + A_NAME, memo.withCall(".\"a", "f"));
+        badViews(registry, Kind.PATH, "BadPath", "A\n", "u256: a line feed, which no view may have", memo.withU256("A\n"));
+        badViews(registry, Kind.FORMAT, "UnknownName", "", "inside .a: no container is called Qqqqq", memo.withInside(".a", "Qqqqq"));
+        badViews(registry, Kind.FORMAT, "UnknownName", null, "call .args: the registry has no arguments of this function",
+                memo.withCall(".args", "f").withCall(".args", "g"));
+        badViews(registry, Kind.FORMAT, "UnknownName", null, "address f: the registry has no newtype of 32 bytes with this name",
+                memo.withAddress("Account").withAddress("f"));
         thrown(NullPointerException.class, () -> registry.explain("Note", data, Form.WAYS, null));
         thrown(NullPointerException.class, () -> Views.NONE.withInside(null, "f"));
         thrown(NullPointerException.class, () -> Views.NONE.withCall(".args", null));

@@ -96,25 +96,38 @@ final class Session implements AutoCloseable {
         };
     }
 
-    /** Explains bytes with views. A format that is refused is that of the value, or the first one of the views. */
+    /** Explains bytes with views. What is refused is the format of the value, or the first view that is refused. */
     Answer explain(Question question, byte[] data, Form form, Views views) throws BcsException {
         byte[] lines = Question.utf8(views.lines());
         try {
             return ask(Call.EXPLAIN_WITH, question, data, lines, form.ordinal(), Answer.guess(data, 64));
         } catch (BcsException e) {
-            throw e.kind() == Kind.FORMAT && e.message() == null ? ofFormats(e, views) : e;
+            boolean isOfView = e.kind() == Kind.PATH || e.kind() == Kind.FORMAT && e.message() == null;
+            throw isOfView ? ofViews(e, question, views) : e;
         }
     }
 
-    private BcsException ofFormats(BcsException unknown, Views views) throws BcsException {
-        for (String format : views.formats()) {
-            Question question = new Question(Question.utf8(format), ANY);
-            Place place = Place.of(Answer.of(Call.FORMAT_PLACE, handle, question, null, null, 0, 256).output());
-            if (place.message() != null) {
-                return new BcsException(Kind.FORMAT, unknown.reason(), -1, place.at(), place.message());
+    private BcsException ofViews(BcsException unknown, Question question, Views views) throws BcsException {
+        for (Views.View view : views.all()) {
+            byte[] line = Question.utf8(view.line());
+            Answer answer = Answer.of(Call.EXPLAIN_WITH, handle, question, NOTHING, line, 0, Answer.guess(NOTHING, 0));
+            if (answer.status() == Answer.PATH) {
+                return view.badName();
+            }
+            if (answer.status() == Answer.FORMAT) {
+                return view.refused(answer.reason(), placeIn(view));
             }
         }
         return unknown;
+    }
+
+    /** Where the format of a view is refused. A view without one has no place. */
+    private Place placeIn(Views.View view) throws BcsException {
+        if (view.format() == null) {
+            return Place.UNKNOWN;
+        }
+        Question question = new Question(Question.utf8(view.format()), ANY);
+        return Place.of(Answer.of(Call.FORMAT_PLACE, handle, question, null, null, 0, 256).output());
     }
 
     /** What the explanation of bytes reports beside its text, or null. */

@@ -14,7 +14,31 @@ public final class Views {
     /** No views. */
     public static final Views NONE = new Views(List.of());
 
-    private record View(String word, String name, String rest) {}
+    /** A view, with the JSON of its format if it has one, and what is wrong with it if the registry refuses it. */
+    record View(String word, String name, String rest, String format, String missing) {
+        /** The view as C takes it. */
+        String line() {
+            return word + ' ' + name + rest;
+        }
+
+        BcsException badName() {
+            return refusedName("expected a name such as .payload.args[1]");
+        }
+
+        private BcsException refusedName(String problem) {
+            return new BcsException(Kind.PATH, "BadPath", -1, name, word + ": " + problem);
+        }
+
+        /** The refusal by a registry, at this place in the format. */
+        BcsException refused(String reason, Place place) {
+            String problem = place.message() == null ? missing : place.message();
+            return new BcsException(Kind.FORMAT, reason, -1, place.at(), word + ' ' + name + ": " + problem);
+        }
+    }
+
+    private static final String NO_FORMAT = "the registry has no such format";
+    private static final String NO_ARGUMENTS = "the registry has no arguments of this function";
+    private static final String NO_CONTAINER = "the registry has no newtype of 32 bytes with this name";
 
     private final List<View> views;
 
@@ -24,7 +48,8 @@ public final class Views {
 
     /** Explains the byte string of this name piece by piece, as a value of this format. */
     public Views withInside(String name, String format) {
-        return with("inside", name, "=" + Question.json(format));
+        String json = Question.json(format);
+        return with("inside", name, "=" + json, json, NO_FORMAT);
     }
 
     /**
@@ -32,27 +57,27 @@ public final class Views {
      * {@link Registry#registryOfModules} made for it.
      */
     public Views withCall(String name, String function) {
-        return with("call", name, "=" + Objects.requireNonNull(function, "function"));
+        return with("call", name, "=" + Objects.requireNonNull(function, "function"), null, NO_ARGUMENTS);
     }
 
     /** Shows values of this container, a newtype of 32 U8, as an address: 0x.. */
     public Views withAddress(String container) {
-        return with("address", container, "");
+        return with("address", container, "", null, NO_CONTAINER);
     }
 
     /** Shows values of this container, a newtype of 32 U8, as an unsigned number. */
     public Views withU256(String container) {
-        return with("u256", container, "");
+        return with("u256", container, "", null, NO_CONTAINER);
     }
 
     /** Shows values of this container, a newtype of 32 U8, as a signed number. */
     public Views withI256(String container) {
-        return with("i256", container, "");
+        return with("i256", container, "", null, NO_CONTAINER);
     }
 
-    private Views with(String word, String name, String rest) {
+    private Views with(String word, String name, String rest, String format, String missing) {
         List<View> more = new ArrayList<>(views);
-        more.add(new View(word, Objects.requireNonNull(name, "name"), rest));
+        more.add(new View(word, Objects.requireNonNull(name, "name"), rest, format, missing));
         return new Views(List.copyOf(more));
     }
 
@@ -61,19 +86,18 @@ public final class Views {
         StringBuilder lines = new StringBuilder();
         for (View view : views) {
             if (view.rest.startsWith("=") && !endsOutsideQuotes(view.name)) {
-                throw refused(view.name, "expected a name such as .payload.args[1]");
+                throw view.badName();
             }
             if (view.name.contains("\n") || view.rest.contains("\n")) {
-                throw refused(view.name, "a line feed, which no view may have");
+                throw view.refusedName("a line feed, which no view may have");
             }
-            lines.append(lines.length() == 0 ? "" : "\n").append(view.word).append(' ').append(view.name).append(view.rest);
+            lines.append(lines.length() == 0 ? "" : "\n").append(view.line());
         }
         return lines.toString();
     }
 
-    /** The formats inside of byte strings, as JSON. */
-    List<String> formats() {
-        return views.stream().filter(view -> view.word.equals("inside")).map(view -> view.rest.substring(1)).toList();
+    List<View> all() {
+        return views;
     }
 
     /** Whether a = behind the name ends it, since the name has none outside quotes. */
@@ -88,9 +112,5 @@ public final class Views {
             i += sign == '\\' && isQuoted ? 1 : 0;
         }
         return !isQuoted;
-    }
-
-    private static BcsException refused(String name, String message) {
-        return new BcsException(Kind.PATH, "BadPath", -1, name, message);
     }
 }
