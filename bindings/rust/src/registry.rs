@@ -5,7 +5,7 @@ use crate::format::Format;
 use crate::json;
 use crate::limits::Limits;
 use crate::sys::{self, Answer, Open, Question};
-use crate::views::Views;
+use crate::views::{EXPECTED_NAME, View, Views};
 use std::collections::HashSet;
 use std::fmt;
 use std::sync::Arc;
@@ -549,13 +549,7 @@ impl Registry {
         let room = bytes.len().saturating_mul(24).saturating_add(1024);
         let question = self.of_bytes(&format, bytes);
         let explained = fill(room, |out| self.open.explain_with(question, form.number(), &lines, bytes, out));
-        let (text, answer) = explained.map_err(|error| match error.kind() {
-            ErrorKind::Path => error.expected("views with names such as .payload.args[1]"),
-            _ => views.formats().fold(self.in_format(error, &format), |error, inside| match error.at() {
-                None => self.in_format(error, inside),
-                Some(_) => error,
-            }),
-        })?;
+        let (text, answer) = explained.map_err(|error| self.in_views(error, question, &format, views))?;
         Ok(Explanation { text: into_text(text), stop: stop(answer) })
     }
 
@@ -588,6 +582,31 @@ impl Registry {
         match error.kind() {
             ErrorKind::Format(_) => found(error, |out| self.open.format_place(format.as_json(), out)),
             _ => error,
+        }
+    }
+
+    /// The error of the format, or if that isn't refused, of the first view that is.
+    fn in_views(&self, error: Error, question: Question, format: &Format, views: &Views) -> Error {
+        let error = self.in_format(error, format);
+        let is_of_view = match error.kind() {
+            ErrorKind::Path => true,
+            ErrorKind::Format(_) => error.at().is_none(),
+            _ => false,
+        };
+        let refused = is_of_view.then(|| views.iter().find_map(|view| self.in_view(question, view)));
+        refused.flatten().unwrap_or(error)
+    }
+
+    /// The error of a view, if it is refused alone.
+    fn in_view(&self, question: Question, view: &View) -> Option<Error> {
+        let line = view.line();
+        let alone = fill(1024, |out| self.open.explain_with(question, Form::Json.number(), &line, &[], out));
+        let error = alone.err()?;
+        match (error.kind(), view.format()) {
+            (ErrorKind::Path, _) => Some(view.refused_name(EXPECTED_NAME)),
+            (ErrorKind::Format(_), Some(format)) => Some(view.refused(self.in_format(error, format))),
+            (ErrorKind::Format(_), None) => Some(view.refused(error)),
+            _ => None,
         }
     }
 

@@ -21,8 +21,11 @@ pub struct Views {
     views: Vec<View>,
 }
 
+/// What is wrong with the name of a view.
+pub(crate) const EXPECTED_NAME: &str = "expected a name such as .payload.args[1]";
+
 #[derive(Clone, Debug)]
-enum View {
+pub(crate) enum View {
     Inside(String, Format),
     Call(String, String),
     /// How Move shows a container, and the container's name.
@@ -72,35 +75,80 @@ impl Views {
         self
     }
 
-    /// The formats inside of byte strings.
-    pub(crate) fn formats(&self) -> impl Iterator<Item = &Format> {
-        self.views.iter().filter_map(|view| match view {
-            View::Inside(_, format) => Some(format),
-            _ => None,
-        })
+    pub(crate) fn iter(&self) -> impl Iterator<Item = &View> {
+        self.views.iter()
     }
 
     /// The views, a line for each, as the library takes them.
     pub(crate) fn lines(&self) -> Result<Vec<u8>, Error> {
         let mut lines = Vec::new();
         for view in &self.views {
-            let (word, name, rest): (_, _, &[u8]) = match view {
-                View::Inside(name, format) => ("inside", name, format.as_json()),
-                View::Call(name, function) => ("call", name, function.as_bytes()),
-                View::Shown(word, container) => (*word, container, b""),
-            };
-            let is_shown = matches!(view, View::Shown(..));
-            if !is_shown && !ends_outside_quotes(name) {
-                return Err(refused(name, "expected a name such as .payload.args[1]"));
+            if !matches!(view, View::Shown(..)) && !ends_outside_quotes(view.name()) {
+                return Err(view.refused_name(EXPECTED_NAME));
             }
-            let line = [word.as_bytes(), b" ", name.as_bytes(), if is_shown { b"" } else { b"=" }, rest].concat();
+            let line = view.line();
             if line.contains(&b'\n') {
-                return Err(refused(name, "a line feed, which no view may have"));
+                return Err(view.refused_name("a line feed, which no view may have"));
             }
             lines.extend([line.as_slice(), b"\n"].concat());
         }
         lines.pop();
         Ok(lines)
+    }
+}
+
+impl View {
+    /// The view as the library takes it.
+    pub(crate) fn line(&self) -> Vec<u8> {
+        let rest = match self {
+            View::Inside(_, format) => [b"=", format.as_json()].concat(),
+            View::Call(_, function) => [b"=", function.as_bytes()].concat(),
+            View::Shown(..) => Vec::new(),
+        };
+        [self.word().as_bytes(), b" ", self.name().as_bytes(), &rest].concat()
+    }
+
+    fn word(&self) -> &'static str {
+        match self {
+            View::Inside(..) => "inside",
+            View::Call(..) => "call",
+            View::Shown(word, _) => word,
+        }
+    }
+
+    fn name(&self) -> &str {
+        match self {
+            View::Inside(name, _) | View::Call(name, _) | View::Shown(_, name) => name,
+        }
+    }
+
+    /// The format, if the view has one.
+    pub(crate) fn format(&self) -> Option<&Format> {
+        match self {
+            View::Inside(_, format) => Some(format),
+            View::Call(..) | View::Shown(..) => None,
+        }
+    }
+
+    /// The error for the view's name.
+    pub(crate) fn refused_name(&self, message: &str) -> Error {
+        let message = format!("{}: {message}", self.word());
+        Error::from(ErrorKind::Path).found(Some((self.name().to_owned(), message)))
+    }
+
+    /// The error of the view's format, function or container, with the view's name.
+    pub(crate) fn refused(&self, error: Error) -> Error {
+        let missing = match self {
+            View::Inside(..) => "the registry has no such format",
+            View::Call(..) => "the registry has no arguments of this function",
+            View::Shown(..) => "the registry has no newtype of 32 bytes with this name",
+        };
+        let (at, problem) = match error.at() {
+            Some(at) => (at.to_owned(), error.message()),
+            None => (String::new(), missing),
+        };
+        let message = format!("{} {}: {problem}", self.word(), self.name());
+        error.found(Some((at, message)))
     }
 }
 
@@ -117,10 +165,6 @@ fn ends_outside_quotes(name: &str) -> bool {
         }
     }
     !is_quoted
-}
-
-fn refused(name: &str, message: &str) -> Error {
-    Error::from(ErrorKind::Path).found(Some((name.to_owned(), message.to_owned())))
 }
 
 #[cfg(test)]

@@ -47,23 +47,27 @@ fn views_keep_their_order() {
 #[test]
 fn views_are_refused() {
     let unknown = ErrorKind::Format(RegistryFault::UnknownName);
+    let shape = ErrorKind::Format(RegistryFault::BadShape);
+    let views = || Views::new().inside(".memo", "f").call(".args", "f").address("Account");
     let rows = [
-        (Views::new().inside("", "f"), ErrorKind::Path, Some("")),
-        (Views::new().inside(".a=b", "f"), ErrorKind::Path, Some(".a=b")),
-        (Views::new().call(".args\n", "f"), ErrorKind::Path, Some(".args\n")),
-        (Views::new().inside(".memo", "Nope"), unknown, Some("")),
+        (views().inside("", "f"), ErrorKind::Path, "", "inside: expected a name such as .payload.args[1]"),
+        (views().inside(".a=b", "f"), ErrorKind::Path, ".a=b", "inside: expected a name such as .payload.args[1]"),
+        (views().call(".args\n", "f"), ErrorKind::Path, ".args\n", "call: a line feed, which no view may have"),
+        (views().inside(".a", "Nope"), unknown, "", "inside .a: no container is called Nope"),
         (
-            Views::new().inside(".memo", Format::json(r#"{"SEQ":"U7"}"#)),
-            ErrorKind::Format(RegistryFault::BadShape),
-            Some("/SEQ"),
+            views().inside(".a", Format::json(r#"{"SEQ":"U7"}"#)),
+            shape,
+            "/SEQ",
+            "inside .a: expected a format, found \"U7\"",
         ),
-        (Views::new().call(".args", "g"), unknown, None),
-        (Views::new().address("f"), unknown, None),
+        (views().call(".a", "g"), unknown, "", "call .a: the registry has no arguments of this function"),
+        (views().u256("f"), unknown, "", "u256 f: the registry has no newtype of 32 bytes with this name"),
     ];
-    for (views, kind, at) in rows {
+    for (views, kind, at, message) in rows {
         for form in [Form::Ways, Form::Json] {
             let error = note().explain_text_with("Note", [0, 0], form, &views).unwrap_err();
-            assert_eq!((error.kind(), error.at()), (kind, at), "{views:?}");
+            assert_eq!((error.kind(), error.at()), (kind, Some(at)), "{views:?}");
+            assert!(error.message().starts_with(message), "{error}");
         }
     }
     let error = note().explain_with("Qqqqq", [0, 0], &Views::new()).unwrap_err();
