@@ -96,26 +96,26 @@ def clone(rooms: Rooms, debian: pathlib.Path) -> None:
 
 
 def answer_in_clone(rooms: Rooms) -> str:
-    """The first call takes less than a second of the processor's time, since others may use the machine."""
+    """The first call takes less than two seconds of processor time, also on a busy machine."""
     plain = rooms.debian("plain")
     clone(rooms, plain)
     before = processor_seconds()
     require_answer(*within(plain, "/root/clone/bcs"))
     spent = processor_seconds() - before
-    if spent >= 1:
-        raise Failed(f"the first answer takes {spent:.2f} processor seconds, and may take 1")
+    if spent >= 2:
+        raise Failed(f"the first answer takes {spent:.2f} processor seconds, and may take 2")
     return f"the first answer in {spent:.2f} processor seconds"
 
 
 def test_clone(rooms: Rooms, kind: str) -> str:
-    """What a new user runs takes less than two and a half minutes of the processor's time on an idle machine. Here,
-    other steps of the gate run beside it, and it then takes up to twice as long."""
+    """What a new user runs takes less than two and a half minutes of processor time on an idle machine. Here, other
+    steps of the gate run beside it, and it may take six times as long."""
     debian = rooms.debian(kind)
     clone(rooms, debian)
     before = processor_seconds()
     last = run(*within(debian, "/root/clone/test")).splitlines()[-1]
     spent = processor_seconds() - before
-    if not re.match("[1-9][0-9]* passed, 0 failed", last) or spent >= 300:
+    if not re.match("[1-9][0-9]* passed, 0 failed", last) or spent >= 900:
         raise Failed(f"{last}, in {spent:.0f} processor seconds")
     return f"{last}, in {spent:.2f} processor seconds"
 

@@ -25,7 +25,7 @@ import vectors_consumers as consumers
 from harness import ROOT, Failed, clean_up_on_sigterm, processor_seconds, run
 
 # Processor seconds for the planted bugs and the changed registries, and for the lines of a registry of 400 containers.
-MOST_SECONDS, MOST_SECONDS_OF_400 = 120, 5
+MOST_SECONDS, MOST_SECONDS_OF_400 = 400, 15
 LEAST_CHANGES = 700
 NEEDED = {
     "node": "nodejs",
@@ -117,7 +117,7 @@ class Test:
         self.make(ROOT / "examples/many_containers.json", self.room / "400.jsonl")
         spent = processor_seconds() - before
         if spent > MOST_SECONDS_OF_400:
-            raise Failed(f"the lines of 400 containers take {spent:.1f} processor seconds, and may take 5")
+            raise Failed(f"the lines take {spent:.1f} processor seconds, and may take {MOST_SECONDS_OF_400}")
         return f"{len((self.room / '400.jsonl').read_bytes().splitlines())} lines"
 
     def consume(self, language: str) -> str:
@@ -151,7 +151,7 @@ def run_all(test: Test) -> None:
     spent = part("planted bugs", test.plant) + part("changed registries", test.change_registries)
     spent += part("parts of keys", test.shorten_keys)
     if spent > MOST_SECONDS:
-        sys.exit(f"vectors: FAILED: the bugs and the registries take {spent:.0f} processor seconds, and may take 120")
+        sys.exit(f"vectors: FAILED: bugs and registries take {spent:.0f} processor seconds, more than {MOST_SECONDS}")
     part("the example of docs/VECTORS.md", consumers.require_example)
     consume(test)
 

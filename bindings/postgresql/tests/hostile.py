@@ -83,8 +83,8 @@ class Measured(Database):
         return min(costs), state
 
 
-# Milliseconds of processor time that a call may take. It takes 40 at most on a processor of 2.5 GHz that isn't shared. On a
-# busy machine, the least of twenty runs has been 54.
+# Milliseconds of processor time that a call may take. It takes 40 at most on a processor of 2.5 GHz that isn't shared.
+# On a busy machine, the least of twenty runs has been 54.
 MOST_OF_A_CALL = 250
 
 

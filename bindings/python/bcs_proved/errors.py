@@ -29,8 +29,8 @@ class BcsError(Exception):
     `at` says where the fault is: a JSON Pointer, such as "/payload/args/1", for values, JSON and formats; a field path,
     such as ".payload.args[1]", for bytes; a definition, such as "Shape, field side", for registries and growth; a step,
     such as "step 2 x", for paths; and for modules a JSON Pointer, or the type that was requested. Names are as they
-    are, never escaped or cut. It is empty if the whole is refused. `message` says what is wrong there. It is for
-    people, and may change."""
+    are, never escaped or cut. It is empty, or "." for bytes, if the whole is refused. `message` says what is wrong
+    there. It is for people, and may change."""
 
     kind = ""
 

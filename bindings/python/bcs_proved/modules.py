@@ -45,7 +45,14 @@ def registry_of_modules(
     text, lines = bytes_of_text(modules), _lines_of(types)
     called, words = library_of(library), (text, len(text), lines, len(lines))
     answer, output = called.put("bcs_registry_of_modules", _ROOM, *words)
-    called.require(answer, ModulesError, called.report("bcs_modules_place", *words))
+    try:
+        called.require(answer, ModulesError, called.report("bcs_modules_place", *words))
+    except ModulesError as fault:
+        # (modules begin with a brace or a bracket)
+        if fault.reason == "NotJson" and isinstance(modules, str) and text.strip()[:1] not in (b"", b"{", b"["):
+            hint = "a str is read as JSON; to read a file, pass what its read() returns"
+            raise ModulesError(fault.reason, fault.place, fault.at, f"{fault.message}; {hint}") from None
+        raise
     # (the JSON has no line feed)
     json, _, notes = str(output, "utf-8").partition("\n")
     return MadeRegistry(json, notes)

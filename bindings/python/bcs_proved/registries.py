@@ -335,6 +335,8 @@ def _arguments(words: list[str]) -> tuple[list[str], Optional[str]]:
             raise _Misuse(f"unexpected argument '{name}' found")
     if is_merge and len(names) < 2:
         raise _Misuse("merge needs two registries or more")
+    if "merge" in names and len(names) > 1:
+        raise _Misuse("merge comes before everything else")
     if not is_merge and len(names) > 1:
         raise _Misuse(f"unexpected argument '{names[1]}' found; to join registries, use merge")
     if names.count(_STANDARD_STREAM) > 1:

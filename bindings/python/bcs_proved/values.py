@@ -147,12 +147,14 @@ def _slow_json_of(format: Format, value: Any, nodes: int) -> bytes:
     try:
         _write(format, value, out)
     except _TooManyNodes:
-        raise Rejected("TooManyNodes", f"the value has more nodes than --nodes allows, {nodes}") from None
+        raise Rejected("TooManyNodes", f"the value has more nodes than the limit, {nodes}") from None
     text = "".join(out)
     # (a large value has little room for its pieces beside its text)
     out.clear()
-    # (names may have lone surrogates, which the library rejects: they aren't UTF-8 and so not JSON)
-    return text.encode("utf-8", "surrogatepass")
+    try:
+        return text.encode()
+    except UnicodeEncodeError:
+        raise Rejected("NotJson", "a name in the value has half of a surrogate pair, which isn't Unicode") from None
 
 
 def _write(format: Format, value: Any, out: _Pieces) -> None:

@@ -297,7 +297,7 @@ class Nesting(unittest.TestCase):
             with self.assertRaises(TextError) as raised:
                 call("T", value, Limits(nodes=10000))
             self.assertEqual((raised.exception.reason, raised.exception.at), ("TooManyNodes", ""))
-            self.assertEqual(raised.exception.message, "the value has more nodes than --nodes allows, 10000")
+            self.assertEqual(raised.exception.message, "the value has more nodes than the limit, 10000")
 
     def test_nodes_that_suffice(self) -> None:
         """The conversion ends early only for values that surely have more nodes."""

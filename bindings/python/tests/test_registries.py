@@ -248,6 +248,8 @@ class Command(unittest.TestCase):
             (["none.yaml"], "", 4, "", "fault: open\nin the file none.yaml: No such file or directory\n"),
             (["merge", "-", "-"], "", 3, "", "error: only one registry can be the standard input\n\nUsage: "),
             (["a", "b"], "", 3, "", "error: unexpected argument 'b' found; to join registries, use merge\n\nUsage: "),
+            (["-o", "c", "merge", "a", "b"], "", 3, "", "error: merge comes before everything else\n\nUsage: "),
+            (["a", "merge", "b"], "", 3, "", "error: merge comes before everything else\n\nUsage: "),
         ]
         for words, given, status, output, errors in rows:
             told = self.run_command(*words, given=given)
