@@ -46,6 +46,8 @@ too, and the message begins with the line and the column: `line 1, column 3: ..`
 """
 
 import subprocess
+import threading
+from collections.abc import Iterable
 from typing import NamedTuple
 
 from words import Unsayable
@@ -80,6 +82,22 @@ def stop_of(answer: Answer) -> str:
     return f"{answer.fault} at {answer.place}"
 
 
+def line_of(*words: str | bytes) -> str:
+    """Bytes go as hexadecimal digits, and the call, numbers and the name of a form as they are."""
+    return "\t".join(word.hex() if isinstance(word, bytes) else word for word in words)
+
+
+def answer_of(told: str, line: str) -> Answer:
+    """What a driver told about a line."""
+    fields = told.split("\t")
+    if fields == ["unsayable"]:
+        raise Unsayable
+    if len(fields) != 5:
+        raise SystemExit(f"rows: FAILED: the driver answers {fields} to {line[:300]}")
+    status, fault, place, length, output = fields
+    return Answer(status, fault, int(place), int(length), bytes.fromhex(output))
+
+
 class Driver:
     """A driver that runs, and how many lines it was given."""
 
@@ -88,21 +106,30 @@ class Driver:
         self.process = subprocess.Popen(command, stdin=subprocess.PIPE, stdout=subprocess.PIPE)
 
     def ask(self, call: str, *words: str | bytes) -> Answer:
-        """Bytes go as hexadecimal digits, and numbers and the name of a form as they are."""
-        self.calls += 1
-        line = "\t".join([call, *(word.hex() if isinstance(word, bytes) else word for word in words)])
-        told = self.answer_to(line).split("\t")
-        if told == ["unsayable"]:
-            raise Unsayable
-        if len(told) != 5:
-            raise SystemExit(f"rows: FAILED: the driver answers {told} to {line[:300]}")
-        status, fault, place, length, output = told
-        return Answer(status, fault, int(place), int(length), bytes.fromhex(output))
+        line = line_of(call, *words)
+        self.write([line])
+        return answer_of(self.told(), line)
 
-    def answer_to(self, line: str) -> str:
-        assert self.process.stdin and self.process.stdout
-        self.process.stdin.write(line.encode() + b"\n")
+    def ask_all(self, questions: Iterable[tuple[str | bytes, ...]]) -> list[Answer]:
+        """Writes all lines while it reads the answers. That takes less time, since nobody waits for a single line."""
+        lines = [line_of(*words) for words in questions]
+        # (it doesn't keep the script from ending)
+        writer = threading.Thread(target=self.write, args=[lines], daemon=True)
+        writer.start()
+        # All are read before one of them can raise an exception.
+        told = [self.told() for _ in lines]
+        writer.join()
+        return list(map(answer_of, told, lines))
+
+    def write(self, lines: list[str]) -> None:
+        assert self.process.stdin
+        self.process.stdin.write("".join(f"{line}\n" for line in lines).encode())
         self.process.stdin.flush()
+
+    def told(self) -> str:
+        """The next line of the driver, or nothing if it has ended."""
+        assert self.process.stdout
+        self.calls += 1
         return self.process.stdout.readline().decode().rstrip("\n")
 
     def end(self) -> None:
@@ -120,7 +147,15 @@ class Question:
         self.words = (registry, format, *(limits or STANDARD_LIMITS))
 
     def ask(self, call: str, *words: str | bytes) -> Answer:
-        answer = self.driver.ask(call, *self.words, *words)
-        if answer.status in ("registry", "format"):
-            raise Refused(answer.fault)
+        [answer] = self.checked([self.driver.ask(call, *self.words, *words)])
         return answer
+
+    def ask_all(self, questions: Iterable[tuple[str | bytes, ...]]) -> list[Answer]:
+        """The answers to several calls, each with its words."""
+        return self.checked(self.driver.ask_all((call, *self.words, *words) for call, *words in questions))
+
+    def checked(self, answers: list[Answer]) -> list[Answer]:
+        for answer in answers:
+            if answer.status in ("registry", "format"):
+                raise Refused(answer.fault)
+        return answers

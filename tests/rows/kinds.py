@@ -3,7 +3,7 @@ own program does."""
 
 import json
 
-from driver import Driver, Question, expect, stop_of
+from driver import Answer, Driver, Question, expect, stop_of
 from words import bytes_of
 
 FORMAT_FAULTS = ("NotJson", "BadShape", "BadNumber", "TooNested", "RepeatedName", "UnknownName")
@@ -46,14 +46,16 @@ def grows_row(driver: Driver, registry: bytes, words: list[str], wanted: str) ->
 
 
 def judged(question: Question, data: bytes) -> str:
+    return verdict_of(question.ask("scan", data), question.ask("part", data, b"."))
+
+
+def verdict_of(scanned: Answer, whole: Answer) -> str:
     """The verdict by `scan`, which `part` of the whole value has to give too."""
-    verdict = question.ask("scan", data)
-    whole = question.ask("part", data, b".")
-    expect(verdict == whole, f"scan answers {verdict}, and part {whole}")
-    if verdict.status == "done":
-        return f"ok {verdict.length}"
-    expect(verdict.status == "refused", verdict.status)
-    return stop_of(verdict)
+    expect(scanned == whole, f"scan answers {scanned}, and part {whole}")
+    if scanned.status == "done":
+        return f"ok {scanned.length}"
+    expect(scanned.status == "refused", scanned.status)
+    return stop_of(scanned)
 
 
 def scan_row(driver: Driver, registry: bytes, words: list[str], wanted: str) -> str:
@@ -61,17 +63,31 @@ def scan_row(driver: Driver, registry: bytes, words: list[str], wanted: str) -> 
 
 
 def agrees(question: Question, data: bytes) -> str:
-    """The verdict, and `from_bcs` gives the same of the whole input; of a text, `to_bcs` gives the input again."""
-    verdict = judged(question, data)
-    shown = question.ask("from_bcs", data)
-    if shown.status == "done":
-        expect(verdict == f"ok {len(data)}", f"from_bcs answers {shown}")
-        expect(question.ask("to_bcs", shown.output).output == data, "to_bcs of the text")
-    elif shown.fault != "TooNested":
-        expect(shown.status == "refused", shown.status)
-        whole = f"ok {shown.place}" if shown.fault == "TrailingBytes" else stop_of(shown)
-        expect(verdict == whole, f"from_bcs answers {shown}")
+    [verdict] = agree_all(question, [data])
     return verdict
+
+
+def calls_on(data: bytes) -> list[tuple[str | bytes, ...]]:
+    return [("scan", data), ("part", data, b"."), ("from_bcs", data)]
+
+
+def agree_all(question: Question, inputs: list[bytes]) -> list[str]:
+    """The verdict on each input, and `from_bcs` gives the same of the whole input; of a text, `to_bcs` gives the input
+    again."""
+    answers = question.ask_all(words for data in inputs for words in calls_on(data))
+    verdicts = list(map(verdict_of, answers[0::3], answers[1::3]))
+    texts: dict[bytes, bytes] = {}
+    for data, verdict, shown in zip(inputs, verdicts, answers[2::3], strict=True):
+        if shown.status == "done":
+            expect(verdict == f"ok {len(data)}", f"from_bcs answers {shown}")
+            texts[data] = shown.output
+        elif shown.fault != "TooNested":
+            expect(shown.status == "refused", shown.status)
+            whole = f"ok {shown.place}" if shown.fault == "TrailingBytes" else stop_of(shown)
+            expect(verdict == whole, f"from_bcs answers {shown}")
+    coded = question.ask_all(("to_bcs", text) for text in texts.values())
+    expect([answer.output for answer in coded] == list(texts), "to_bcs of the text")
+    return verdicts
 
 
 def verdict_row(driver: Driver, registry: bytes, words: list[str], wanted: str) -> str:
@@ -83,11 +99,8 @@ def changes_row(driver: Driver, registry: bytes, words: list[str], wanted: str) 
     agrees(question, data)
     count = 1
     for place in range(len(data)):
-        agrees(question, data[:place])
-        for step in range(1, 256):
-            changed = (data[place] + step) % 256
-            agrees(question, data[:place] + bytes([changed]) + data[place + 1 :])
-        count += 256
+        others = (bytes([(data[place] + step) % 256]) for step in range(1, 256))
+        count += len(agree_all(question, [data[:place], *(data[:place] + one + data[place + 1 :] for one in others)]))
     return f"{count} agree"
 
 
