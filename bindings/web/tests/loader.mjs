@@ -222,7 +222,6 @@ test('base64', () => {
 // A call that is refused, its kind, reason, place, `at`, and its line. More of them are rows of tests/rows/places.py.
 const KINDS = [
   [() => shapes.show('Line'), 'format', 'UnknownName', undefined, '', 'refused: UnknownName: no container is called Line'],
-  [() => none.withLimits({ depth: 501 }).scan('"U8"', [7]), 'limits', undefined, undefined, undefined, 'refused: the depth is above 500'],
   [() => shapes.encode('Point', { x: 256, y: 1 }), 'text', 'BadNumber', undefined, '/x', /^refused: BadNumber at \/x: found 256, expected /],
   [() => none.partByName('"U8"', [7], 'a'), 'path', 'BadPath', undefined, undefined, /^refused: BadPath: expected a name/],
   [() => none.example('"F32"'), 'example', 'NoValue', undefined, undefined, 'refused: NoValue'],
@@ -241,7 +240,6 @@ test('the parts of each kind of refusal, and its line', () => {
       return true;
     });
   }
-  assert.throws(() => none.withLimits({ depth: -1 }), RangeError);
   // A misspelt limit or option isn't left out.
   assert.throws(() => none.withLimits({ Depth: 5 }), { name: 'TypeError', message: 'no limit is called Depth: depth, nodes' });
   assert.throws(() => none.decode('"U8"', [7], { plainoptions: true }), { message: 'no option is called plainoptions: plainOptions' });
@@ -250,6 +248,61 @@ test('the parts of each kind of refusal, and its line', () => {
   // A text is no object, also no JSON.
   const text = /^a text is a string, or UTF-8 in a Uint8Array, .*; JSON\.stringify makes JSON of an object$/;
   for (const call of [() => bcs.registry({}), () => none.encodeText('"U8"', { a: 1 })]) assert.throws(call, { name: 'TypeError', message: text });
+});
+
+// What isn't a limit, and the words of its RangeError. The limit is refused before any call.
+const NO_LIMITS = [
+  [{ depth: -1 }, 'depth is an integer from 0 to 500, and not -1'],
+  [{ depth: 501 }, 'depth is an integer from 0 to 500, and not 501'],
+  [{ depth: 1.5 }, 'depth is an integer from 0 to 500, and not 1.5'],
+  [{ depth: 2 ** 32 }, 'depth is an integer from 0 to 500, and not 4294967296'],
+  [{ nodes: -1 }, 'nodes is an integer from 0 to 4294967295, and not -1'],
+  [{ nodes: 2 ** 32 }, 'nodes is an integer from 0 to 4294967295, and not 4294967296'],
+];
+
+test('a limit out of its range is refused at once, with the range', () => {
+  for (const [limits, message] of NO_LIMITS) assert.throws(() => none.withLimits(limits), { name: 'RangeError', message });
+  for (const depth of [0, 1, 500]) assert.equal(none.withLimits({ depth }).scan('"U8"', [7]), 1);
+});
+
+// What is no format, and how the TypeError names it.
+const NO_FORMATS = [
+  [['U8'], 'an array'], [null, 'null'], [undefined, 'undefined'], [7, 'a number'], [7n, 'a bigint'], [true, 'a boolean'],
+  [() => 'U8', 'a function'], [Symbol('U8'), 'a symbol'], [{ toJSON: () => undefined }, 'an object without JSON'],
+];
+
+test('a format is a name, JSON or an object, and anything else is named', () => {
+  for (const [format, named] of NO_FORMATS) {
+    const message = `a format is a container's name, JSON such as '"U8"', or an object such as { SEQ: 'U8' }, and not ${named}`;
+    const calls = [() => none.encode(format, 5), () => none.decode(format, [5]), () => none.check(format), () => none.schema(format)];
+    for (const call of [...calls, () => none.explain('"U8"', [5], { inside: { '.a': format } })]) assert.throws(call, { name: 'TypeError', message });
+  }
+  for (const format of ['"U8"', '{"TUPLE":["U8"]}', { TUPLE: ['U8'] }, { toJSON: () => ({ TUPLE: ['U8'] }) }]) {
+    assert.equal(hexOf(none.encode(format, format === '"U8"' ? 5 : [5])), '05');
+  }
+  assert.equal(hexOf(shapes.encode('Id', 5)), '0500000000000000');
+  assert.throws(() => none.encode({}, 5), refusal('format', 'BadShape'));
+});
+
+// JSON of a registry that is refused, and whether its words end with the advice for the name of a file.
+const NAMES_OF_FILES = [
+  ['examples/aptos_registry.json', true], [' ../registry.json', true], ['aptos', true], ['file:///r.json', true],
+  ['{"A":', false], [' {', false], ['\ufeff{', false], ['', false], ['  ', false], ['[]', false], ['7', false],
+  [encoder.encode('registry.json'), false],
+];
+
+test('the name of a file in place of a registry is told apart', () => {
+  const advice = "; a string is read as JSON; for a file, pass its contents: readFileSync(name, 'utf8') in Node, or await (await fetch(url)).text()";
+  for (const [text, isNamed] of NAMES_OF_FILES) {
+    const kinds = { registry: () => bcs.registry(text), newer: () => bcs.grows('{}', text) };
+    for (const [kind, call] of Object.entries(kinds)) {
+      assert.throws(call, (error) => {
+        assert.deepEqual([error.kind, error.detail.endsWith(advice)], [kind, isNamed], String(text));
+        return true;
+      });
+    }
+    assert.throws(() => bcs.differences(text, '{}'), (error) => error.kind === 'registry' && error.detail.endsWith(advice) === isNamed);
+  }
 });
 
 test('names, examples as values, and registries in readable form', () => {

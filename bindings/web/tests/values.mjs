@@ -601,10 +601,10 @@ test('values within themselves, deep ones and formats without an end are rejecte
 test('bad formats are rejected before a value is read', () => {
   let reads = 0;
   const value = new Proxy({}, { get: () => reads++, ownKeys: () => (reads++, []) });
-  for (const format of ['Nope', '{"SEQ":', { SEQ: 'U7' }, '"TYPENAME"', { TYPENAME: 'Nope' }, 7, undefined, null, [], { MAP: {} }]) {
+  for (const format of ['Nope', '{"SEQ":', { SEQ: 'U7' }, '"TYPENAME"', { TYPENAME: 'Nope' }, { MAP: {} }]) {
     assert.throws(() => registry.encode(format, value), (error) => error instanceof BcsError && error.kind === 'format');
   }
-  assert.throws(() => registry.encode('{"TYPENAME":"\ud800"}', value), TypeError);
+  for (const format of ['{"TYPENAME":"\ud800"}', 7, undefined, null, []]) assert.throws(() => registry.encode(format, value), TypeError);
   assert.equal(reads, 0);
 });
 
@@ -612,7 +612,23 @@ test('a format is the JSON that it is, and a name only where it is a string', ()
   const named = bcs.registry('{"7":{"NEWTYPESTRUCT":"U8"},"null":{"NEWTYPESTRUCT":"U16"}}');
   assert.equal(hexOf(named.encode('7', 1)), '01');
   assert.equal(hexOf(named.encode('null', 1)), '0100');
-  for (const format of [7, null]) assert.throws(() => named.encode(format, 1), (error) => error.kind === 'format');
+  for (const format of [7, null]) assert.throws(() => named.encode(format, 1), TypeError);
+});
+
+/** An array with two items whose length is said to be another. */
+const arrayOfLength = (length) => new Proxy([1, 2], { get: (items, name) => (name === 'length' ? length : items[name]) });
+const LENGTHLESS = [{ SEQ: 'U8' }, 'BYTES', { SEQ: 'U16' }, { SEQ: 'STR' }, { TUPLE: ['U8', 'U8'] }, { MAP: { KEY: 'U8', VALUE: 'U8' } }].map((format) => JSON.stringify(format));
+
+test('an array whose length is no count is rejected, and never read as an empty one', () => {
+  for (const length of [-1, -Infinity, NaN, 1.5, 2 ** 53, Infinity, '1', '', null, undefined, {}, 1n, Symbol('a')]) {
+    for (const format of LENGTHLESS) {
+      const wrong = { kind: 'value', reason: 'WrongType', at: '', message: /, not an array without a valid length$/ };
+      assert.throws(() => registry.encode(format, arrayOfLength(length)), wrong, `${format}, ${String(length)}`);
+    }
+    assert.throws(() => registry.decode('"UNIT"', arrayOfLength(length)), TypeError);
+  }
+  assert.equal(hexOf(registry.encode('{"SEQ":"U8"}', arrayOfLength(1))), '0101');
+  assert.equal(hexOf(registry.encode('{"SEQ":"U16"}', arrayOfLength(0))), '00');
 });
 
 // Random values there and back, in any of the ways in which `encode` takes them.
