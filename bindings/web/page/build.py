@@ -27,8 +27,8 @@ EXAMPLES = HERE.parent.parent.parent / "examples"
 WORKER = ["../errors", "../hex", "../octets", "../texts", "../move_types", "../shapes", "../json_output", "../writing"]
 WORKER += ["../reading", "../interruptions", "../calls", "../limits", "../holder", "../refusals", "../views"]
 WORKER += ["../format_calls", "../registry", "../support", "../modules", "../loader"]
-WORKER += ["coding", "roots", "layout", "blank", "outline", "arguments", "joined_registry", "worker"]
-SCRIPT = ["../hex", "../octets", "../support", "coding", "names", "reasons", "lights", "link", "pane", "places"]
+WORKER += ["names", "wrong_digits", "coding", "advice", "roots", "layout", "blank", "outline", "arguments", "joined_registry", "worker"]
+SCRIPT = ["../hex", "../octets", "../support", "names", "wrong_digits", "coding", "reasons", "lights", "link", "pane", "places"]
 SCRIPT += ["questions", "digits", "tree"]
 SCRIPT += ["main"]
 

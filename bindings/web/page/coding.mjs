@@ -1,24 +1,28 @@
 // Bytes as the page shows them: hexadecimal digits or base64. Which of the two is chosen, and never guessed.
 import { bytesOfHex, hexOf } from '../hex.mjs';
 import { fromBase64, toBase64 } from '../octets.mjs';
+import { wrongBase64, wrongDigits } from './wrong_digits.mjs';
 
 /** Bytes as a text. */
 export function coded(bytes, coding) {
   return coding === 'base64' ? toBase64(bytes) : hexOf(bytes);
 }
 
-/** The bytes of a text, which may have white space in it, or why it has none: `{ bytes }` or `{ fault }`. */
+/**
+ * The bytes of a text, which may have white space in it, or why it has none: `{ bytes }` or `{ fault }`. A fault has `words` and,
+ * if a character is wrong, its `place`.
+ */
 export function decoded(text, coding) {
   const signs = text.replace(/\s+/g, '');
-  if (coding === 'base64') return ofBase64(signs);
-  const bytes = bytesOfHex(signs.replace(/^0x/i, ''));
-  return bytes === undefined ? { fault: /^(0x)?[0-9a-f]*$/i.test(signs) ? 'odd' : 'sign' } : { bytes };
+  const bytes = coding === 'base64' ? ofBase64(signs) : bytesOfHex(signs.replace(/^0x/i, ''));
+  if (bytes !== undefined) return { bytes };
+  return { fault: coding === 'base64' ? wrongBase64(text) : wrongDigits(text) };
 }
 
 function ofBase64(signs) {
   try {
-    return { bytes: fromBase64(signs) };
+    return fromBase64(signs);
   } catch {
-    return { fault: 'base64' };
+    return undefined;
   }
 }

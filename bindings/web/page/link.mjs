@@ -1,22 +1,24 @@
 // The state of the page in the fragment of its address, which no browser sends anywhere.
-const VERSION = '1.';
+const VERSION = '2.';
+// With a checksum, without which one wrong character of a link could turn into another value.
+const FORM = 'gzip';
 // A link may come from anyone: more than this isn't unpacked.
 const MOST_UNPACKED = 32 << 20;
 const MOST_LINK = 400_000;
 
 /** The fragment that holds a state, or `undefined` where it would be too long for an address. */
 export async function fragmentOf(state) {
-  const packed = await piped(new Blob([JSON.stringify(state)]), new CompressionStream('deflate-raw'));
+  const packed = await piped(new Blob([JSON.stringify(state)]), new CompressionStream(FORM));
   const fragment = VERSION + base64Of(packed);
   return fragment.length <= MOST_LINK ? fragment : undefined;
 }
 
-/** The state that a fragment holds, or `undefined` where it holds none. */
+/** The state that a fragment holds, or `undefined` where it holds none, or not all of one. */
 export async function stateOf(fragment) {
   if (!fragment.startsWith(VERSION)) return undefined;
   try {
     const packed = bytesOfBase64(fragment.slice(VERSION.length));
-    const text = await piped(new Blob([packed]), new DecompressionStream('deflate-raw'));
+    const text = await piped(new Blob([packed]), new DecompressionStream(FORM));
     return checked(JSON.parse(new TextDecoder().decode(text)));
   } catch {
     return undefined;

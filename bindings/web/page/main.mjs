@@ -9,13 +9,14 @@ import { counted, listedNames, shownName, shownNumber } from './names.mjs';
 import { Pane } from './pane.mjs';
 import { lineAndColumn, rangeAt, rangeOfLine } from './places.mjs';
 import { Questions } from './questions.mjs';
-import { sentenceOn } from './reasons.mjs';
+import { expectedAt, sentenceOn, toldOfBytes, toldOfFormat, toldOfText } from './reasons.mjs';
 import { Tree } from './tree.mjs';
 
 const OWN = 'own';
 const TYPING_PAUSE = 120;
 const MOST_OPENED = 1 << 28;
 const CLOSED = '';
+const BOTH_SIDES = ['text', 'bytes'];
 const BYTE_STRINGS = ['bytes', 'octets', 'text'];
 const NO_PIECES = { first: 0, pieces: [], rows: [], stop: undefined, rest: '', covered: 0, length: 0, isCut: false };
 
@@ -32,12 +33,16 @@ class Page {
   #coding = 'hex';
   // whether the reader has typed what that side holds, or opened it
   #isOwn = false;
+  // whether the reader has typed the format: one that was chosen gives way to the root of a new registry
+  #isFormatOwn = false;
   #part = '';
   // the formats of the byte strings that the reader opened, by their names, and the one that can be opened now
   #inside = {};
   #opening = '';
   #explained = NO_PIECES;
   #pauses = new Map();
+  // the number of examples and links that were opened: answers to questions on what was there before are late
+  #opened = 0;
 
   constructor() {
     this.panes = {
@@ -62,9 +67,9 @@ class Page {
   #listen() {
     $('example').addEventListener('change', () => this.#takeChosenExample());
     $('container').addEventListener('change', () => this.#chooseContainer());
-    $('format').addEventListener('input', () => this.#later('value', () => this.#answerClosed()));
+    $('format').addEventListener('input', () => this.#typeFormat());
     $('make').addEventListener('click', () => this.#makeRegistry('{}'));
-    $('add').addEventListener('click', () => this.#makeRegistry(this.panes.registry.content));
+    $('add').addEventListener('click', () => this.#makeRegistry(this.panes.registry.content.trim() || '{}'));
     $('inside').addEventListener('change', () => this.#openInside());
     $('normal').addEventListener('click', () => this.#fill('normal', { content: this.panes.text.content }));
     $('blank').addEventListener('click', () => this.#fill('blank', {}));
@@ -91,6 +96,13 @@ class Page {
     this.#pauses.set(name, setTimeout(job, TYPING_PAUSE));
   }
 
+  /** Asks the worker. There is no answer where a newer question of the kind or another example or link took over. */
+  async #ask(question, asked) {
+    const opened = this.#opened;
+    const told = await this.#questions.ask(question, asked);
+    return opened === this.#opened ? told : undefined;
+  }
+
   // What is coded: the registry, and a format of it
 
   #listExamples() {
@@ -114,6 +126,8 @@ class Page {
 
   /** Takes over a whole state: that of an example, or of a link. */
   async #show({ registry, format, side, content, inside = {} }) {
+    this.#leave();
+    this.#isFormatOwn = !format.startsWith('{"TYPENAME":');
     this.#coding = $('coding').value = 'hex';
     this.panes.registry.content = registry;
     this.#side = side;
@@ -125,6 +139,12 @@ class Page {
     await this.#readRegistry(format);
   }
 
+  /** What was typed or asked before doesn't come any more. */
+  #leave() {
+    this.#opened++;
+    for (const pause of this.#pauses.values()) clearTimeout(pause);
+  }
+
   /** The registry of modules, which takes the place of the one that is there, or goes beside its containers. */
   async #makeRegistry(beside) {
     const asked = { modules: this.panes.modules.content, types: this.panes.types.content, beside };
@@ -134,7 +154,7 @@ class Page {
       verdict.textContent = 'name a type or a function, each on a line of its own';
       return;
     }
-    const told = await this.#questions.ask('modules', asked);
+    const told = await this.#ask('modules', asked);
     if (told === undefined) return;
     const { answer, refusal } = told;
     verdict.className = refusal ? 'bad' : 'good';
@@ -147,28 +167,30 @@ class Page {
 
   /**
    * Of a registry without the container that was chosen, its root is chosen, with a blank value if the reader hasn't typed
-   * one. A format that the reader typed stays.
+   * one. A format that the reader typed stays, and so does the list of containers until the registry is right.
    */
   async #readOwnRegistry() {
     $('example').value = OWN;
     this.#inside = {};
-    const isOther = await this.#readRegistry(this.#format, $('container').value !== OWN);
+    const isOther = await this.#readRegistry(this.#format, true);
     if (!isOther) return;
     const isKept = this.#isOwn && this.panes[this.#side].content.trim() !== '';
     await (isKept ? this.#answer() : this.#fillBlank());
   }
 
   /** Whether the format is now the root of the registry, in place of one that isn't there. */
-  async #readRegistry(format, seeksRoot = false) {
-    const told = await this.#questions.ask('registry', { text: this.panes.registry.content });
+  async #readRegistry(format, isTyped = false) {
+    const told = await this.#ask('registry', { text: this.panes.registry.content });
     if (told === undefined) return;
     const { answer, refusal } = told;
     const verdict = $('registry-verdict');
     verdict.className = refusal ? 'bad' : 'good';
     verdict.textContent = refusal ? toldOfRefusal(refusal) : toldOfContainers(answer);
     this.panes.registry.mark(refusal && rangeOf(this.panes.registry.content, refusal));
+    const seeksRoot = isTyped && !this.#isFormatOwn;
     const isMissing = seeksRoot && answer?.root !== undefined && !hasContainer(answer.names, format);
-    this.#listContainers(answer?.names ?? [], isMissing ? JSON.stringify({ TYPENAME: answer.root }) : format);
+    const found = isMissing ? JSON.stringify({ TYPENAME: answer.root }) : format;
+    if (answer || !isTyped) this.#listContainers(answer?.names ?? [], found);
     if (!isMissing) await this.#answer();
     return isMissing;
   }
@@ -186,9 +208,15 @@ class Page {
 
   #chooseContainer() {
     const isOwn = $('container').value === OWN;
+    this.#isFormatOwn = isOwn;
     $('own-format').hidden = !isOwn;
     if (isOwn && $('format').value === '') $('format').value = '{"SEQ":"U8"}';
     this.#answerClosed();
+  }
+
+  #typeFormat() {
+    this.#isFormatOwn = true;
+    this.#later('value', () => this.#answerClosed());
   }
 
   /** Opens a byte string with the container that was chosen, or closes it. */
@@ -238,7 +266,7 @@ class Page {
   async #answer() {
     const content = this.panes[this.#side].content;
     const waiting = setTimeout(() => $('verdict').classList.add('waiting'), 400);
-    const told = await this.#questions.ask('value', { ...this.#asked, side: this.#side, content });
+    const told = await this.#ask('value', { ...this.#asked, side: this.#side, content });
     clearTimeout(waiting);
     if (told === undefined) return;
     $('verdict').classList.remove('waiting');
@@ -250,19 +278,24 @@ class Page {
     const explained = answer?.explained ?? NO_PIECES;
     const fault = refusal ?? answer.refusal;
     this.panes.text.mark(undefined);
+    this.panes.bytes.mark(undefined);
     markStale(this.#side, false);
     markStale(this.#otherSide, fault !== undefined);
     if (!fault) this.#fillOtherSide(answer);
+    this.#showPieces(explained);
+    if (fault) this.#tellFault(fault, explained.stop);
+    else if (explained.trouble) tellVerdict('bad', 'Byte strings stay closed:', toldOfTrouble(explained.trouble, answer.length));
+    else tellVerdict('', `${counted(answer.length, 'byte', 'bytes')}:`, ' the one encoding of this value.');
+  }
+
+  #showPieces(explained) {
     this.#explained = explained;
     $('pieces').hidden = explained.pieces.length === 0 && explained.stop === undefined;
     this.#digits.show(explained);
     this.#tree.show(explained);
-    this.#tellLit(-1, -1);
+    $('detail').textContent = 'Point at digits or at a row, or go there by the arrow keys.';
     $('opening').hidden = $('part').hidden = true;
     $('pieces-note').textContent = noteOn(explained);
-    if (fault) this.#tellFault(fault, explained.stop);
-    else if (explained.trouble) tellVerdict('bad', 'Byte strings stay closed:', toldOfTrouble(explained.trouble, answer.length));
-    else tellVerdict('', `${counted(answer.length, 'byte', 'bytes')}:`, ' the one encoding of this value.');
   }
 
   #fillOtherSide({ text, digits, length }) {
@@ -274,43 +307,26 @@ class Page {
 
   #tellFault(fault, stop) {
     const { kind, reason, place, detail } = fault;
+    const { text, bytes } = this.panes;
     if (kind === 'page' || kind === 'stack' || kind === 'memory') return tellVerdict('bad', 'No answer:', ` ${detail}.`);
-    if (kind === 'digits') return tellVerdict('bad', 'No bytes:', ` ${DIGIT_FAULTS[reason]}`);
-    if (kind === 'text') return this.#tellTextFault(fault);
-    if (kind === 'format') return tellVerdict('bad', `Refused: ${reason}.`, ` ${formatFault(this.#format, fault)}`);
+    if (kind === 'digits') return tellMarked(bytes, rangeOfSign(bytes.content, place), 'No bytes', `${detail}.`);
+    if (kind === 'text') return tellMarked(text, rangeShown(text, fault), 'Refused', `${reason}. ${toldOfText(fault)}`);
+    if (kind === 'format') return tellFormat(this.#format, fault);
     const where = place === undefined ? '' : ` at byte ${shownNumber(place)}`;
-    const expected = stop ? ` Expected there: ${shownName(stop.want)}, at ${shownName(stop.name, 400)}.` : '';
-    tellVerdict('bad', `Refused${where}: ${reason}.`, ` ${sentenceOn(kind, reason)}${expected}`);
+    tellVerdict('bad', `Refused${where}: ${reason}.`, ` ${kind === 'bytes' ? toldOfBytes(reason, stop) : sentenceOn(kind, reason)}`);
   }
 
-  /** Where a text is refused it is marked, and a button takes the cursor there. */
-  #tellTextFault(fault) {
-    const { kind, reason, at, detail } = fault;
-    const pane = this.panes.text;
-    const range = pane.isCut ? undefined : rangeOf(pane.content, fault);
-    pane.mark(range);
-    const way = at ? ` At ${shownName(at, 400)}:` : '';
-    // (the button tells the line)
-    const told = reason === 'NotJson' ? detail?.replace(/^line \d+, column \d+(: |$)/, '') : detail;
-    const words = told ? `${way} ${shownName(told, 400)}.` : '';
-    tellVerdict('bad', `Refused${range ? ' at ' : ''}`, `: ${reason}. ${sentenceOn(kind, reason)}${words}`, range && (() => {
-      const { line, column } = lineAndColumn(pane.content, range[0]);
-      const button = document.createElement('button');
-      button.type = 'button';
-      button.textContent = `line ${shownNumber(line)}, column ${shownNumber(column)}`;
-      button.addEventListener('click', () => pane.goToMark());
-      return button;
-    })());
-  }
-
-  /** The line below the views: what is lit. The buttons stay where the pointer leaves the views. */
+  /**
+   * The line below the views: what is lit. It stays, like the buttons, where the pointer or the focus leaves the views: the buttons
+   * are about the piece that it describes.
+   */
   #tellLit(from, to) {
     const { pieces } = this.#explained;
     const lit = pieces.slice(Math.max(from, 0), Math.max(to, 0));
-    $('detail').textContent = lit.length === 0 ? 'Point at digits or at a row, or go there by the arrow keys.' : detailOf(lit);
-    // No part is inside a key.
     if (lit.length === 0) return;
+    $('detail').textContent = detailOf(lit);
     this.#offerOpening(lit);
+    // No part is inside a key.
     const name = lit.length === 1 && lit[0].path !== null ? lit[0].name : null;
     $('part').hidden = name === null;
     const coding = this.#coding === 'base64' ? '--base64 ' : '';
@@ -350,7 +366,7 @@ class Page {
   }
 
   async #fill(question, asked, isTyped = () => false) {
-    const { answer, refusal } = (await this.#questions.ask(question, { ...this.#asked, ...asked })) ?? {};
+    const { answer, refusal } = (await this.#ask(question, { ...this.#asked, ...asked })) ?? {};
     if (isTyped()) return;
     if (refusal) this.#tellFault(refusal);
     if (!answer) return;
@@ -376,7 +392,7 @@ class Page {
       verdict.textContent = '';
       return;
     }
-    const told = await this.#questions.ask('compare', { ...this.#asked, first, second });
+    const told = await this.#ask('compare', { ...this.#asked, first, second });
     if (told === undefined) return;
     const { answer, refusal } = told;
     verdict.className = answer?.isEqual ? 'good' : 'bad';
@@ -400,9 +416,18 @@ class Page {
     flash($('link'), (await copied(location.href)) ? 'Link copied' : 'In the address bar');
   }
 
+  /** Whether the address is that of a link, also of a damaged one. */
   async #restore() {
-    const state = await stateOf(location.hash.slice(1));
-    if (state === undefined) return false;
+    const { hash } = location;
+    const state = await stateOf(hash.slice(1));
+    // (a newer link may have come meanwhile, and is read by itself)
+    if (hash !== location.hash) return true;
+    if (hash === '') return false;
+    await (state === undefined ? this.#showNothing() : this.#showState(state));
+    return true;
+  }
+
+  async #showState(state) {
     const told = ['registry', 'format', 'content'];
     const known = this.#examples.findIndex((example) => told.every((name) => example[name] === state[name]));
     $('example').value = known < 0 ? OWN : String(known);
@@ -410,7 +435,25 @@ class Page {
     this.panes.second.content = state.second;
     $('compare-box').open = state.first !== '' || state.second !== '';
     await this.#show({ ...state, side: state.side === 'bytes' ? 'bytes' : 'text' });
-    return true;
+  }
+
+  /** Of a damaged link. An example, or what was there before, would be taken for what the link has. */
+  #showNothing() {
+    this.#leave();
+    $('example').value = OWN;
+    for (const name of ['registry', 'text', 'bytes', 'first', 'second']) this.panes[name].content = '';
+    for (const id of ['registry-verdict', 'modules-verdict', 'compare-verdict']) $(id).textContent = '';
+    $('compare-box').open = false;
+    $('container').replaceChildren();
+    $('own-format').hidden = true;
+    $('format').value = '';
+    this.#isFormatOwn = false;
+    this.#side = 'text';
+    this.#inside = {};
+    for (const side of BOTH_SIDES) markStale(side, false);
+    this.#showPieces(NO_PIECES);
+    tellVerdict('bad', 'Nothing was loaded:', ' the link is damaged or incomplete.');
+    $('damaged').hidden = false;
   }
 
   /** What a side holds, of which the box may show a front alone. */
@@ -454,11 +497,6 @@ class Page {
 }
 
 const FORMAT_WORDS = /^(UNIT|BOOL|STR|BYTES|CHAR|[UI](8|16|32|64|128)|F32|F64)$/;
-const DIGIT_FAULTS = {
-  sign: 'two hexadecimal digits stand for each byte, 0 to 9 and a to f. If this is base64, choose that.',
-  odd: 'two hexadecimal digits stand for each byte. One is missing.',
-  base64: 'this isn’t base64 with its padding, or choose hexadecimal.',
-};
 
 /** A side that is not in step keeps what it shows, but nobody should sign it. */
 function markStale(side, isStale) {
@@ -477,11 +515,11 @@ function hasContainer(names, format) {
 }
 
 /** What is wrong with a format that is refused. */
-function formatFault(format, { kind, reason, detail, at }) {
+function tellFormat(format, fault) {
   const word = format.trim();
-  if (FORMAT_WORDS.test(word)) return `${word} isn’t JSON: write "${word}".`;
-  const told = detail === undefined ? sentenceOn(kind, reason) : `${shownName(detail, 400)}.`;
-  return at ? `At ${shownName(at, 400)}: ${told}` : told;
+  if (word === '') return tellVerdict('bad', 'No format:', ' choose a container, or write a format such as "U8" or {"SEQ":"STR"}.');
+  const told = FORMAT_WORDS.test(word) ? `${word} isn’t JSON: write "${word}".` : toldOfFormat(fault);
+  tellVerdict('bad', `Refused: ${fault.reason}.`, ` ${told}`);
 }
 
 /** A word for a shell. */
@@ -496,10 +534,39 @@ function jsonOfFormat(format) {
 
 function tellVerdict(state, strong, text, ...between) {
   const verdict = $('verdict');
+  $('damaged').hidden = true;
   verdict.className = `verdict ${state}`;
   const told = document.createElement('strong');
   told.textContent = strong;
   verdict.replaceChildren(told, ...between.filter(Boolean), text);
+}
+
+/** What is wrong with what a side holds. The range is marked, if the side shows it, and a button takes the cursor there. */
+function tellMarked(pane, range, strong, text) {
+  const shown = pane.isCut ? undefined : range;
+  pane.mark(shown);
+  if (shown) return tellVerdict('bad', `${strong} at `, `: ${text}`, buttonTo(pane, shown));
+  const where = range ? ` at character ${shownNumber(range[0] + 1)}` : '';
+  tellVerdict('bad', `${strong}${where}:`, ` ${text}`);
+}
+
+function buttonTo(pane, [at]) {
+  const { line, column } = lineAndColumn(pane.content, at);
+  const button = document.createElement('button');
+  button.type = 'button';
+  button.textContent = `line ${shownNumber(line)}, column ${shownNumber(column)}`;
+  button.addEventListener('click', () => pane.goToMark());
+  return button;
+}
+
+/** Where refused JSON is, unless it is too long to be shown. */
+function rangeShown(pane, fault) {
+  return pane.isCut ? undefined : rangeOf(pane.content, fault);
+}
+
+/** Where a sign begins and ends. */
+function rangeOfSign(text, at) {
+  return at === undefined ? undefined : [at, at + String.fromCodePoint(text.codePointAt(at)).length];
 }
 
 /** Where the refused JSON begins and ends, if the refusal says so. */
@@ -526,7 +593,7 @@ function toldOfContainers({ count, names }) {
 /** Why the byte strings stay closed, for a value of so many bytes. */
 function toldOfTrouble({ reason, place, want, name, detail }, length) {
   const where = place === undefined ? '' : ` at byte ${shownNumber(place)}`;
-  const words = want === undefined ? shownName(detail ?? '', 200) : `expected there: ${shownName(want)}, at ${shownName(name, 200)}`;
+  const words = want === undefined ? shownName(detail ?? '', 200) : `expected there: ${expectedAt({ want, name })}`;
   const whole = `The ${counted(length, 'byte', 'bytes')} are the one encoding of the value around it.`;
   return ` one isn’t a value of its format: ${reason}${where}, ${words}. ${whole}`;
 }

@@ -2,6 +2,7 @@
 import { BcsError } from '../errors.mjs';
 import { load } from '../loader.mjs';
 import { hexOf } from '../hex.mjs';
+import { adviceOnPage } from './advice.mjs';
 import { coded, decoded } from './coding.mjs';
 import { callsIn } from './arguments.mjs';
 import { blankOf } from './blank.mjs';
@@ -36,7 +37,7 @@ self.onmessage = async ({ data: { id, question, ...asked } }) => {
 function refusalOf(error) {
   if (error instanceof BcsError) {
     const { kind, reason, place, at, detail } = error;
-    return { kind, reason, place, at, detail };
+    return { kind, reason, place, at, detail: adviceOnPage(detail) };
   }
   return { kind: 'page', detail: error.message };
 }
@@ -86,7 +87,7 @@ function valueOfText(registry, format, text, { coding, inside }) {
 
 function valueOfBytes(registry, format, digits, { coding, inside }) {
   const { bytes, fault } = decoded(digits, coding);
-  if (fault !== undefined) throw new BcsError('digits', { reason: fault });
+  if (fault !== undefined) throw new BcsError('digits', { place: fault.place, detail: fault.words });
   last = { text: '', bytes };
   try {
     last.text = registry.decodeText(format, bytes);

@@ -226,7 +226,7 @@ test('a link restores the whole state', async () => {
   await page.ask("(document.getElementById('compare-box').open = true, document.getElementById('first').focus())");
   await page.type('null');
   await page.ask("document.getElementById('link').click()");
-  await page.until("location.hash.startsWith('#1.')");
+  await page.until("location.hash.startsWith('#2.')");
   const fragment = await page.ask('location.hash');
   const other = await opened({}, fragment);
   assert.equal(await other.ask(verdict), await page.ask(verdict));
@@ -237,9 +237,73 @@ test('a link restores the whole state', async () => {
   await isQuiet(other);
 });
 
-test('a damaged link leaves the page as it is', async () => {
-  const page = await opened({}, '#1.AAAAnothing');
-  assert.equal(await page.ask(valueOf('bytes')), read('aptos_transfer.hex'));
+/** The fragment of a link to an example. */
+async function fragmentOfExample(title) {
+  const page = await opened();
+  await choose(page, 'example', title);
+  await page.until(`${valueOf('example')} !== '0' && ${verdict}.includes('the one encoding')`);
+  await page.ask("document.getElementById('link').click()");
+  await page.until("location.hash.startsWith('#2.')");
+  const fragment = await page.ask('location.hash');
+  await page.close();
+  return fragment;
+}
+
+const isDamaged = "!document.getElementById('damaged').hidden";
+
+/** The page says that the link is damaged, and shows no value, neither an example nor what was there. */
+async function showsNothing(page) {
+  await page.until(isDamaged);
+  assert.match(await page.ask("document.getElementById('damaged').textContent"), /This link is damaged or incomplete\. Nothing was loaded from it\./);
+  assert.equal(await page.ask(verdict), 'Nothing was loaded: the link is damaged or incomplete.');
+  assert.equal(await page.ask("document.getElementById('verdict').className"), 'verdict bad');
+  for (const id of ['registry', 'text', 'bytes', 'first', 'second', 'container']) assert.equal(await page.ask(valueOf(id)), '', id);
+  assert.equal(await page.ask("document.getElementById('example').selectedOptions[0].text"), 'your own');
+  assert.ok(await page.ask("document.getElementById('pieces').hidden"));
+}
+
+test('of a damaged link nothing is loaded', async () => {
+  const whole = await fragmentOfExample('Sui: a stake');
+  const changed = `${whole.slice(0, 400)}${whole[400] === 'A' ? 'B' : 'A'}${whole.slice(401)}`;
+  for (const fragment of [whole.slice(0, -60), changed, whole.slice(0, 3), '#1.AAAAnothing', '#x']) {
+    const page = await chromium.page();
+    await page.open(address + fragment);
+    await showsNothing(page);
+    await choose(page, 'example', 'Sui: a transfer');
+    await page.until(`${valueOf('bytes')} === '${read('sui_transfer.hex')}' && !(${isDamaged})`);
+    await isQuiet(page);
+  }
+  // A registry that is pasted is the first one.
+  const page = await chromium.page();
+  await page.open(address + changed);
+  await showsNothing(page);
+  await fill(page, 'text', '7');
+  await page.until(`${verdict}.startsWith('Refused: NotJson. The registry') && !(${isDamaged})`);
+  await fill(page, 'text', '');
+  await fill(page, 'registry', REGISTRY);
+  await page.until(`${valueOf('container')} === '{"TYPENAME":"Outer"}' && ${valueOf('bytes')} === '000000000000000000'`);
+  await isQuiet(page);
+});
+
+test('a damaged link on an open page takes the place of what was there', async () => {
+  const whole = await fragmentOfExample('Sui: a stake');
+  const page = await opened();
+  for (const fragment of [whole.slice(0, -60), `${whole.slice(0, 60)}${whole.slice(61)}`]) {
+    await fill(page, 'first', '{}');
+    // (what was typed just before, and what is being answered, doesn't come any more)
+    await page.ask(`document.getElementById('text').dispatchEvent(new Event('input')), location.hash = ${JSON.stringify(fragment)}`);
+    await showsNothing(page);
+    await new Promise((resolve) => setTimeout(resolve, 500));
+    await showsNothing(page);
+    await page.ask(`location.hash = ${JSON.stringify(whole)}`);
+    await page.until(`${valueOf('bytes')} === '${read('sui_stake.hex')}' && !(${isDamaged})`);
+    assert.equal(await page.ask("document.getElementById('example').selectedOptions[0].text"), 'Sui: a stake');
+  }
+  // An answer on the way is late.
+  await page.ask(`document.getElementById('container').dispatchEvent(new Event('change')), location.hash = '#2.'`);
+  await showsNothing(page);
+  await new Promise((resolve) => setTimeout(resolve, 500));
+  await showsNothing(page);
   await isQuiet(page);
 });
 
@@ -293,7 +357,7 @@ test('hostile names in the place of a refusal, and in its words, are text', asyn
   for (const [value, told] of [
     [{ [SCRIPT]: { [`<b>${IMAGE}/`]: 7, 'a\u202eb': true } }, `At /<script>alert(4)<~1script>/<b>${IMAGE}~1: expected BOOL, true or false.`],
     [{ [SCRIPT]: { 'a\u202eb': true } }, `At /<script>alert(4)<~1script>: no member is called <b>${IMAGE}/.`],
-    [{ [SCRIPT]: { [`<b>${IMAGE}/`]: true, 'a\u202eb': true, [IMAGE]: 0 } }, `no field is called ${IMAGE}; did you mean <b>${IMAGE}/?.`],
+    [{ [SCRIPT]: { [`<b>${IMAGE}/`]: true, 'a\u202eb': true, [IMAGE]: 0 } }, `no field is called ${IMAGE}; did you mean <b>${IMAGE}/?`],
     [{ [SCRIPT]: { [`<b>${IMAGE}/`]: true, 'a\u202eb': 7 } }, 'At /<script>alert(4)<~1script>/a\\u{202e}b: expected'],
     [IMAGE, `no variant is called ${IMAGE}; variants: ${SCRIPT}.`],
     [SCRIPT, `expected an object with the one member ${SCRIPT}.`],
@@ -508,11 +572,98 @@ test('a new registry erases neither a value that was typed nor a format', async 
   await isQuiet(page);
 });
 
-test('a text that is no JSON says why', async () => {
+test('a registry that is broken for a while keeps the selection, and a good one selects its root', async () => {
   const page = await opened();
-  await replace(page, 'text', '{"to":"bob",}');
-  await page.until(`${verdict}.includes('a comma after the last one; remove it.')`);
-  assert.doesNotMatch(await page.ask(verdict), /line 1, column 12.*line 1, column 12/);
+  const broken = `${verdict}.startsWith('Refused: NotJson. The registry isn’t valid JSON.')`;
+  await fill(page, 'registry', 'aptos');
+  await page.until(broken);
+  assert.match(await page.ask("document.getElementById('registry-verdict').textContent"), /^refused: NotJson, line 1, column 1: text belongs in double quotes$/);
+  assert.equal(await page.ask(valueOf('container')), '{"TYPENAME":"RawTransaction"}');
+  await fill(page, 'registry', REGISTRY);
+  await page.until(`${valueOf('container')} === '{"TYPENAME":"Outer"}' && ${valueOf('bytes')} === '000000000000000000'`);
+  // A registry without containers has no root, and no format that the reader typed.
+  await fill(page, 'registry', '{}');
+  await page.until("document.getElementById('registry-verdict').textContent === '0 containers'");
+  await fill(page, 'registry', REGISTRY.replaceAll('Outer', 'Other'));
+  await page.until(`${valueOf('container')} === '{"TYPENAME":"Other"}' && ${valueOf('bytes')} === '000000000000000000'`);
+  // A format that the reader typed stays.
+  await choose(page, 'container', 'another format');
+  await replace(page, 'format', '{"OPTION":"U8"}');
+  await fill(page, 'registry', 'aptos');
+  await page.until(broken);
+  await fill(page, 'registry', REGISTRY);
+  await page.until("document.getElementById('registry-verdict').textContent === '3 containers'");
+  assert.deepEqual(await page.ask(`[${valueOf('container')}, ${valueOf('format')}]`), ['own', '{"OPTION":"U8"}']);
+  await isQuiet(page);
+});
+
+test('modules and digits in the wrong box are told where they belong', async () => {
+  const page = await opened();
+  await fill(page, 'registry', read('move/aptos_modules.json'));
+  await page.until("document.getElementById('registry-verdict').textContent.includes('these are modules of Move: paste them under Modules')");
+  await choose(page, 'example', 'Aptos: a transfer');
+  await page.until(`${verdict}.includes('the one encoding')`);
+  await fill(page, 'text', '00ff');
+  await page.until(`${verdict}.includes('paste them under Bytes')`);
+  assert.doesNotMatch(await page.ask(verdict), /decode/);
+  await isQuiet(page);
+});
+
+// What is pasted under Bytes, the verdict, and what is marked.
+const PASTED = [
+  ['"0aff"', /^No bytes at line 1, column 1: digits have no quotation marks; remove them\.$/, '"'],
+  ['{"a":1}', /^No bytes at line 1, column 1: this looks like JSON; paste it under JSON\.$/, '{'],
+  [`${'0a'.repeat(211)}zz`, /^No bytes at line 1, column 423: z isn’t a hexadecimal digit; if this is base64, choose that\.$/, 'z'],
+  ['0a\n0a:ff', /^No bytes at line 2, column 3: there are no colons between digits/, ':'],
+  ['\\x0a', /^No bytes at line 1, column 1: \\x isn’t part of the digits/, '\\'],
+  ['0a0', /^No bytes: two hexadecimal digits stand for each byte\. One is missing\.$/, undefined],
+];
+
+test('what isn’t bytes is marked at its character', async () => {
+  const page = await opened();
+  for (const [text, told, marked] of PASTED) {
+    await fill(page, 'bytes', text);
+    await page.until(`${told}.test(${verdict})`);
+    assert.equal(await page.ask("document.querySelector('#bytes-side mark')?.textContent"), marked);
+    if (marked === undefined) continue;
+    await page.ask("document.querySelector('#verdict button').click()");
+    const selected = "(({ value, selectionStart, selectionEnd }) => value.slice(selectionStart, selectionEnd))(document.activeElement)";
+    assert.deepEqual(await page.ask(`[document.activeElement.id, ${selected}]`), ['bytes', marked]);
+  }
+  await openFile(page, 'bytes', Buffer.from(`${'0a'.repeat(100_000)}0!`).toString('base64'), 'long.base64');
+  await choose(page, 'coding', 'base64');
+  await page.until(`${verdict}.startsWith('Refused')`);
+  await fill(page, 'bytes', '');
+  await replace(page, 'bytes', `${'0a/'.repeat(50_000)}!`);
+  await page.until(`${verdict}.startsWith('No bytes at character 150,001: ! isn’t a character of base64.')`);
+  await isQuiet(page);
+});
+
+// JSON, or bytes, and the whole verdict.
+const VERDICTS = [
+  ['text', '{"a":"bob",}', 'Refused at line 1, column 11: NotJson. This isn’t valid JSON: a comma after the last one; remove it.'],
+  ['text', '{"a":7,"b":7}', /^Refused at line 1, column 12: BadShape\. This JSON doesn’t match the format\. At \/b: .*\.$/],
+  ['bytes', '000000000000000000ff', 'Refused at byte 9: TrailingBytes. The value has ended, and more bytes follow.'],
+  ['bytes', '00', 'Refused at byte 1: EndOfInput. The bytes end before the value does. Expected there: U64, at .a.'],
+];
+
+test('a refusal is told in whole sentences', async () => {
+  const page = await opened();
+  await fill(page, 'registry', REGISTRY);
+  await page.until(`${valueOf('bytes')} === '000000000000000000'`);
+  for (const [side, content, told] of VERDICTS) {
+    await fill(page, side, content);
+    await page.until(typeof told === 'string' ? `${verdict} === ${JSON.stringify(told)}` : `${told}.test(${verdict})`);
+  }
+  await choose(page, 'container', 'another format');
+  for (const [format, told] of [
+    ['', 'No format: choose a container, or write a format such as "U8" or {"SEQ":"STR"}.'],
+    ['{}', 'Refused: BadShape. Expected a format, found an empty object.'],
+    ['Nope', 'Refused: UnknownName. No container is called Nope.'],
+  ]) {
+    await fill(page, 'format', format);
+    await page.until(`${verdict} === ${JSON.stringify(told)}`);
+  }
   await isQuiet(page);
 });
 
@@ -598,7 +749,7 @@ test('a byte string is opened with a container, and closed', async () => {
   await page.until("!document.getElementById('opening').hidden");
   // A link has the opened byte strings, too.
   await page.ask("document.getElementById('link').click()");
-  await page.until("location.hash.startsWith('#1.')");
+  await page.until("location.hash.startsWith('#2.')");
   const other = await opened({}, await page.ask('location.hash'));
   await other.until(`${rows}.includes('[bcs]')`);
   assert.equal(await other.ask(rows), await page.ask(rows));
@@ -645,14 +796,22 @@ test('no two buttons have one name, and a piece leads to the command part', asyn
   await focus(page, 'digits');
   await page.press('ArrowRight');
   await page.until("!document.getElementById('part').hidden");
+  const detail = "document.getElementById('detail').textContent";
+  const described = await page.ask(detail);
+  assert.match(described, /^byte 32, 8 bytes: U64 11  \.sequence_number  path /);
   await page.ask('document.activeElement.blur()');
   assert.ok(!(await page.ask("document.getElementById('part').hidden")), 'the button stays for the way to it');
+  assert.equal(await page.ask(detail), described, 'and so does what it is about');
+  await page.ask("document.getElementById('part').focus()");
+  assert.equal(await page.ask(detail), described);
   await page.ask("Object.defineProperty(navigator, 'clipboard', { value: { writeText: async (text) => { globalThis.taken = text; } } })");
   await page.ask("document.getElementById('part').click()");
   await page.until('globalThis.taken');
   assert.match(await page.ask('globalThis.taken'), /^bcs part --name '\.[a-z_]+' registry\.json 'RawTransaction' value\.hex$/);
+  assert.match(await page.ask('globalThis.taken'), /'\.sequence_number'/);
   await choose(page, 'coding', 'base64');
   await page.until("document.getElementById('part').hidden");
+  assert.match(await page.ask(detail), /^Point at digits/);
   await focus(page, 'digits');
   await page.press('ArrowRight');
   await page.ask("globalThis.taken = '', document.getElementById('part').click()");

@@ -4,14 +4,16 @@ import { readFileSync } from 'node:fs';
 import test from 'node:test';
 import { load } from '../bcs.mjs';
 import { bytesOfHex } from '../hex.mjs';
+import { adviceOnPage } from '../page/advice.mjs';
 import { callsIn } from '../page/arguments.mjs';
 import { blankOf } from '../page/blank.mjs';
+import { coded, decoded } from '../page/coding.mjs';
 import { joinedRegistry } from '../page/joined_registry.mjs';
 import { laidOut } from '../page/layout.mjs';
 import { fragmentOf, stateOf } from '../page/link.mjs';
 import { shownName } from '../page/names.mjs';
 import { outlineOf } from '../page/outline.mjs';
-import { sentenceOn } from '../page/reasons.mjs';
+import { sentenceOn, toldOfBytes, toldOfFormat, toldOfText } from '../page/reasons.mjs';
 
 const bcs = await load(readFileSync(process.env.BCS_WASM));
 const read = (name) => readFileSync(new URL(`../../../examples/${name}`, import.meta.url), 'utf8');
@@ -52,9 +54,113 @@ test('a link holds the whole state, and nothing else is taken for one', async ()
   assert.deepEqual(await stateOf(await fragmentOf(older)), { ...older, inside: {} });
   const wrong = [{ content: 7 }, { inside: { '.data': 7 } }, { inside: null }];
   const fragments = await Promise.all(wrong.map((part) => fragmentOf({ ...state, ...part })));
-  for (const text of ['', '1.', '2.AAAA', '1.%%%', fragment.slice(0, 30), ...fragments]) {
+  for (const text of ['', '1.', '2.', '2.AAAA', '2.%%%', fragment.slice(0, 30), fragment.slice(2), `1${fragment.slice(1)}`, ...fragments]) {
     assert.equal(await stateOf(text), undefined, text);
   }
+});
+
+test('one wrong character in a link never gives another state', async () => {
+  const amounts = Array.from({ length: 60 }, (_, i) => String(i * 7919));
+  const state = { registry: '{}', format: '{"SEQ":"U64"}', side: 'text', content: JSON.stringify(amounts), first: '', second: '', inside: {} };
+  const fragment = await fragmentOf(state);
+  for (let at = 0; at < fragment.length; at++) {
+    for (const sign of ['A', 'b', '7', '_']) {
+      const found = await stateOf(fragment.slice(0, at) + sign + fragment.slice(at + 1));
+      if (found !== undefined) assert.deepEqual(found, state, `${sign} at ${at}`);
+    }
+    assert.equal(await stateOf(fragment.slice(0, at)), undefined, `cut at ${at}`);
+  }
+});
+
+// A text that isn't bytes, how it is written, the place of the wrong character, and what is said of it.
+const NO_BYTES = [
+  ['"0aff"', 'hex', 0, /^digits have no quotation marks; remove them$/],
+  ["'0aff'", 'hex', 0, /quotation marks/],
+  ['0aff"', 'hex', 4, /quotation marks/],
+  [' {"a":1}', 'hex', 1, /^this looks like JSON; paste it under JSON$/],
+  ['[1]', 'hex', 0, /paste it under JSON/],
+  [`${'0a'.repeat(211)}zz`, 'hex', 422, /^z isn’t a hexadecimal digit; if this is base64, choose that$/],
+  [`0x${'0a\n'.repeat(9)}!`, 'hex', 29, /^! isn’t a hexadecimal digit$/],
+  ['xy', 'hex', 0, /^x isn’t a hexadecimal digit/],
+  ['0a:ff', 'hex', 2, /no colons/],
+  ['0a, ff', 'hex', 2, /no commas/],
+  ['\\x0a\\xff', 'hex', 0, /^\\x isn’t part of the digits; remove it$/],
+  ['0x0a 0xff', 'hex', 6, /^0x is only allowed at the start/],
+  ['0a\u202eff', 'hex', 2, /^\\u{202e} isn’t/],
+  ['0a😀', 'hex', 2, /^😀 isn’t/],
+  ['0a😀{', 'hex', 2, /^😀 isn’t/],
+  ['0x 0', 'hex', undefined, /One is missing$/],
+  ['SGVs bG8', 'base64', undefined, /^the padding is missing or wrong/],
+  ['abcdef', 'base64', undefined, /if these are hexadecimal digits, choose that$/],
+  ['SGVsbG8-', 'base64', 7, /write \+ for -/],
+  ['SG=VsbG8', 'base64', 2, /^= is only allowed at the end$/],
+  ['SGVsb', 'base64', undefined, /^a character is missing, or there is one too many$/],
+  ['AAB=', 'base64', 2, /^bits are left over in the last character/],
+  ['{"a":1}', 'base64', 0, /^{ isn’t a character of base64$/],
+];
+
+test('what isn’t bytes has a wrong character, and words', () => {
+  for (const [text, coding, place, words] of NO_BYTES) {
+    const { bytes, fault } = decoded(text, coding);
+    assert.deepEqual([bytes, fault.place], [undefined, place], text);
+    assert.match(fault.words, words, text);
+  }
+  for (const [text, coding] of [['0X 0a\nFF', 'hex'], ['', 'hex'], [' Cv8=\n', 'base64'], ['', 'base64']]) {
+    const { bytes, fault } = decoded(text, coding);
+    assert.deepEqual([fault, coded(bytes, 'hex')], [undefined, text.trim() && '0aff'], text);
+  }
+});
+
+// The library's words, and those of the page.
+const WORDS = [
+  ['expected an object of containers, found an array; these are modules of Move: bcs from-move makes a registry from them', 'expected an object of containers, found an array; these are modules of Move: paste them under Modules'],
+  ['hexadecimal digits, where JSON belongs; decode reads such digits, and in JSON they belong in double quotes', 'hexadecimal digits, where JSON belongs; paste them under Bytes; in JSON they belong in double quotes'],
+  ['digits; decode reads such digits, and in JSON they belong in double quotes (a number has no leading zero)', 'digits; paste them under Bytes; in JSON they belong in double quotes (a number has no leading zero)'],
+  ['digits; decode reads such digits', 'digits; paste them under Bytes'],
+  ['line 1, column 3: a second JSON document starts there; --lines reads one document from each line', 'line 1, column 3: a second JSON document starts there'],
+  ['the value has more nodes than --nodes allows, 4000000', 'the value has more nodes than this page allows, 4000000'],
+  ['expected BOOL, true or false', 'expected BOOL, true or false'],
+  [undefined, undefined],
+];
+
+test('advice for the program names the boxes of the page', () => {
+  for (const [words, own] of WORDS) assert.equal(adviceOnPage(words), own);
+  // As the library really says it, whatever follows.
+  const detailOf = (call) => {
+    try {
+      return call();
+    } catch ({ detail }) {
+      return adviceOnPage(detail);
+    }
+  };
+  assert.match(detailOf(() => bcs.registry('[{"abi":{}}]')), /; these are modules of Move: paste them under Modules$/);
+  assert.match(detailOf(() => bcs.registry('aptos.json')), /^line 1, column 1: text belongs in double quotes$/);
+  const digits = detailOf(() => bcs.registry('{}').encodeText('"U8"', '0aff'));
+  assert.match(digits, /paste them under Bytes/);
+  assert.doesNotMatch(digits, /decode/);
+});
+
+// A refusal, and what the page says of it.
+const SENTENCES = [
+  [toldOfText({ reason: 'NotJson', at: '', detail: 'line 1, column 12: a comma after the last one; remove it' }), 'This isn’t valid JSON: a comma after the last one; remove it.'],
+  [toldOfText({ reason: 'NotJson', at: '' }), 'This isn’t valid JSON.'],
+  [toldOfText({ reason: 'BadShape', at: '/a', detail: 'expected BOOL, true or false' }), 'This JSON doesn’t match the format. At /a: expected BOOL, true or false.'],
+  [toldOfText({ reason: 'BadShape', at: '', detail: 'expected null' }), 'This JSON doesn’t match the format: expected null.'],
+  [toldOfText({ reason: 'UnknownField', at: '/a', detail: 'no field is called b; did you mean c?' }), 'An object has a member that isn’t a field. At /a: no field is called b; did you mean c?'],
+  [toldOfText({ reason: 'RepeatedKey', at: '', detail: 'two keys of a map are equal' }), 'Two keys of a map are equal.'],
+  [toldOfText({ reason: 'TooManyNodes', at: '', detail: 'the value has more nodes than --nodes allows, 4000000' }), 'The value has more parts than this page accepts.'],
+  [toldOfFormat({ reason: 'NotJson', at: '', detail: 'line 1, column 7: a value is missing' }), 'The format isn’t valid JSON at line 1, column 7: a value is missing.'],
+  [toldOfFormat({ reason: 'BadShape', at: '', detail: 'expected a format, found an empty object' }), 'Expected a format, found an empty object.'],
+  [toldOfFormat({ reason: 'BadShape', at: '/SEQ', detail: 'expected a format' }), 'At /SEQ: expected a format.'],
+  [toldOfFormat({ reason: 'TooNested' }), 'The format has more than 32 levels.'],
+  [toldOfBytes('EndOfInput', { want: 'U8', name: '.' }), 'The bytes end before the value does. Expected there: U8.'],
+  [toldOfBytes('BadBool', { want: 'BOOL', name: '.a' }), 'A truth value is 00 or 01. Expected there: BOOL, at .a.'],
+  [toldOfBytes('TrailingBytes', { want: 'the end', name: '.' }), 'The value has ended, and more bytes follow.'],
+  [toldOfBytes('TooNested', undefined), 'The bytes are a value, but arrays and objects of its JSON would nest more than 100 levels deep.'],
+];
+
+test('refusals become whole sentences', () => {
+  for (const [told, sentences] of SENTENCES) assert.equal(told, sentences);
 });
 
 test('a link that unpacks to more than 32 MiB is left alone, and a long state gets none', async () => {
