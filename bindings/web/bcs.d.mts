@@ -113,7 +113,7 @@ export const Limits: {
 export type Kind =
   /** The registry, the newer registry of two, or the format is refused. */
   | 'registry' | 'newer' | 'format'
-  /** The depth is above 500, which `withLimits` rejects first, with a `RangeError`. */
+  /** The depth is above 500. */
   | 'limits'
   /** The JSON or the bytes aren't a value of the format. */
   | 'text' | 'bytes'

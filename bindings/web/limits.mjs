@@ -45,9 +45,9 @@ export function requireKnown(given, names, what) {
   if (unknown !== undefined) throw new TypeError(`no ${what} is called ${unknown}: ${names.join(', ')}`);
 }
 
-/** A limit that a caller passes, which is at most `most`. */
+/** A limit that a caller passes. The library refuses one above `most`, with a kind of its own. */
 export function limitOf(number, name, most) {
-  if (isUnsigned(number) && number <= most) return number;
+  if (isUnsigned(number)) return number;
   throw new RangeError(`${name} is an integer from 0 to ${most}, and not ${String(number)}`);
 }
 

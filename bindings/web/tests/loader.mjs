@@ -222,6 +222,7 @@ test('base64', () => {
 // A call that is refused, its kind, reason, place, `at`, and its line. More of them are rows of tests/rows/places.py.
 const KINDS = [
   [() => shapes.show('Line'), 'format', 'UnknownName', undefined, '', 'refused: UnknownName: no container is called Line'],
+  [() => none.withLimits({ depth: 501 }).scan('"U8"', [7]), 'limits', undefined, undefined, undefined, 'refused: the depth is above 500'],
   [() => shapes.encode('Point', { x: 256, y: 1 }), 'text', 'BadNumber', undefined, '/x', /^refused: BadNumber at \/x: found 256, expected /],
   [() => none.partByName('"U8"', [7], 'a'), 'path', 'BadPath', undefined, undefined, /^refused: BadPath: expected a name/],
   [() => none.example('"F32"'), 'example', 'NoValue', undefined, undefined, 'refused: NoValue'],
@@ -250,17 +251,16 @@ test('the parts of each kind of refusal, and its line', () => {
   for (const call of [() => bcs.registry({}), () => none.encodeText('"U8"', { a: 1 })]) assert.throws(call, { name: 'TypeError', message: text });
 });
 
-// What isn't a limit, and the words of its RangeError. The limit is refused before any call.
+// What isn't a limit, and the words of its RangeError.
 const NO_LIMITS = [
   [{ depth: -1 }, 'depth is an integer from 0 to 500, and not -1'],
-  [{ depth: 501 }, 'depth is an integer from 0 to 500, and not 501'],
   [{ depth: 1.5 }, 'depth is an integer from 0 to 500, and not 1.5'],
   [{ depth: 2 ** 32 }, 'depth is an integer from 0 to 500, and not 4294967296'],
   [{ nodes: -1 }, 'nodes is an integer from 0 to 4294967295, and not -1'],
   [{ nodes: 2 ** 32 }, 'nodes is an integer from 0 to 4294967295, and not 4294967296'],
 ];
 
-test('a limit out of its range is refused at once, with the range', () => {
+test('what is no limit at all is refused at once, with the range', () => {
   for (const [limits, message] of NO_LIMITS) assert.throws(() => none.withLimits(limits), { name: 'RangeError', message });
   for (const depth of [0, 1, 500]) assert.equal(none.withLimits({ depth }).scan('"U8"', [7]), 1);
 });
