@@ -99,7 +99,13 @@ class Modules(unittest.TestCase):
         rows: list[tuple[bcs_proved.Text, list[str], str, str, str]] = [
             (MODULE, ["0x1::n::S"], "MissingModule", "0x1::n::S", "add these modules: 0x1::n"),
             ("\ud800", ["u8"], "NotJson", "", "this isn't JSON"),
-            ("modules.json", ["u8"], "NotJson", "", "line 1, column 1: text belongs in double quotes; a str is read as JSON"),
+            (
+                "modules.json",
+                ["u8"],
+                "NotJson",
+                "",
+                "line 1, column 1: text belongs in double quotes; a str is read as JSON",
+            ),
             (MODULE, ["u8", "\ud800"], "BadType", "", "the types aren't UTF-8"),
         ]
         for text, types, reason, at, start in rows:

@@ -27,9 +27,10 @@ EXAMPLES = HERE.parent.parent.parent / "examples"
 WORKER = ["../errors", "../hex", "../octets", "../texts", "../move_types", "../shapes", "../json_output", "../writing"]
 WORKER += ["../reading", "../interruptions", "../calls", "../limits", "../holder", "../refusals", "../views"]
 WORKER += ["../format_calls", "../registry", "../support", "../modules", "../loader"]
-WORKER += ["names", "wrong_digits", "coding", "advice", "roots", "layout", "blank", "outline", "arguments", "joined_registry", "worker"]
-SCRIPT = ["../hex", "../octets", "../support", "names", "wrong_digits", "coding", "reasons", "lights", "link", "pane", "places"]
-SCRIPT += ["questions", "digits", "tree"]
+WORKER += ["names", "wrong_digits", "coding", "advice", "roots", "layout", "blank", "outline", "arguments"]
+WORKER += ["joined_registry", "worker"]
+SCRIPT = ["../hex", "../octets", "../support", "names", "wrong_digits", "coding", "reasons", "lights", "link", "pane"]
+SCRIPT += ["places", "questions", "digits", "tree"]
 SCRIPT += ["main"]
 
 # The title, the registry, the container, the side, and the file with the value; without a file the value is blank.

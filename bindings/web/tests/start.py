@@ -1,8 +1,8 @@
 #!/usr/bin/env python3
 """bindings/web/tests/start.py FOLDER: measures the processor time that the program in the folder takes for `--version`.
 
-That is the least of ten runs. Alone on a machine of 2.5 GHz it is some 100 ms, and 40 ms for an empty program; on a busy
-one it has been 400 ms. It may be 500 ms, or eight times what Node takes for an empty program.
+That is the least of ten runs. Alone on a machine of 2.5 GHz it is some 100 ms, and 40 ms for an empty program; on a
+busy one it has been 400 ms. It may be 500 ms, or eight times what Node takes for an empty program.
 """
 
 from __future__ import annotations
