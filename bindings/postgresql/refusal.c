@@ -99,19 +99,17 @@ static const char *
 place_told(const struct refused *refused, struct piece place)
 {
 	const bcs_answer answer = refused->answer;
-	char	   *text;
+	char	   *text = palloc(write_place(answer, place, NULL) + 1);
 
-	if (is_stop(answer))
-		return psprintf(" at byte " UINT64_FORMAT "%s%s", answer.place, place.length != 0 ? ", " : "",
-						(const char *) place.at);
-	text = palloc(write_place(answer, place, NULL) + 1);
 	text[write_place(answer, place, text)] = '\0';
+	if (is_stop(answer))
+		return psprintf(" at byte " UINT64_FORMAT "%s%s", answer.place, text[0] != '\0' ? ", " : "", text);
 	if (refused->view.number != 0)
 		return psprintf(" at line %zu of the views%s%s", refused->view.number, text[0] != '\0' ? ", " : "", text);
 	return text[0] != '\0' ? psprintf(" at %s", text) : "";
 }
 
-/* What to do about a limit that refuses the value; NULL if the call can do nothing. Where larger nodes would exceed bcs.max_nodes,
+/* What to do about a limit that refuses the value; NULL if the call can do nothing. Where more nodes would exceed bcs.max_nodes,
  * `most_nodes` is what the setting allows. */
 static const char *
 hint_of(const struct refused *refused, bool is_capped, uint32 most_nodes)
@@ -122,9 +120,9 @@ hint_of(const struct refused *refused, bool is_capped, uint32 most_nodes)
 	if (larger == NULL)
 		return NULL;
 	if (!is_setting_reached)
-		return psprintf("Pass %s.", larger);
+		return psprintf("Allow %s.", larger);
 	return psprintf("%sThe setting bcs.max_nodes allows %u nodes here, and a superuser can change it.",
-					is_capped ? "" : "Pass larger nodes. ", most_nodes);
+					is_capped ? "" : "Allow more nodes. ", most_nodes);
 }
 
 static pg_attribute_noreturn() void
@@ -183,7 +181,7 @@ refuse_registry(struct piece text, bcs_answer answer)
 {
 	const struct refused refused = {.answer = answer, .input = text};
 
-	raise_refusal(&refused, NULL);
+	raise_refusal(&refused, is_like_file_name(text, answer) ? "pg_read_file('..') reads a registry from a file." : NULL);
 }
 
 void

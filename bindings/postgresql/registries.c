@@ -78,10 +78,14 @@ bcs_pg_registries_changed(PG_FUNCTION_ARGS)
 static pg_attribute_noreturn() void
 refuse_name(struct piece name)
 {
+	const struct piece utf8 = utf8_of(name);
+	char	   *shown = palloc(write_names(ONE_NAME, utf8, NULL) + 1);
+
+	shown[write_names(ONE_NAME, utf8, shown)] = '\0';
 	ereport(ERROR,
 			(errcode(ERRCODE_INVALID_PARAMETER_VALUE),
-			 errmsg("bcs: no registry is called %s", pnstrdup((const char *) name.at, name.length)),
-			 errhint("The table bcs_registries has their names.")));
+			 errmsg("bcs: no registry is called %s", shown),
+			 errhint("The table bcs_registries has their names, and pg_read_file('..') reads a registry from a file.")));
 	pg_unreachable();
 }
 

@@ -33,7 +33,14 @@ NUMBERS = ("length of ", "number of a variant")
 # The whole message where bcs_explain expects no value of the format.
 NO_VALUE = "BCS has no F32, F64 or CHAR; this format can't have a value"
 # What an error of SQLite advises behind its message. PostgreSQL has it as a hint.
-ADVICE = {"TooManyNodes": "; pass larger nodes", "TooDeep": "; pass a larger depth"}
+ADVICE = {
+    "TooManyNodes": "; allow more nodes",
+    "TooDeep": "; allow a larger depth",
+    "NotJson": "; in the shell, readfile('..') reads a registry from a file",
+}
+# A label of a field path, in quotes or as it is, and a character in it.
+LABEL = re.compile(r'"(?:\\.|[^"\\])*"|[^".:?\[\]]+')
+SIGN = re.compile(r"\\ud[89ab]..\\u....|\\u....|\\.|.")
 # The limits that most rows have, nodes before the depth.
 LIMITS = (4294967295, 500)
 # The calls whose place is only in an error.
@@ -42,6 +49,18 @@ IN_LINES = ("text_place", "pair_place", "registry_place", "modules_place", "form
 PLAIN = dict.fromkeys(("explain", "explain_with", "stop_place"), 1)
 PLAIN |= dict.fromkeys(("part_named", "content", "path_place"), 2)
 STATUSES = {" in the registry": "registry", " in the format": "format", " in the path": "path"}
+
+
+def cut_label(label: re.Match[str]) -> str:
+    """What an error shows of a label."""
+    quote = '"' if label[0].startswith('"') else ""
+    shown = ""
+    for sign in SIGN.findall(label[0].removeprefix(quote).removesuffix(quote)):
+        if len(shown + sign) > 200:
+            shown += "...(cut)"
+            break
+        shown += sign
+    return quote + shown + quote
 
 
 def refusal(message: str) -> Answered:
@@ -259,7 +278,8 @@ class Calls:
         fault = json.loads(self.ask("cast(bcs_fault(?, ?, ?, ?, ?) as text)", *asked) or "null")
         if fault is None:
             return None
-        line = f"refused: {fault['refused']} at byte {fault['place']}, {fault['at']}: {fault['message']}".encode()
+        where = LABEL.sub(cut_label, fault["at"])
+        line = f"refused: {fault['refused']} at byte {fault['place']}, {where}: {fault['message']}".encode()
         if self.line_of(lambda: self.from_bcs(*asked)) != (fault["refused"], fault["place"], len(line), line):
             raise SystemExit(f"driver: bcs_decode doesn't refuse as bcs_fault: {fault}")
         return self.written(fault["at" if what == "where" else "message"])

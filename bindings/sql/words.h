@@ -51,12 +51,22 @@ static inline bool is_beyond_limits(uint32_t fault) {
     return is_beyond_nodes(fault) || is_beyond_depth(fault) || fault == BCS_SHOWN_TOO_NESTED;
 }
 
-/* What to pass so that the limit no longer refuses the value; null if the limit can't be larger. */
+/* What to allow so that the limit no longer refuses the value; null if the limit can't be larger. */
 static inline const char *larger_limit(const struct ask *ask, uint32_t fault) {
     if (is_beyond_nodes(fault) && ask->nodes < BCS_NODES) {
-        return "larger nodes";
+        return "more nodes";
     }
     return is_beyond_depth(fault) && ask->depth < BCS_DEPTH ? "a larger depth" : NULL;
+}
+
+/* Whether the text of a registry isn't JSON and doesn't begin like a registry either: it may be the name of a file. (A byte order
+   mark is invisible.) */
+static inline bool is_like_file_name(struct piece text, bcs_answer answer) {
+    static const char blanks[] = " \t\r\n\xef\xbb\xbf";
+    while (text.length > 0 && memchr(blanks, text.at[0], sizeof blanks - 1) != NULL) {
+        text = (struct piece){text.at + 1, text.length - 1};
+    }
+    return answer.status == BCS_REGISTRY && answer.fault == BCS_REGISTRY_NOT_JSON && text.length > 0 && text.at[0] != '{';
 }
 
 /* Whether a path leads to a part that isn't a byte string. */
@@ -365,49 +375,105 @@ static inline size_t write_character(uint32_t character, char *out) {
 /* The number of characters that are shown of a name. */
 #define MOST_OF_NAME 200
 
-/* Whether the place is a JSON Pointer: neither a definition in a registry nor a step of a path. */
-static inline bool is_place_pointer(bcs_answer answer) {
-    return answer.status != BCS_PATH &&
-           (answer.status != BCS_REGISTRY ||
-            (answer.fault != BCS_REGISTRY_TOO_NESTED && answer.fault != BCS_REGISTRY_REPEATED_NAME &&
-             answer.fault != BCS_REGISTRY_UNKNOWN_NAME));
+/* What the names in a place are: all of it, the steps of a JSON Pointer, or the labels of a field path. */
+enum names { ONE_NAME, OF_POINTER, OF_FIELDS };
+
+static inline enum names names_in_place(bcs_answer answer) {
+    if (is_stop(answer)) {
+        return OF_FIELDS;
+    }
+    if (answer.status == BCS_PATH) {
+        return ONE_NAME;
+    }
+    switch (answer.status == BCS_REGISTRY ? answer.fault : BCS_FAULT_NONE) {
+        case BCS_REGISTRY_TOO_NESTED: /* a definition, where nothing marks the end of a name */
+        case BCS_REGISTRY_REPEATED_NAME:
+        case BCS_REGISTRY_UNKNOWN_NAME:
+            return ONE_NAME;
+        default:
+            return OF_POINTER;
+    }
 }
 
-/* Writes the place of a refusal, if it isn't of bytes, in printable ASCII, and returns its length. Long names in a JSON Pointer are
-   cut as the program cuts them. A definition and a step are cut like one name, since nothing marks where a name ends. Without an
-   output it only returns the length. */
-static inline size_t write_place(bcs_answer answer, struct piece place, char *out) {
+/* A character of a place as it is shown, or what separates names. */
+struct sign {
+    size_t taken; /* bytes of the place */
+    char shown[ESCAPE_ROOM];
+    size_t length;
+    size_t counted; /* of MOST_OF_NAME; 0 if it separates names */
+};
+
+/* The first character of a name or of a JSON Pointer. In a pointer, ~0 and ~1 are one character of a name. */
+static inline struct sign sign_of_text(struct piece text, bool is_pointer) {
+    struct sign sign;
+    uint32_t character;
+    sign.taken = character_at(text, &character);
+    sign.counted = sign.length = write_character(character, sign.shown);
+    if (is_pointer && character == '~' && text.length > 1) {
+        sign.shown[1] = (char)text.at[1];
+        sign.taken = sign.length = 2;
+    }
+    if (is_pointer && character == '/') {
+        sign.counted = 0;
+    }
+    return sign;
+}
+
+/* The length of an escape in a quoted label, or of another character. */
+static inline size_t length_of_escape(struct piece path) {
+    const bool is_unit = begins_with(path, "\\u");
+    const bool is_pair = begins_with(path, "\\ud") && path.length > 3 && path.at[3] != '\0' && strchr("89ab", path.at[3]) != NULL;
+    const size_t length = is_pair ? 12 : is_unit ? 6 : path.at[0] == '\\' ? 2 : 1;
+    return length < path.length ? length : path.length;
+}
+
+/* The first character of a field path, which is in printable ASCII. In quotes, a label has escapes and no separators. */
+static inline struct sign sign_of_path(struct piece path, bool *is_quoted) {
+    struct sign sign;
+    const char first = (char)path.at[0];
+    sign.taken = sign.length = sign.counted = *is_quoted ? length_of_escape(path) : 1;
+    memcpy(sign.shown, path.at, sign.length);
+    if (first == '"') {
+        *is_quoted = !*is_quoted;
+        sign.counted = 0;
+    } else if (!*is_quoted && strchr(".:?[]", first) != NULL) {
+        sign.counted = 0;
+    }
+    return sign;
+}
+
+/* Writes names in printable ASCII, and returns their length. Long ones are cut as the program cuts names. Without an output it only
+   returns the length. */
+static inline size_t write_names(enum names names, struct piece place, char *out) {
     static const char cut[] = "...(cut)";
-    const bool is_pointer = is_place_pointer(answer);
+    bool is_quoted = false;
     size_t length = 0, of_name = 0;
     while (place.length > 0) {
-        char escaped[ESCAPE_ROOM];
-        uint32_t character;
-        size_t taken = character_at(place, &character);
-        const char *put = escaped;
-        size_t signs = write_character(character, escaped), counted = signs;
-        if (is_pointer && character == '~' && place.length > 1) { /* ~0 or ~1, which is one character of the name */
-            escaped[1] = (char)place.at[1];
-            signs = taken = 2;
-        }
-        place = (struct piece){place.at + taken, place.length - taken};
-        if (is_pointer && character == '/') {
+        const struct sign sign = names == OF_FIELDS ? sign_of_path(place, &is_quoted) : sign_of_text(place, names == OF_POINTER);
+        const char *shown = sign.shown;
+        size_t signs = sign.length;
+        place = (struct piece){place.at + sign.taken, place.length - sign.taken};
+        if (sign.counted == 0) {
             of_name = 0;
         } else if (of_name > MOST_OF_NAME) {
             continue;
-        } else if (of_name + counted > MOST_OF_NAME) {
-            put = cut;
+        } else if (of_name + sign.counted > MOST_OF_NAME) {
+            shown = cut;
             signs = sizeof cut - 1;
             of_name = MOST_OF_NAME + 1;
         } else {
-            of_name += counted;
+            of_name += sign.counted;
         }
         if (out != NULL) {
-            memcpy(out + length, put, signs);
+            memcpy(out + length, shown, signs);
         }
         length += signs;
     }
     return length;
+}
+
+static inline size_t write_place(bcs_answer answer, struct piece place, char *out) {
+    return write_names(names_in_place(answer), place, out);
 }
 
 #endif

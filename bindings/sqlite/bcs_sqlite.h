@@ -94,9 +94,9 @@ int create_functions_of_modules(sqlite3 *database, struct connection *connection
 /* Which types an argument may have, as bits. */
 enum types { IS_BLOB = 1 << SQLITE_BLOB, IS_TEXT = 1 << SQLITE_TEXT, IS_INTEGER = 1 << SQLITE_INTEGER };
 
-/* Reads an argument of these types: the bytes of a BLOB, or a text in UTF-8. Otherwise an error is reported: the message, or that
-   memory ran out. */
-bool take_piece(sqlite3_context *context, sqlite3_value *value, int types, const char *message, struct piece *piece);
+/* Reads an argument of these types: the bytes of a BLOB, or a text in UTF-8. Otherwise an error is reported: what was expected and
+   the type, or that memory ran out. */
+bool take_piece(sqlite3_context *context, sqlite3_value *value, int types, const char *expected, struct piece *piece);
 bool are_some_null(int count, sqlite3_value **values);
 /* How much memory a call may take for its inputs, by whether it has limits. */
 sqlite3_int64 memory_of_call(const struct question *question, int inputs, bool has_limits);

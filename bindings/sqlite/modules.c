@@ -10,8 +10,8 @@ static bcs_answer write_registry(const struct question *question, uint8_t *out, 
 static bool take_modules(sqlite3_context *context, struct question *question, sqlite3_value **values) {
     *question = (struct question){.context = context};
     if (are_some_null(2, values) ||
-        !take_piece(context, values[0], IS_TEXT | IS_BLOB, "bcs: the modules are neither TEXT nor BLOB", &question->input) ||
-        !take_piece(context, values[1], IS_TEXT, "bcs: the types aren't TEXT", &question->second)) {
+        !take_piece(context, values[0], IS_TEXT | IS_BLOB, "the modules must be TEXT or BLOB", &question->input) ||
+        !take_piece(context, values[1], IS_TEXT, "the types must be TEXT", &question->second)) {
         return false;
     }
     limit_memory(memory_of_call(question, 2, false));

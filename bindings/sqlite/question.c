@@ -3,7 +3,7 @@
 #include "bcs_sqlite.h"
 SQLITE_EXTENSION_INIT3
 
-/* An argument has another type, or memory ran out. */
+/* An argument is wrong, or memory ran out. */
 static bool refuse_argument(sqlite3_context *context, const char *message) {
     if (message != NULL) {
         sqlite3_result_error(context, message, -1);
@@ -13,12 +13,22 @@ static bool refuse_argument(sqlite3_context *context, const char *message) {
     return false;
 }
 
+/* An argument has another type than it must have. */
+static bool refuse_type(sqlite3_context *context, int type, const char *expected) {
+    static const char *const names[] = {[SQLITE_INTEGER] = "INTEGER", [SQLITE_FLOAT] = "REAL", [SQLITE_TEXT] = "TEXT",
+                                        [SQLITE_BLOB] = "BLOB", [SQLITE_NULL] = "NULL"};
+    char *message = sqlite3_mprintf("bcs: %s, not %s", expected, names[type]);
+    refuse_argument(context, message);
+    sqlite3_free(message);
+    return false;
+}
+
 /* (SQLite may need memory for a text in UTF-8. A pointer to no bytes isn't null.) */
-bool take_piece(sqlite3_context *context, sqlite3_value *value, int types, const char *message, struct piece *piece) {
+bool take_piece(sqlite3_context *context, sqlite3_value *value, int types, const char *expected, struct piece *piece) {
     const int type = sqlite3_value_type(value);
     const void *at;
     if (!(types & 1 << type)) {
-        return refuse_argument(context, message);
+        return refuse_type(context, type, expected);
     }
     at = type == SQLITE_BLOB ? sqlite3_value_blob(value) : sqlite3_value_text(value);
     *piece = (struct piece){at, (size_t)sqlite3_value_bytes(value)};
@@ -60,8 +70,8 @@ static bool take_limits(sqlite3_context *context, struct ask *ask, int place, in
 /* The registry comes last, since nothing here may close it again. */
 static bool take_ask(sqlite3_context *context, struct question *question, sqlite3_value **values) {
     struct piece registry, format;
-    if (!take_piece(context, values[0], IS_TEXT | IS_BLOB, "bcs: the registry is neither TEXT nor BLOB", &registry) ||
-        !take_piece(context, values[1], IS_TEXT, "bcs: the format isn't TEXT", &format)) {
+    if (!take_piece(context, values[0], IS_TEXT | IS_BLOB, "the registry must be TEXT or BLOB", &registry) ||
+        !take_piece(context, values[1], IS_TEXT, "the format must be TEXT", &format)) {
         return false;
     }
     question->format = sqlite3_malloc64(write_format(format, NULL));
@@ -84,22 +94,22 @@ sqlite3_int64 memory_of_call(const struct question *question, int inputs, bool h
 }
 
 /* `types` are those of the first input. A second one is a text, which with bytes is a path or a form. A third one is views. */
-static bool take_inputs(sqlite3_context *context, struct question *question, int inputs, int types, const char *message,
+static bool take_inputs(sqlite3_context *context, struct question *question, int inputs, int types, const char *expected,
                         int count, sqlite3_value **values) {
     *question = (struct question){.context = context};
     if (are_some_null(count, values) || !take_limits(context, &question->ask, 2 + inputs, count, values) ||
-        !take_piece(context, values[2], types, message, &question->input)) {
+        !take_piece(context, values[2], types, expected, &question->input)) {
         return false;
     }
     question->second = question->input;
     if (inputs >= 2 && types == IS_BLOB) {
         types = IS_TEXT;
-        message = "bcs: the path or the form isn't TEXT";
+        expected = "the path or the form must be TEXT";
     }
-    if (inputs >= 2 && !take_piece(context, values[3], types, message, &question->second)) {
+    if (inputs >= 2 && !take_piece(context, values[3], types, expected, &question->second)) {
         return false;
     }
-    if (inputs == 3 && !take_piece(context, values[4], IS_TEXT, "bcs: the views aren't TEXT", &question->views)) {
+    if (inputs == 3 && !take_piece(context, values[4], IS_TEXT, "the views must be TEXT", &question->views)) {
         return false;
     }
     question->memory = memory_of_call(question, inputs, count > 2 + inputs);
@@ -107,12 +117,12 @@ static bool take_inputs(sqlite3_context *context, struct question *question, int
 }
 
 bool take_question(sqlite3_context *context, struct question *question, int inputs, int count, sqlite3_value **values) {
-    return take_inputs(context, question, inputs, IS_TEXT | IS_INTEGER, "bcs: the value is neither TEXT nor INTEGER", count, values);
+    return take_inputs(context, question, inputs, IS_TEXT | IS_INTEGER, "the value must be TEXT or INTEGER", count, values);
 }
 
 bool take_question_of_bytes(sqlite3_context *context, struct question *question, int inputs, int count,
                             sqlite3_value **values) {
-    return take_inputs(context, question, inputs, IS_BLOB, "bcs: the bytes are no BLOB", count, values);
+    return take_inputs(context, question, inputs, IS_BLOB, "bytes must be a BLOB such as x'07'", count, values);
 }
 
 void drop_question(struct question *question) {

@@ -38,23 +38,30 @@ static uint8_t *take_report(const struct refused *refused, struct report *report
 /* The place in printable ASCII, in memory of SQLite; null if memory ran out. The library reports names of a text, a registry, a path
    or modules as they are. */
 static char *place_told(const struct refused *refused, struct piece place) {
-    char *text, *in_view = NULL;
-    if (is_stop(refused->answer)) {
-        return sqlite3_mprintf("byte %llu%s%.*s", (unsigned long long)refused->answer.place, place.length != 0 ? ", " : "",
-                               (int)place.length, (const char *)place.at);
-    }
-    text = sqlite3_malloc64(write_place(refused->answer, place, NULL) + 1);
+    const char *join;
+    char *where, *text = sqlite3_malloc64(write_place(refused->answer, place, NULL) + 1);
     if (text == NULL) {
         return NULL;
     }
     text[write_place(refused->answer, place, text)] = '\0';
-    if (refused->view.number == 0) {
+    join = text[0] != '\0' ? ", " : "";
+    if (is_stop(refused->answer)) {
+        where = sqlite3_mprintf("byte %llu%s%s", (unsigned long long)refused->answer.place, join, text);
+    } else if (refused->view.number != 0) {
+        where = sqlite3_mprintf("line %llu of the views%s%s", (unsigned long long)refused->view.number, join, text);
+    } else {
         return text;
     }
-    in_view = sqlite3_mprintf("line %llu of the views%s%s", (unsigned long long)refused->view.number, text[0] != '\0' ? ", " : "",
-                              text);
     sqlite3_free(text);
-    return in_view;
+    return where;
+}
+
+/* What to do about a refusal, apart from the limit to be raised. */
+static const char *advice_of(const struct refused *refused, const char *limit) {
+    if (limit != NULL) {
+        return "; allow ";
+    }
+    return is_like_file_name(refused->input, refused->answer) ? "; in the shell, readfile('..') reads a registry from a file" : "";
 }
 
 /* The text of a refusal with what is known of it; null if memory ran out. */
@@ -66,7 +73,7 @@ static char *placed_message(const struct refused *refused, const char *name, con
     where = memory != NULL ? place_told(refused, report.place) : NULL;
     if (where != NULL) {
         text = sqlite3_mprintf("bcs: refused: %s%s%s%s%s%s%s%s", name, what, where[0] != '\0' ? " at " : "", where,
-                               report.message[0] != '\0' ? ": " : "", report.message, larger != NULL ? "; pass " : "",
+                               report.message[0] != '\0' ? ": " : "", report.message, advice_of(refused, larger),
                                larger != NULL ? larger : "");
     }
     sqlite3_free(where);

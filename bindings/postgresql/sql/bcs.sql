@@ -51,6 +51,8 @@ SELECT bcs_explain_with('{}', '"BYTES"', '\x0107', 'ways', 'inside .');
 SELECT replace(told(format($$bcs_part('{}', '"U8"', '\x07', 'inner/%s')$$, repeat('b', 194))), repeat('b', 193), '..');
 -- And what was expected in bytes.
 SELECT bcs_decode('{}', '{"SEQ":"BOOL"}', '\x0102');
+-- So are the labels of a field path.
+SELECT bcs_decode(format('{"A":{"STRUCT":[{"%s":{"SEQ":"BOOL"}}]}}', repeat('é', 100000)), 'A', '\x0105');
 -- The names of containers are any texts.
 SELECT bcs_decode(format('{%s:{"NEWTYPESTRUCT":"U8"}}', to_json(name)), name, '\x07')
     FROM (VALUES ('a"b'), (E'a\\b'), (E'a\nb'), (E'a\x01'), ('é'), (' '), ('[')) AS names (name);

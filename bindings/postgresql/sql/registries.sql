@@ -5,6 +5,12 @@ INSERT INTO bcs_registries VALUES ('payments', payments());
 SELECT bcs_decode('payments', 'Payment', '\x03626f620700000000000000');
 SELECT bcs_decode(name, 'Payment', '\x03626f620700000000000000') FROM bcs_registries;
 SELECT told($$bcs_is('nobody', 'Payment', '\x00')$$);
+-- A name is in ASCII, and cut.
+SELECT bcs_is('nö"', 'Payment', '\x00');
+SELECT replace(told($$bcs_is(repeat('b', 1000000), 'Payment', '\x00')$$), repeat('b', 200), '..');
+-- The name of a file in place of a registry.
+SELECT bcs_is('/tmp/aptos_registry.json', '"U8"', '\x07');
+SELECT bcs_is(' {', '"U8"', '\x07');
 -- What is no registry, or is no name, isn't kept.
 INSERT INTO bcs_registries VALUES ('bad', '{"A":{"STRUCT":7}}');
 INSERT INTO bcs_registries VALUES ('other', 'payments');

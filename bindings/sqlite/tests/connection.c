@@ -98,6 +98,11 @@ static void is_error(sqlite3 *database, const char *sql, const char *wanted) {
     "select bcs_encode('{\"A\":{\"STRUCT\":[{\"' || " name " || '\":{\"SEQ\":\"U8\"}}]}}','A'," \
     "'{\"' || " name " || '\":[true]}')"
 
+/* Bytes of a struct with a field of this name, which are refused in it. */
+#define OF_FIELD(name) \
+    "select bcs_decode(json_object('A',json_object('STRUCT',json_array(json_object(" name ",json('{\"SEQ\":\"BOOL\"}')))))," \
+    "'A',x'0105')"
+
 /* A statement, and what it answers with memory, or the words of its error. */
 static const struct {
     const char *sql, *answer;
@@ -146,7 +151,7 @@ static const struct {
     {"select bcs_explain_with('{}','{\"SEQ\":7}',x'0107','json','inside .=A')",
      "bcs: refused: BadShape in the format at /SEQ: expected a format, found 7"},
     {"select bcs_scan('{}','{\"TUPLE\":[\"U8\",\"U8\"]}',x'0102',2)",
-     "bcs: refused: TooManyNodes at byte 1, [1]: expected U8; pass larger nodes"},
+     "bcs: refused: TooManyNodes at byte 1, [1]: expected U8; allow more nodes"},
     {"select bcs_decode(null,'A',x'07')", "null"},
     {"select bcs_registry_of_modules('[]','vector<u8>\nu8')",
      "{\"u8\":{\"NEWTYPESTRUCT\":\"U8\"},\"vector<u8>\":{\"NEWTYPESTRUCT\":\"BYTES\"}}"},
@@ -166,6 +171,9 @@ static const struct {
      "bcs: refused: EndOfInput at byte 2, .y[0]: expected the length of STR, found the end of the input"},
     {"select bcs_is('{\"A\":{\"STRUCT\":7}}','\"U8\"',x'07')",
      "bcs: refused: BadShape in the registry at /A/STRUCT: expected an array of fields, found 7"},
+    {"select bcs_is('examples/aptos_registry.json','\"U8\"',x'07')",
+     "bcs: refused: NotJson in the registry: line 1, column 1: text belongs in double quotes; "
+     "in the shell, readfile('..') reads a registry from a file"},
     {OF_NAME("replace(hex(zeroblob(100)),'0','~') || 'b'"),
      "bcs: refused: BadShape at /" TWO_HUNDRED("~0") "...(cut)/0: found true, expected an integer from 0 to 255 (U8)"},
 };
@@ -183,7 +191,7 @@ static void answers(void) {
     is_answered(database, "select json_group_array(bcs_decode('{}','\"BOOL\"',x'01'))", "[true]");
     is_answered(database, "select json_group_array(bcs_registry_of_modules('[]','u8'))", "[{\"u8\":{\"NEWTYPESTRUCT\":\"U8\"}}]");
     is_answered(database, "select bcs_decode(bcs_registry_of_modules('[]','vector<u16>'),'vector<u16>',x'010700')", "[7]");
-    is_error(database, "select bcs_decode('{}','\"U8\"','07')", "bcs: the bytes are no BLOB");
+    is_error(database, "select bcs_decode('{}','\"U8\"','07')", "bcs: bytes must be a BLOB such as x'07', not TEXT");
     is_error(database, "select bcs_is('{}','\"U8\"',x'07',4294967296)",
              "bcs: nodes are from 0 to 4294967295, and a depth is from 0 to 500");
     is_error(database, "select bcs_explain('{}','\"U8\"',x'07','jsonl')", "bcs: a form is ways, paths, tree or json");
@@ -194,12 +202,12 @@ static void answers(void) {
 static void hostile(void) {
     sqlite3 *database = opened();
     is_error(database, "select bcs_decode('{}','{\"SEQ\":\"UNIT\"}',x'ffffffff07')",
-             "bcs: refused: TooManyNodes at byte 5, [999999]: expected room for a value; pass larger nodes");
+             "bcs: refused: TooManyNodes at byte 5, [999999]: expected room for a value; allow more nodes");
     is_error(database, "select bcs_encode('{}','\"U8\"',replace(hex(zeroblob(50000)),'0','[') || replace(hex(zeroblob(50000)),'0',']'))",
              "bcs: refused: NotJson: line 1, column 128: arrays and objects are nested more than 127 levels deep; this program reads no more");
     is_error(database, "select bcs_decode('{\"L\":{\"NEWTYPESTRUCT\":{\"OPTION\":{\"TYPENAME\":\"L\"}}}}','L',"
              "cast(replace(hex(zeroblob(50000)),'0',char(1)) as blob))",
-             "bcs: refused: TooDeep at byte 100, " TEN("??????????") ": expected room for L; pass a larger depth");
+             "bcs: refused: TooDeep at byte 100, " TEN("??????????") ": expected room for L; allow a larger depth");
     /* There is no larger depth than 500, nor a setting for how deep JSON nests. */
     is_error(database, "select bcs_decode('{\"L\":{\"NEWTYPESTRUCT\":{\"OPTION\":{\"TYPENAME\":\"L\"}}}}','L',"
              "cast(replace(hex(zeroblob(300)),'0',char(1)) as blob),1000,500)",
@@ -221,6 +229,28 @@ static void hostile(void) {
              "found true, expected an integer from 0 to 255 (U8)");
     is_error(database, "select bcs_is('{\"' || printf('%.*c',201,'b') || '\":{\"NEWTYPESTRUCT\":{\"TYPENAME\":\"Z\"}}}','\"U8\"',x'07')",
              "bcs: refused: UnknownName in the registry at " TWO_HUNDRED("b") "...(cut): no container is called Z");
+    /* So are labels in a field path. In quotes, an escape is a whole character, and separators are characters of the label. */
+    is_error(database, OF_FIELD("replace(hex(zeroblob(100)),'0','b')"),
+             "bcs: refused: BadBool at byte 1, ." TWO_HUNDRED("b") "[0]: expected BOOL, 00 or 01, found 05");
+    is_error(database, OF_FIELD("printf('%.*c',201,'b')"),
+             "bcs: refused: BadBool at byte 1, ." TWO_HUNDRED("b") "...(cut)[0]: expected BOOL, 00 or 01, found 05");
+    is_error(database, OF_FIELD("replace(hex(zeroblob(50000)),'0','\xc3\xa9')"),
+             "bcs: refused: BadBool at byte 1, .\"" TEN("\\u00e9\\u00e9\\u00e9") "\\u00e9\\u00e9\\u00e9...(cut)\"[0]: "
+             "expected BOOL, 00 or 01, found 05");
+    is_error(database, OF_FIELD("replace(hex(zeroblob(9)),'0',char(128512))"),
+             "bcs: refused: BadBool at byte 1, .\"" TEN("\\ud83d\\ude00") "\\ud83d\\ude00\\ud83d\\ude00\\ud83d\\ude00"
+             "\\ud83d\\ude00\\ud83d\\ude00\\ud83d\\ude00...(cut)\"[0]: expected BOOL, 00 or 01, found 05");
+    is_error(database, OF_FIELD("replace(hex(zeroblob(51)),'0','].')"),
+             "bcs: refused: BadBool at byte 1, .\"" TEN(TEN("].")) "...(cut)\"[0]: expected BOOL, 00 or 01, found 05");
+    is_error(database, OF_FIELD("replace(hex(zeroblob(51)),'0','\\\"')"),
+             "bcs: refused: BadBool at byte 1, .\"" TEN("\\\\\\\"\\\\\\\"\\\\\\\"\\\\\\\"\\\\\\\"") "...(cut)\"[0]: "
+             "expected BOOL, 00 or 01, found 05");
+    /* Nothing but a name of a file is advised to be read. */
+    is_error(database, "select bcs_is(char(65279,10,32) || '{','\"U8\"',x'07')",
+             "bcs: refused: NotJson in the registry: line 1, column 1: a byte order mark; save the document as UTF-8 without one");
+    is_error(database, "select bcs_is('','\"U8\"',x'07')", "bcs: refused: NotJson in the registry: line 1, column 1: the document is empty");
+    is_error(database, "select bcs_is('{}','examples/registry.json',x'07')",
+             "bcs: refused: UnknownName in the format: no container is called examples/registry.json");
     /* What takes more than 16 MB is left out. */
     is_error(database, OF_NAME("printf('%.*c',17000000,'b')"),
              "bcs: refused: BadShape: found true, expected an integer from 0 to 255 (U8)");
