@@ -5,6 +5,8 @@
 #include "postgres.h"
 
 #include "fmgr.h"
+#include "lib/stringinfo.h"
+#include "utils/jsonb.h"
 
 #include "words.h"
 
@@ -43,6 +45,9 @@ extern void cap_nodes(Question *question, int weight);
 extern struct piece utf8_of(struct piece text);
 extern struct piece format_of(struct piece word);
 extern struct piece argument(FunctionCallInfo fcinfo, int place);
+
+/* jsonb_text.c: the text of a jsonb, with each number that no call accepts cut. */
+extern StringInfoData text_of_jsonb(Jsonb *jsonb);
 
 /* functions.c: what a call writes, as a value with a zero behind it, which must be done or refused; and a UTF-8 text in the encoding
  * of the database. */

@@ -3,7 +3,6 @@
 
 #include <limits.h>
 
-#include "lib/stringinfo.h"
 #include "mb/pg_wchar.h"
 #include "miscadmin.h"
 #include "tcop/tcopprot.h"
@@ -172,10 +171,8 @@ question_of_jsonb(FunctionCallInfo fcinfo, int inputs)
 {
 	Jsonb	   *value = PG_GETARG_JSONB_P(2);
 	Question	question = question_of_call(fcinfo, inputs);
-	StringInfoData text;
+	const StringInfoData text = text_of_jsonb(value);
 
-	initStringInfo(&text);
-	JsonbToCString(&text, &value->root, VARSIZE(value));
 	question.input = question.second = utf8_of((struct piece) {(const uint8_t *) text.data, text.len});
 	return question;
 }

@@ -72,6 +72,29 @@ SELECT told($$bcs_encode_json('{}', '"U8"', repeat('[', 100000) || repeat(']', 1
 SELECT told($$bcs_is(repeat('{"A":', 100000), '"U8"', '\x07')$$);
 SELECT told($$bcs_is('{}', repeat('{"SEQ":', 100000), '\x07')$$);
 SELECT told($$bcs_part('{}', '"U8"', '\x07', repeat('inner/', 100000) || 'inner')$$);
+-- Numbers of many digits, which jsonb holds in a few bytes, are refused like others that are out of range.
+CREATE FUNCTION detail(statement text) RETURNS text LANGUAGE plpgsql AS $$
+DECLARE
+    detail text;
+BEGIN
+    EXECUTE statement;
+    RETURN 'no error';
+EXCEPTION WHEN OTHERS THEN
+    GET STACKED DIAGNOSTICS detail = PG_EXCEPTION_DETAIL;
+    RETURN SQLSTATE || ' ' || SQLERRM || ': ' || regexp_replace(detail, '(\d)\1{99}\1*', '\1..', 'g');
+END $$;
+SELECT left(number, 12), detail(format($$SELECT bcs_encode('{}', '{"TUPLE":["U8","U64"]}', '[7, %s]')$$, number)) FROM (VALUES
+    ('1e19'), ('1e20'), ('-1e255'), ('1e256'), ('-1e256'), ('1e131071'), ('-3e131071'), ('12' || repeat('0', 300) || '.5'),
+    ('1.0'), ('1e-256'), ('1e-257'), ('-1e-16383'), (repeat('1', 1000)), ('-0.' || repeat('1', 1000))) AS numbers (number);
+SELECT detail($$SELECT bcs_encode('{}', '"U64"', '1e131071')$$), detail($$SELECT bcs_encode('{}', '"BOOL"', '1e131071')$$);
+-- All else in jsonb is encoded like its text.
+CREATE FUNCTION mixed() RETURNS jsonb IMMUTABLE LANGUAGE sql AS
+    $$ SELECT '{"a": [], "b": [[], [1, 20], [-0]], "é\"\\ ": {"some": {"b": false, "c": "\n\u0001\"é"}}, "n": {"some": null}, "u": null}'::jsonb $$;
+CREATE FUNCTION of_mixed() RETURNS text IMMUTABLE LANGUAGE sql AS
+    $$ SELECT '{"M":{"STRUCT":[{"a":{"SEQ":"U8"}},{"b":{"SEQ":{"SEQ":"U8"}}},{"é\"\\ ":{"OPTION":{"TYPENAME":"N"}}},{"n":{"OPTION":"UNIT"}},{"u":"UNIT"}]},'
+        '"N":{"STRUCT":[{"b":"BOOL"},{"c":"STR"}]}}' $$;
+SELECT bcs_encode(of_mixed(), 'M', mixed()), bcs_encode(of_mixed(), 'M', mixed()) = bcs_encode_json(of_mixed(), 'M', mixed()::text);
+SELECT bcs_encode('{}', '{"OPTION":"UNIT"}', 'null'), bcs_encode('{}', '"BOOL"', 'true'), bcs_encode('{}', '"STR"', '"a"'), bcs_encode('{}', '"U8"', '7e0');
 -- The character U+0000, which jsonb can't hold.
 SELECT told($$bcs_decode('{}', '"STR"', '\x03610062')$$);
 -- A value of some megabytes.

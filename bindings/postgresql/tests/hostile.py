@@ -149,6 +149,40 @@ class Costs(Measured):
             self.ends("57014", 4000, f"select length({call}('{{}}', '{{\"SEQ\":\"BOOL\"}}', {text}, {ALL})::text)")
 
 
+# Numbers of many digits, of which jsonb holds only the first ones.
+NUMBERS = ["1e131071", "-1e131071", "1e-16383", "-1e-16383", "1e257"]
+
+
+class Numbers(Measured):
+    """A number of many digits that are zeros takes a few bytes in jsonb, and its text a hundred kilobytes."""
+
+    def store(self, number: str, count: int) -> None:
+        run(self.session, "drop table if exists numbers")
+        run(self.session, "create table numbers as select (%s)::jsonb as value", f"[{','.join([number] * count)}]")
+
+    def test_costs(self) -> None:
+        for number in NUMBERS:
+            self.store(number, 9000)
+            stored = value(self.session, "select pg_column_size(value) from numbers")
+            for format, place in ('"UNIT"', ""), ('{"SEQ":"U64"}', " at /0"):
+                statement = "select bcs_encode('{}', %s, value) from numbers"
+                fault = f"bcs: refused: {'BadNumber' if place else 'BadShape'}{place}"
+                self.assertEqual(refusal(self.session, statement, format), ("22P02", fault))
+                with address_space(self.pid, process_memory(self.pid, "VmSize") + 32 * MEGABYTE):
+                    self.assertEqual(refusal(self.session, statement, format), ("22P02", fault))
+                cost, _ = self.cost(statement, format, most=MOST_OF_A_CALL)
+                self.assertLess(cost, MOST_OF_A_CALL)
+            print(f"hostile: 9000 times {number} in {stored} bytes took {cost:.1f} ms")
+
+    def test_cancelled(self) -> None:
+        """The text of many numbers isn't made to its end."""
+        self.store("1e131071", 1_000_000)
+        run(self.session, "set statement_timeout = '200ms'")
+        before = self.spent()
+        self.assertEqual(refusal(self.session, "select bcs_encode('{}', '\"UNIT\"', value) from numbers")[0], "57014")
+        self.assertLess(self.spent() - before, 1000)
+
+
 class Faults(Measured):
     """The last byte of a list is bad. bcs_fault finds that like bcs_is, and then walks once more.
 
