@@ -18,6 +18,8 @@ def result(database: Database, statement: str) -> str:
         value = database.value(statement.removeprefix("select "))
     except Answered as refused:
         return f"error: {refused.args[1]}"
+    if isinstance(value, bool):  # as psql prints it
+        return "t" if value else "f"
     return "null" if value is None else str(value)
 
 
