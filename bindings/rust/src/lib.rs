@@ -53,6 +53,8 @@ mod sys;
 mod values;
 mod views;
 #[cfg(feature = "serde_json")]
+mod wanted;
+#[cfg(feature = "serde_json")]
 mod wide_integers;
 
 #[cfg(feature = "serde_json")]

@@ -79,13 +79,12 @@ impl std::error::Error for Mismatch {}
 
 impl de::Error for Mismatch {
     fn custom<T: fmt::Display>(message: T) -> Mismatch {
+        probe::count_error();
         Mismatch::new(message)
     }
 
     fn invalid_type(found: Unexpected<'_>, wanted: &dyn Expected) -> Mismatch {
-        if let Unexpected::Char(character) = found {
-            probe::record(character, wanted.to_string());
-        }
+        probe::record(found, || wanted.to_string());
         Mismatch::new(format_args!("invalid type: {found}, expected {wanted}"))
     }
 }

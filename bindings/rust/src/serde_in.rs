@@ -7,9 +7,9 @@ use crate::hex;
 use crate::integers::{self, Integer, U8};
 use crate::mismatch::Mismatch;
 use crate::normal::Normal;
+use crate::probe::{Action, StandIn};
 use crate::shapes::{At, FIELD_NAME, Member, Members, OCTET, PLAIN_LIST, Shape, VOID};
 use serde::de::{self, DeserializeOwned, DeserializeSeed, Deserializer, MapAccess, SeqAccess, VariantAccess, Visitor};
-use serde::forward_to_deserialize_any;
 use std::borrow::Cow;
 use std::str::FromStr;
 use std::vec;
@@ -98,10 +98,27 @@ impl<'w> Reader<'w> {
         matches!(self.json, Json::Value(normal, start) if normal.has(start, "{\"some\":null}"))
     }
 
+    fn is_empty(&self) -> bool {
+        const EMPTY: [&str; 3] = ["[]", "{}", "\"\""];
+        matches!(self.json, Json::Value(normal, start) if EMPTY.iter().any(|empty| normal.has(start, empty)))
+    }
+
     /// What the format has here, for a type that requests it.
     fn visit_as_requested<'de, V: Visitor<'de>>(self, visitor: V) -> Result<V::Value, Mismatch> {
         let shape = self.at.shape;
         self.visit(visitor).map_err(|error: Mismatch| error.of_format(shape))
+    }
+
+    /// The same for a type that may be a buffer.
+    fn visit_part<'de, V: Visitor<'de>>(self, visitor: V, is_name: bool) -> Result<V::Value, Mismatch> {
+        let shape = self.at.shape;
+        match self.at.walk.probe.action(shape, || self.is_empty()) {
+            Action::Read => self.visit_as_requested(visitor),
+            // A name's visitor would take a character for its text.
+            Action::Replace(_) if is_name => StandIn::Float.visit(visitor).map_err(|error| error.of_format(shape)),
+            Action::Replace(stand_in) => stand_in.visit(visitor).map_err(|error| error.of_format(shape)),
+            Action::Reject(mismatch) => Err(mismatch),
+        }
     }
 
     /// An integer type has to hold all numbers of the format, whatever this one is. The bytes of `BYTES` are each a `u8`, and no
@@ -213,10 +230,7 @@ impl<'de> Deserializer<'de> for Reader<'_> {
         if matches!(shape, Shape::Option(_)) && reader.is_some_of_nothing() {
             return reader.unfit("a type for which Some(None) is None");
         }
-        if let Some(character) = reader.at.walk.probe.in_place_of(shape) {
-            return visitor.visit_char(character).map_err(|error: Mismatch| error.of_format(shape));
-        }
-        reader.visit_as_requested(visitor)
+        reader.visit_part(visitor, false)
     }
 
     fn deserialize_ignored_any<V: Visitor<'de>>(self, visitor: V) -> Result<V::Value, Mismatch> {
@@ -245,7 +259,7 @@ impl<'de> Deserializer<'de> for Reader<'_> {
     /// A string is never bytes, a number or a variant, whatever its text is.
     fn deserialize_string<V: Visitor<'de>>(self, visitor: V) -> Result<V::Value, Mismatch> {
         match self.at.entered().shape {
-            Shape::Str | Shape::FieldName => self.deserialize_any(visitor),
+            Shape::Str | Shape::FieldName => self.entered().visit_as_requested(visitor),
             _ => self.unfit("a string"),
         }
     }
@@ -304,7 +318,7 @@ impl<'de> Deserializer<'de> for Reader<'_> {
 
     fn deserialize_map<V: Visitor<'de>>(self, visitor: V) -> Result<V::Value, Mismatch> {
         match self.at.entered().shape {
-            Shape::Map(_) | Shape::Struct(_) => self.deserialize_any(visitor),
+            Shape::Map(_) | Shape::Struct(_) => self.entered().visit_as_requested(visitor),
             _ => self.unfit("a map"),
         }
     }
@@ -316,7 +330,7 @@ impl<'de> Deserializer<'de> for Reader<'_> {
         visitor: V,
     ) -> Result<V::Value, Mismatch> {
         match self.at.entered().shape {
-            Shape::Struct(_) => self.deserialize_any(visitor),
+            Shape::Struct(_) => self.entered().visit_as_requested(visitor),
             _ => self.unfit("a struct"),
         }
     }
@@ -349,7 +363,26 @@ impl<'de> Deserializer<'de> for Reader<'_> {
         value
     }
 
-    forward_to_deserialize_any! { bool unit unit_struct identifier }
+    /// A name may go to a buffer. The tag of an enum that is tagged internally is a string, and a variant's number isn't its name.
+    fn deserialize_identifier<V: Visitor<'de>>(self, visitor: V) -> Result<V::Value, Mismatch> {
+        let reader = self.entered();
+        match reader.at.shape {
+            Shape::Str => reader.visit_as_requested(visitor),
+            _ => reader.visit_part(visitor, true),
+        }
+    }
+
+    fn deserialize_bool<V: Visitor<'de>>(self, visitor: V) -> Result<V::Value, Mismatch> {
+        self.entered().visit_as_requested(visitor)
+    }
+
+    fn deserialize_unit<V: Visitor<'de>>(self, visitor: V) -> Result<V::Value, Mismatch> {
+        self.entered().visit_as_requested(visitor)
+    }
+
+    fn deserialize_unit_struct<V: Visitor<'de>>(self, _: &'static str, visitor: V) -> Result<V::Value, Mismatch> {
+        self.entered().visit_as_requested(visitor)
+    }
 }
 
 /// The formats of a list's elements.

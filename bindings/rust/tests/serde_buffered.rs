@@ -16,7 +16,8 @@ use common::bytes;
 /// A struct whose second field has this format, and which is flattened in the types below.
 fn registry(format: &str) -> Registry {
     let shape = r#""Shape":{"ENUM":{"0":{"Dot":"UNIT"},"1":{"Circle":{"NEWTYPE":"U64"}}}}"#;
-    Registry::read(format!(r#"{{"S":{{"STRUCT":[{{"a":"U8"}},{{"b":{format}}}]}},{shape}}}"#)).unwrap()
+    let coins = r#""Byte":{"NEWTYPESTRUCT":"U8"},"Coin":{"STRUCT":[{"value":"U64"}]},"Coins":{"STRUCT":[{"fee":"U64"},{"amount":"U64"}]}"#;
+    Registry::read(format!(r#"{{"S":{{"STRUCT":[{{"a":"U8"}},{{"b":{format}}}]}},{shape},{coins}}}"#)).unwrap()
 }
 
 #[derive(Serialize, Deserialize, Debug, PartialEq)]
@@ -184,15 +185,224 @@ impl<'de> Deserialize<'de> for Counted {
     }
 }
 
-/// A value is read once, once with all its integers and bytes replaced, and once for each such format, however long it is.
+/// What a flattened value of a type is at a format, or where it is rejected and why.
+fn told<T: DeserializeOwned + Debug>(format: &str, digits: &str) -> String {
+    match registry(format).decode::<Flat<Rest<T>>>("S", bytes(&format!("09{digits}"))) {
+        Ok(flat) => format!("{:?}", flat.rest.b),
+        Err(error) => {
+            assert_eq!(error.reason(), Some("WrongType"), "{error}");
+            format!("{} {}", error.at().unwrap(), error.message())
+        }
+    }
+}
+
+/// Rows of a type, a format, bytes, and what is told of them.
+macro_rules! rows {
+    ($($type:ty, $format:expr, $digits:expr => $expected:expr;)*) => {
+        $(assert_eq!(told::<$type>($format, $digits), $expected, "{} at {}", stringify!($type), $format);)*
+    };
+}
+
+const STR: &str = r#""STR""#;
+const BYTES: &str = r#""BYTES""#;
+const SHAPE: &str = r#"{"TYPENAME":"Shape"}"#;
+const PAY: &str = r#"{"TUPLE":["U64","U64"]}"#;
+const COINS: &str = r#"{"TUPLE":[{"TYPENAME":"Coin"},{"TYPENAME":"Coin"}]}"#;
+const NUMBERS: &str = r#"{"SEQ":"U64"}"#;
+const NUMBERS_BY_TEXT: &str = r#"{"MAP":{"KEY":"STR","VALUE":"U8"}}"#;
+const BYTES_BY_BYTE: &str = r#"{"MAP":{"KEY":"U8","VALUE":"U8"}}"#;
+const PAIR: &str = "f4010000000000000300000000000000";
+
+#[derive(Deserialize, Debug)]
+#[allow(dead_code, reason = "it is printed")]
+struct Fee<T = u64> {
+    fee: T,
+    amount: T,
+}
+
+/// Its words are those of another type.
+#[derive(Deserialize, Debug)]
+#[serde(expecting = "a tuple of size 2")]
+#[allow(dead_code, reason = "it is printed")]
+struct Disguised<T = u64> {
+    fee: T,
+    amount: T,
+}
+
+#[derive(Deserialize, Debug)]
+#[allow(dead_code, reason = "it is printed")]
+struct Coin<T> {
+    value: T,
+}
+
+#[derive(Deserialize, Debug)]
+#[allow(dead_code, reason = "it is printed")]
+enum Letters {
+    U,
+    B(u8),
+}
+
+#[derive(Deserialize, Debug)]
+#[serde(tag = "fee")]
+#[allow(dead_code, reason = "it is printed")]
+enum Tag {
+    U { amount: u64 },
+}
+
+#[derive(Deserialize, Debug)]
+struct Empty;
+
+#[derive(Deserialize, Debug)]
+#[serde(untagged)]
+#[allow(dead_code, reason = "it is printed")]
+enum Any {
+    Pair(u64, u64),
+    Named { fee: u64, amount: u64 },
+    Number(u64),
+    Text(String),
+    Nothing,
+}
+
+#[derive(Deserialize, Debug)]
+#[serde(untagged)]
+#[allow(dead_code, reason = "it is printed")]
+enum NamedFirst {
+    Names(Vec<String>),
+    Named { fee: u64, amount: u64 },
+    Numbers(Vec<u64>),
+}
+
+#[test]
+fn structs_are_no_lists_and_no_maps() {
+    rows! {
+        (u64, u64), PAY, PAIR => "(500, 3)";
+        Fee, PAY, PAIR => "/b TUPLE takes a tuple, not a struct";
+        Disguised, PAY, PAIR => "/b TUPLE takes a tuple, not a struct";
+        Tag, r#"{"TUPLE":["STR","U64"]}"#, "01550300000000000000" => "/b TUPLE takes a tuple, not a struct";
+        Fee, NUMBERS, &format!("02{PAIR}") => "/b SEQ takes a list, not a struct";
+        Vec<u64>, NUMBERS, &format!("02{PAIR}") => "[500, 3]";
+        Fee<u8>, BYTES, "020707" => "/b BYTES takes bytes, or Hex(…) for digits, not a struct";
+        [u16; 2], BYTES, "020707" => "/b/0 BYTES takes a u8 for each byte, not a u16";
+        (u8, u8), BYTES, "020707" => "(7, 7)";
+        (u8, u16), BYTES, "020707" => "/b/1 BYTES takes a u8 for each byte, not a u16";
+        (u8, f64), r#"{"SEQ":"U8"}"#, "020707" => "/b/1 U8 takes an integer, not an f64";
+        [u16; 20], BYTES, &format!("14{}", "07".repeat(20)) => "/b/0 BYTES takes a u8 for each byte, not a u16";
+        [u8; 20], BYTES, &format!("14{}", "07".repeat(20)) => format!("{:?}", [7; 20]);
+        Either<f64, Vec<f64>>, NUMBERS, &format!("01{SEVEN}") => "/b/0 U64 takes an integer, not an f64";
+        Fee<u8>, NUMBERS_BY_TEXT, "02036665650206616d6f756e7401" => "/b MAP takes a map, not a struct";
+        BTreeMap<String, u8>, NUMBERS_BY_TEXT, "01015507" => r#"{"U": 7}"#;
+        Fee<u8>, BYTES_BY_BYTE, "0200010102" => "/b MAP takes a map, not a struct";
+        Disguised<u8>, BYTES_BY_BYTE, "0200010102" => "/b/0/0 U8 takes an integer, not a struct";
+        Bytes, r#"{"SEQ":{"TYPENAME":"Byte"}}"#, "0107" => "/b SEQ takes a list, not bytes";
+        Letters, BYTES_BY_BYTE, "010102" => "/b MAP takes a map, not an enum";
+        Letters, NUMBERS_BY_TEXT, "01014207" => "/b MAP takes a map, not an enum";
+        Empty, NUMBERS, "00" => "/b SEQ takes a list, not a unit struct";
+        (), BYTES_BY_BYTE, "00" => "/b MAP takes a map, not ()";
+        Coin<u64>, r#"{"TYPENAME":"Coin"}"#, SEVEN => "Coin { value: 7 }";
+        (Coin<u64>, Coin<u64>), COINS, PAIR => "(Coin { value: 500 }, Coin { value: 3 })";
+        (Coin<u64>, Coin<f64>), COINS, PAIR => "/b/1/value U64 takes an integer, not an f64";
+        (u64, f64), NUMBERS, &format!("02{PAIR}") => "/b/1 U64 takes an integer, not an f64";
+    }
+}
+
+#[test]
+fn options_and_names_are_checked() {
+    rows! {
+        Option<u8>, r#""U8""#, "05" => "/b U8 takes an integer, not an Option";
+        Option<u8>, r#"{"OPTION":"U8"}"#, "0105" => "Some(5)";
+        Option<f64>, r#"{"OPTION":"U8"}"#, "0105" => "/b/some U8 takes an integer, not an f64";
+        Option<char>, r#"{"OPTION":"STR"}"#, "010141" => "/b/some STR takes a string, not a char";
+        Option<Option<u8>>, r#"{"OPTION":"U8"}"#, "0105" => "/b/some U8 takes an integer, not an Option";
+        Option<Option<u8>>, r#"{"OPTION":{"OPTION":"U8"}}"#, "010105" => "Some(Some(5))";
+        Option<u8>, r#""UNIT""#, "" => "/b UNIT takes (), not an Option";
+        Option<()>, r#""UNIT""#, "" => "/b UNIT takes (), not an Option";
+        (), r#""UNIT""#, "" => "()";
+        Option<bool>, r#""BOOL""#, "01" => "/b BOOL takes a bool, not an Option";
+        Option<String>, STR, "0155" => "/b STR takes a string, not an Option";
+        Option<(u64, u64)>, PAY, PAIR => "/b TUPLE takes a tuple, not an Option";
+        Option<Shape>, SHAPE, "00" => "/b ENUM takes a variant, not an Option";
+        String, SHAPE, "00" => "/b ENUM takes a variant, not a string";
+        BTreeMap<String, u64>, SHAPE, &format!("01{SEVEN}") => "/b ENUM takes a variant, not a map";
+        Letters, STR, "0155" => "/b STR takes a string, not an enum";
+        char, STR, "0141" => "/b STR takes a string, not a char";
+        String, STR, "0141" => r#""A""#;
+        std::net::Ipv4Addr, STR, "07312e312e312e31" => "/b STR takes a string, not an address of std::net, which is binary";
+    }
+}
+
+/// The variants of an untagged enum that were tried before the value's, and those after it if another was.
+#[test]
+fn untagged_variants_are_checked() {
+    rows! {
+        Any, PAY, PAIR => "Pair(500, 3)";
+        Any, r#""U64""#, SEVEN => "Number(7)";
+        Any, STR, "0137" => r#"Text("7")"#;
+        Any, r#""UNIT""#, "" => "Nothing";
+        Any, r#"{"OPTION":"U8"}"#, "00" => "/b OPTION takes an Option, not a unit variant";
+        Any, r#"{"TYPENAME":"Coins"}"#, PAIR => "Named { fee: 500, amount: 3 }";
+        NamedFirst, r#"{"TYPENAME":"Coins"}"#, PAIR => "Named { fee: 500, amount: 3 }";
+        NamedFirst, NUMBERS, &format!("02{PAIR}") => "/b SEQ takes a list, not a struct";
+        NamedFirst, NUMBERS, &format!("01{SEVEN}") => "/b SEQ takes a list, not a struct";
+        NamedFirst, r#"{"SEQ":"STR"}"#, "010155" => r#"Names(["U"])"#;
+        Either<Option<u64>, String>, STR, "0137" => r#"Right("7")"#;
+        Either<String, Letters>, STR, "0155" => r#"Left("U")"#;
+        Either<Letters, String>, STR, "0155" => "/b STR takes a string, not an enum";
+        Either<Letters, String>, STR, "0137" => "/b STR takes a string, not an enum";
+    }
+    let payment = Registry::read(
+        r#"{"Pay":{"TUPLESTRUCT":["U64","U64"]},"Transfer":{"STRUCT":[{"to":"STR"},{"b":{"TYPENAME":"Pay"}}]}}"#,
+    );
+    let error = payment.unwrap().decode::<Flattened>("Transfer", bytes(&format!("03626f62{PAIR}"))).unwrap_err();
+    assert_eq!(error.to_string(), "refused: WrongType at /b: TUPLE takes a tuple, not a struct");
+}
+
+/// Of a value with many parts the first of each format is checked.
+#[test]
+fn large_values_are_checked_by_format() {
+    let format = format!(r#"{{"SEQ":{PAY}}}"#);
+    let digits = format!("64{}", PAIR.repeat(100));
+    assert!(told::<Vec<(u64, u64)>>(&format, &digits).starts_with("[(500, 3), (500, 3)"));
+    assert_eq!(told::<Vec<Fee>>(&format, &digits), "/b/0 TUPLE takes a tuple, not a struct");
+    assert_eq!(told::<Vec<(u64, f64)>>(&format, &digits), "/b/0/1 U64 takes an integer, not an f64");
+    assert_eq!(told::<Vec<(u64, Option<u64>)>>(&format, &digits), "/b/0/1 U64 takes an integer, not an Option");
+}
+
+#[derive(Deserialize, Debug)]
+#[allow(dead_code, reason = "it is printed")]
+struct Flattened {
+    to: String,
+    #[serde(flatten)]
+    common: Rest<Fee>,
+}
+
+/// Keys of flattened maps are strings, and what isn't in a buffer isn't lenient.
+#[test]
+fn names_are_strings() {
+    let registry = registry(r#""U8""#);
+    let error = registry.decode::<Flat<BTreeMap<char, u8>>>("S", [9, 7]).unwrap_err();
+    assert_eq!(error.message(), "STRUCT takes a string for each field's name, not a char");
+    assert_eq!(registry.decode("S", [9, 7]), Ok(Flat { a: 9, rest: BTreeMap::from([("b".to_owned(), 7_u8)]) }));
+    let list = Registry::read("{}").unwrap();
+    let input = bytes("01550300000000000000");
+    let error = list.decode::<Tag>(r#"{"TUPLE":["STR","U64"]}"#, &input).unwrap_err();
+    assert_eq!(error.message(), "TUPLE takes a tuple, not a struct");
+    let zero = format!("{}{SEVEN}", "00".repeat(8));
+    let error = registry.decode::<Tag>("Coins", bytes(&zero)).unwrap_err();
+    assert_eq!((error.at(), error.message()), (Some("/fee"), "U64 takes an integer, not an enum"));
+    let entries = bytes(&format!("0203666565{}06616d6f756e74{SEVEN}", "00".repeat(8)));
+    let error = list.decode::<Tag>(r#"{"MAP":{"KEY":"STR","VALUE":"U64"}}"#, entries).unwrap_err();
+    assert_eq!((error.at(), error.message()), (Some(""), "MAP takes a map, not a struct"));
+}
+
+/// A value is read once, once to list its parts, and up to three times for each part, of which a large value has one for each format.
 #[test]
 fn a_value_is_read_a_few_times() {
     let registry = registry(r#"{"SEQ":{"TUPLE":["U8","U16","BYTES"]}}"#);
-    for count in [1, 2, 120] {
+    for (count, most) in [(1, 9), (2, 28), (120, 2 * 120 + 7)] {
         let input = [&[9, count][..], &[7, 1, 0, 0].repeat(count.into())].concat();
         READINGS.set(0);
         let flat: Flat<Rest<Vec<(Counted, u16, Bytes)>>> = registry.decode("S", input).unwrap();
         assert_eq!(flat.rest.b.len(), usize::from(count));
-        assert!((2..=5 * usize::from(count)).contains(&READINGS.get()), "{} for {count}", READINGS.get());
+        assert!((2..=most).contains(&READINGS.get()), "{} for {count}", READINGS.get());
     }
 }
