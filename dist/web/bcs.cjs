@@ -2,8 +2,8 @@
 "use strict";
 /**
  * A refusal. `kind` is what is refused, `reason` the fault's name, `place` the byte offset where bytes stop being a value, `at` a
- * JSON Pointer, a field path or a Move type, which is empty for a whole document, and `detail` what is wrong there. `message` is
- * the line that joins them.
+ * JSON Pointer, a field path or a Move type, and `detail` what is wrong there. `at` is empty for a whole document, and `.` for all
+ * bytes of a value. `message` is the line that joins them.
  */
 class BcsError extends Error {
   constructor(kind, { reason, place, at, detail, cause } = {}) {
@@ -156,12 +156,18 @@ const TEXT_WANTED = `a text is a string, or UTF-8 in ${BYTES}; JSON.stringify ma
 /** Reads each item once, since that may run the caller's code, which may answer differently the next time. */
 function bytesOfNumbers(numbers) {
   const [bytes, { length }] = [[], numbers];
+  if (!isLength(length)) return undefined;
   for (let i = 0; i < length; i++) {
     const number = numbers[i];
     if (!isByte(number)) return undefined;
     bytes.push(number);
   }
   return Uint8Array.from(bytes);
+}
+
+/** Whether this can be the length of an array: a proxy may have any other. */
+function isLength(length) {
+  return Number.isSafeInteger(length) && length >= 0;
 }
 
 function isByte(number) {
@@ -652,7 +658,7 @@ class Writer {
   #array(shape, value, write) {
     if (!Array.isArray(value)) this.#reject(shape, value);
     this.#nest();
-    const { length } = value;
+    const length = this.#lengthOf(shape, value);
     const count = Math.min(length, shape.parts?.length ?? length);
     if (length - count > MOST_COUNTED) this.#reject(shape, value, 'one with far too many items');
     const depth = this.#path.push(0) - 1;
@@ -667,6 +673,12 @@ class Writer {
     this.#path.pop();
     const surplus = new Array(length - count).fill('null').join();
     this.#out.put(count === 0 ? `[${surplus}]` : `${surplus && ','}${surplus}]`);
+  }
+
+  /** The length of an array, which is read once. A proxy may have any other, for which nothing would be written. */
+  #lengthOf(shape, array) {
+    const { length } = array;
+    return isLength(length) ? length : this.#reject(shape, array, 'an array without a valid length');
   }
 
   #members(shape, value, known) {
@@ -743,7 +755,7 @@ class Writer {
 
   #octets(shape, value) {
     const integers = this.#copied(copyOfIntegers, shape, value) ?? (Array.isArray(value) ? value : this.#reject(shape, value));
-    const [octets, { length }] = [[], integers];
+    const [octets, length] = [[], this.#lengthOf(shape, integers)];
     const depth = this.#path.push(0) - 1;
     for (let i = 0; i < length; i++) {
       this.#path[depth] = i;
@@ -1361,10 +1373,10 @@ function requireKnown(given, names, what) {
   if (unknown !== undefined) throw new TypeError(`no ${what} is called ${unknown}: ${names.join(', ')}`);
 }
 
-/** A limit that a caller passes. */
-function limitOf(number, name) {
+/** A limit that a caller passes. The library refuses one above `most`, with a kind of its own. */
+function limitOf(number, name, most) {
   if (isUnsigned(number)) return number;
-  throw new RangeError(`${name} is an integer from 0 to 4294967295, and not ${String(number)}`);
+  throw new RangeError(`${name} is an integer from 0 to ${most}, and not ${String(number)}`);
 }
 
 function isUnsigned(number) {
@@ -1442,7 +1454,7 @@ class Holder {
   format(given) {
     const isString = typeof given === 'string';
     const formats = isString ? this.#formats.ofStrings : this.#formats.ofObjects;
-    const word = isString ? given : JSON.stringify(given) ?? '';
+    const word = isString ? given : jsonOfObject(given);
     const known = formats.get(word);
     if (known !== undefined) return known;
     const text = isString ? textOfFormat(word) : word;
@@ -1456,6 +1468,19 @@ class Holder {
     format.shape ??= this.shapes.of(JSON.parse(format.text));
     return format.shape;
   }
+}
+
+/** The JSON of a format that is an object. Anything else gets words of its own, since its JSON would be one that nobody wrote. */
+function jsonOfObject(given) {
+  const json = typeof given === 'object' && given !== null && !Array.isArray(given) ? JSON.stringify(given) : undefined;
+  if (json !== undefined) return json;
+  throw new TypeError(`a format is a container's name, JSON such as '"U8"', or an object such as { SEQ: 'U8' }, and not ${kindOfPassed(given)}`);
+}
+
+function kindOfPassed(given) {
+  if (given === null || given === undefined) return String(given);
+  if (Array.isArray(given)) return 'an array';
+  return typeof given === 'object' ? 'an object without JSON' : `a ${typeof given}`;
 }
 
 /** As in the program: a text that begins with `{` or `"` is a format's JSON, and any other a container's name. */
@@ -1730,8 +1755,8 @@ class Registry {
   withLimits(given) {
     requireKnown(given, ['depth', 'nodes'], 'limit');
     const { depth = MOST_DEPTH, nodes } = given;
-    const limits = { depth: limitOf(depth, 'depth'), nodes: nodes === undefined ? undefined : limitOf(nodes, 'nodes') };
-    return new Registry(this.#bcs, this.#holder, limits);
+    const mostNodes = nodes === undefined ? undefined : limitOf(nodes, 'nodes', ALL_NODES);
+    return new Registry(this.#bcs, this.#holder, { depth: limitOf(depth, 'depth', MOST_DEPTH), nodes: mostNodes });
   }
 
   /** Frees the registry, also those that `withLimits` made of it, when calls in progress end. From then on calls throw. */
@@ -1946,6 +1971,9 @@ function madeRegistryOf(output) {
 
 // Makes the calls from the module: registries, growth, and the names of faults.
 
+const FILE_ADVICE =
+  "a string is read as JSON; for a file, pass its contents: readFileSync(name, 'utf8') in Node, or await (await fetch(url)).text()";
+
 /** Makes the calls from the module's bytes, a `Response` with them, a compiled module, or a function that returns one of these. */
 async function load(wasm) {
   if (typeof WebAssembly !== 'object') throw new Error('this engine has no WebAssembly');
@@ -1976,6 +2004,11 @@ function compiled(wasm) {
   return WebAssembly.compile(wasm);
 }
 
+/** Whether this is a string that can't be a registry: the JSON of one begins with a brace. */
+function mayNameFile(text) {
+  return typeof text === 'string' && /^[^{]/.test(text.trimStart());
+}
+
 class Bcs {
   #calls;
   #names = new Map();
@@ -1990,7 +2023,7 @@ class Bcs {
     const { names } = options;
     const [bytes, moveTypes] = [bytesOf(text), new MoveTypes(names)];
     const holder = new Holder(this.#calls, bytes, moveTypes);
-    this.answerOf((calls) => calls.open(holder.opened), (calls) => reported(calls.registryRefusal(bytes)));
+    this.answerOf((calls) => calls.open(holder.opened), (calls, answer) => this.#placeInRegistry(calls, answer, text, bytes));
     holder.checkNames();
     return new Registry(this, holder, { depth: MOST_DEPTH });
   }
@@ -1998,17 +2031,17 @@ class Bcs {
   /** Returns if the newer registry keeps everything in the older one; otherwise it is refused, with its first fault. */
   grows(older, newer) {
     const [first, second] = [bytesOf(older), bytesOf(newer)];
-    this.answerOf((calls) => calls.grows(first, second), (calls, { status }) => {
-      if (status === 'refused') return reported(calls.growthPlace(first, second));
-      return reported(calls.registryRefusal(status === 'newer' ? second : first));
+    this.answerOf((calls) => calls.grows(first, second), (calls, answer) => {
+      if (answer.status === 'refused') return reported(calls.growthPlace(first, second));
+      return this.#placeInRegistry(calls, answer, ...(answer.status === 'newer' ? [newer, second] : [older, first]));
     });
   }
 
   /** All differences from an older registry to a newer one, a line for each. */
   differences(older, newer) {
     const [first, second] = [bytesOf(older), bytesOf(newer)];
-    const { output } = this.answerOf((calls) => calls.growthList(first, second), (calls, { status }) =>
-      reported(calls.registryRefusal(status === 'newer' ? second : first)));
+    const { output } = this.answerOf((calls) => calls.growthList(first, second), (calls, answer) =>
+      this.#placeInRegistry(calls, answer, ...(answer.status === 'newer' ? [newer, second] : [older, first])));
     return stringOfUtf8(output).split('\n').slice(0, -1);
   }
 
@@ -2020,6 +2053,13 @@ class Bcs {
     const [text, lines] = [bytesOf(modules), linesOfTypes(types)];
     const refused = (calls) => reported(calls.modulesPlace(text, lines));
     return madeRegistryOf(this.answerOf((calls) => calls.registryOfModules(text, lines), refused).output);
+  }
+
+  /** What is wrong with the JSON of a registry. Callers may have passed the name of a file, which no call opens. */
+  #placeInRegistry(calls, { fault }, text, bytes) {
+    const { at, detail } = reported(calls.registryRefusal(bytes));
+    const isFile = detail !== undefined && mayNameFile(text) && this.faultName(fault) === 'NotJson';
+    return { at, detail: isFile ? `${detail}; ${FILE_ADVICE}` : detail };
   }
 
   /** The name of a fault of bcs.h, or `undefined` where no fault has the number. */

@@ -143,7 +143,7 @@ export class BcsError extends Error {
    * Where the fault is: in a value or JSON a JSON Pointer, such as `/payload/args/1`; in bytes the field path to where they stop,
    * such as `.payload.args[1]`; in a format a JSON Pointer; in a registry or growth a definition, such as `Shape, field side`; in a
    * path a step, such as `step 2 x`; in modules a JSON Pointer, or the type that was requested. Names are as they are, never escaped
-   * or cut. It is empty for a whole document.
+   * or cut. It is empty for a whole document, and `.` for all bytes of a value.
    */
   readonly at?: string;
   /** What is wrong there, or what was expected, in words for people, which may change: `U64 takes an integer, not Uint8Array`. */

@@ -1,7 +1,7 @@
 /**
  * A refusal. `kind` is what is refused, `reason` the fault's name, `place` the byte offset where bytes stop being a value, `at` a
- * JSON Pointer, a field path or a Move type, which is empty for a whole document, and `detail` what is wrong there. `message` is
- * the line that joins them.
+ * JSON Pointer, a field path or a Move type, and `detail` what is wrong there. `at` is empty for a whole document, and `.` for all
+ * bytes of a value. `message` is the line that joins them.
  */
 export class BcsError extends Error {
   constructor(kind, { reason, place, at, detail, cause } = {}) {

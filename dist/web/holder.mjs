@@ -73,7 +73,7 @@ export class Holder {
   format(given) {
     const isString = typeof given === 'string';
     const formats = isString ? this.#formats.ofStrings : this.#formats.ofObjects;
-    const word = isString ? given : JSON.stringify(given) ?? '';
+    const word = isString ? given : jsonOfObject(given);
     const known = formats.get(word);
     if (known !== undefined) return known;
     const text = isString ? textOfFormat(word) : word;
@@ -87,6 +87,19 @@ export class Holder {
     format.shape ??= this.shapes.of(JSON.parse(format.text));
     return format.shape;
   }
+}
+
+/** The JSON of a format that is an object. Anything else gets words of its own, since its JSON would be one that nobody wrote. */
+function jsonOfObject(given) {
+  const json = typeof given === 'object' && given !== null && !Array.isArray(given) ? JSON.stringify(given) : undefined;
+  if (json !== undefined) return json;
+  throw new TypeError(`a format is a container's name, JSON such as '"U8"', or an object such as { SEQ: 'U8' }, and not ${kindOfPassed(given)}`);
+}
+
+function kindOfPassed(given) {
+  if (given === null || given === undefined) return String(given);
+  if (Array.isArray(given)) return 'an array';
+  return typeof given === 'object' ? 'an object without JSON' : `a ${typeof given}`;
 }
 
 /** As in the program: a text that begins with `{` or `"` is a format's JSON, and any other a container's name. */

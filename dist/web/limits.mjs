@@ -45,10 +45,10 @@ export function requireKnown(given, names, what) {
   if (unknown !== undefined) throw new TypeError(`no ${what} is called ${unknown}: ${names.join(', ')}`);
 }
 
-/** A limit that a caller passes. */
-export function limitOf(number, name) {
+/** A limit that a caller passes. The library refuses one above `most`, with a kind of its own. */
+export function limitOf(number, name, most) {
   if (isUnsigned(number)) return number;
-  throw new RangeError(`${name} is an integer from 0 to 4294967295, and not ${String(number)}`);
+  throw new RangeError(`${name} is an integer from 0 to ${most}, and not ${String(number)}`);
 }
 
 export function isUnsigned(number) {

@@ -11,6 +11,9 @@ import { Registry } from './registry.mjs';
 import { isSupported } from './support.mjs';
 import { bytesOf, stringOfUtf8 } from './texts.mjs';
 
+const FILE_ADVICE =
+  "a string is read as JSON; for a file, pass its contents: readFileSync(name, 'utf8') in Node, or await (await fetch(url)).text()";
+
 /** Makes the calls from the module's bytes, a `Response` with them, a compiled module, or a function that returns one of these. */
 export async function load(wasm) {
   if (typeof WebAssembly !== 'object') throw new Error('this engine has no WebAssembly');
@@ -41,6 +44,11 @@ function compiled(wasm) {
   return WebAssembly.compile(wasm);
 }
 
+/** Whether this is a string that can't be a registry: the JSON of one begins with a brace. */
+function mayNameFile(text) {
+  return typeof text === 'string' && /^[^{]/.test(text.trimStart());
+}
+
 class Bcs {
   #calls;
   #names = new Map();
@@ -55,7 +63,7 @@ class Bcs {
     const { names } = options;
     const [bytes, moveTypes] = [bytesOf(text), new MoveTypes(names)];
     const holder = new Holder(this.#calls, bytes, moveTypes);
-    this.answerOf((calls) => calls.open(holder.opened), (calls) => reported(calls.registryRefusal(bytes)));
+    this.answerOf((calls) => calls.open(holder.opened), (calls, answer) => this.#placeInRegistry(calls, answer, text, bytes));
     holder.checkNames();
     return new Registry(this, holder, { depth: MOST_DEPTH });
   }
@@ -63,17 +71,17 @@ class Bcs {
   /** Returns if the newer registry keeps everything in the older one; otherwise it is refused, with its first fault. */
   grows(older, newer) {
     const [first, second] = [bytesOf(older), bytesOf(newer)];
-    this.answerOf((calls) => calls.grows(first, second), (calls, { status }) => {
-      if (status === 'refused') return reported(calls.growthPlace(first, second));
-      return reported(calls.registryRefusal(status === 'newer' ? second : first));
+    this.answerOf((calls) => calls.grows(first, second), (calls, answer) => {
+      if (answer.status === 'refused') return reported(calls.growthPlace(first, second));
+      return this.#placeInRegistry(calls, answer, ...(answer.status === 'newer' ? [newer, second] : [older, first]));
     });
   }
 
   /** All differences from an older registry to a newer one, a line for each. */
   differences(older, newer) {
     const [first, second] = [bytesOf(older), bytesOf(newer)];
-    const { output } = this.answerOf((calls) => calls.growthList(first, second), (calls, { status }) =>
-      reported(calls.registryRefusal(status === 'newer' ? second : first)));
+    const { output } = this.answerOf((calls) => calls.growthList(first, second), (calls, answer) =>
+      this.#placeInRegistry(calls, answer, ...(answer.status === 'newer' ? [newer, second] : [older, first])));
     return stringOfUtf8(output).split('\n').slice(0, -1);
   }
 
@@ -85,6 +93,13 @@ class Bcs {
     const [text, lines] = [bytesOf(modules), linesOfTypes(types)];
     const refused = (calls) => reported(calls.modulesPlace(text, lines));
     return madeRegistryOf(this.answerOf((calls) => calls.registryOfModules(text, lines), refused).output);
+  }
+
+  /** What is wrong with the JSON of a registry. Callers may have passed the name of a file, which no call opens. */
+  #placeInRegistry(calls, { fault }, text, bytes) {
+    const { at, detail } = reported(calls.registryRefusal(bytes));
+    const isFile = detail !== undefined && mayNameFile(text) && this.faultName(fault) === 'NotJson';
+    return { at, detail: isFile ? `${detail}; ${FILE_ADVICE}` : detail };
   }
 
   /** The name of a fault of bcs.h, or `undefined` where no fault has the number. */

@@ -55,12 +55,18 @@ export const TEXT_WANTED = `a text is a string, or UTF-8 in ${BYTES}; JSON.strin
 /** Reads each item once, since that may run the caller's code, which may answer differently the next time. */
 function bytesOfNumbers(numbers) {
   const [bytes, { length }] = [[], numbers];
+  if (!isLength(length)) return undefined;
   for (let i = 0; i < length; i++) {
     const number = numbers[i];
     if (!isByte(number)) return undefined;
     bytes.push(number);
   }
   return Uint8Array.from(bytes);
+}
+
+/** Whether this can be the length of an array: a proxy may have any other. */
+export function isLength(length) {
+  return Number.isSafeInteger(length) && length >= 0;
 }
 
 function isByte(number) {

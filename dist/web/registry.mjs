@@ -2,7 +2,7 @@
 import { FORMS } from './calls.mjs';
 import { interruptible } from './interruptions.mjs';
 import { FormatCalls } from './format_calls.mjs';
-import { limitOf, MOST_DEPTH, requireKnown } from './limits.mjs';
+import { ALL_NODES, limitOf, MOST_DEPTH, requireKnown } from './limits.mjs';
 import { bytesOfAny } from './octets.mjs';
 import { bytesForCall, bytesOf, stringOfUtf8 } from './texts.mjs';
 import { viewsOf } from './views.mjs';
@@ -31,8 +31,8 @@ export class Registry {
   withLimits(given) {
     requireKnown(given, ['depth', 'nodes'], 'limit');
     const { depth = MOST_DEPTH, nodes } = given;
-    const limits = { depth: limitOf(depth, 'depth'), nodes: nodes === undefined ? undefined : limitOf(nodes, 'nodes') };
-    return new Registry(this.#bcs, this.#holder, limits);
+    const mostNodes = nodes === undefined ? undefined : limitOf(nodes, 'nodes', ALL_NODES);
+    return new Registry(this.#bcs, this.#holder, { depth: limitOf(depth, 'depth', MOST_DEPTH), nodes: mostNodes });
   }
 
   /** Frees the registry, also those that `withLimits` made of it, when calls in progress end. From then on calls throw. */

@@ -3,7 +3,7 @@
 import { BcsError } from './errors.mjs';
 import { JsonOutput } from './json_output.mjs';
 import { bytesOfWide, digitsOfAddress } from './move_types.mjs';
-import { copyOfBytes, copyOfIntegers, isMap } from './octets.mjs';
+import { copyOfBytes, copyOfIntegers, isLength, isMap } from './octets.mjs';
 import { isWellFormed } from './texts.mjs';
 
 // The limits of docs/ENCODING.md: arrays and objects in one another, and open containers.
@@ -168,7 +168,7 @@ class Writer {
   #array(shape, value, write) {
     if (!Array.isArray(value)) this.#reject(shape, value);
     this.#nest();
-    const { length } = value;
+    const length = this.#lengthOf(shape, value);
     const count = Math.min(length, shape.parts?.length ?? length);
     if (length - count > MOST_COUNTED) this.#reject(shape, value, 'one with far too many items');
     const depth = this.#path.push(0) - 1;
@@ -183,6 +183,12 @@ class Writer {
     this.#path.pop();
     const surplus = new Array(length - count).fill('null').join();
     this.#out.put(count === 0 ? `[${surplus}]` : `${surplus && ','}${surplus}]`);
+  }
+
+  /** The length of an array, which is read once. A proxy may have any other, for which nothing would be written. */
+  #lengthOf(shape, array) {
+    const { length } = array;
+    return isLength(length) ? length : this.#reject(shape, array, 'an array without a valid length');
   }
 
   #members(shape, value, known) {
@@ -259,7 +265,7 @@ class Writer {
 
   #octets(shape, value) {
     const integers = this.#copied(copyOfIntegers, shape, value) ?? (Array.isArray(value) ? value : this.#reject(shape, value));
-    const [octets, { length }] = [[], integers];
+    const [octets, length] = [[], this.#lengthOf(shape, integers)];
     const depth = this.#path.push(0) - 1;
     for (let i = 0; i < length; i++) {
       this.#path[depth] = i;
