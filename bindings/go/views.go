@@ -51,8 +51,9 @@ func (q *question) explainWith(form Form, lines, data []byte, out *C.uint8_t, le
 
 // refusalOfViews returns the error for the format of the value, if it is refused, or else for the first view that is refused.
 func (q *question) refusalOfViews(answer C.bcs_answer, views []view) error {
-	if refused, is := q.refusalOfFormat(answer, q.format).(*Error); !is || refused.Message != "" {
-		return q.refusalOfFormat(answer, q.format)
+	err := q.refusalOfFormat(answer, q.format)
+	if refused, is := err.(*Error); !is || refused.Message != "" {
+		return err
 	}
 	for _, v := range views {
 		alone := q.explainWith(FormJSON, []byte(v.line()), nil, nil, 0)
