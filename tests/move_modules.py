@@ -10,7 +10,7 @@ modules are those of tests/move/make.py, in the forms of both APIs.
   isn't.
 - COUNT (5,000) random inputs are decoded by `bcs` and by tests/move/independent.py, which knows no registry.
 - COUNT * 3 / 5 spoiled samples: each must be refused by name, with a place, or make a registry that `bcs` accepts.
-- Type arguments that multiply: every such job ends within 2 seconds and 64 MiB.
+- Type arguments that multiply: every such job ends within 5 processor seconds and 64 MiB.
 """
 
 import collections
@@ -32,7 +32,7 @@ AC = "0x1::aptos_coin::AptosCoin"
 CAFE = f"0x{'cafe'.rjust(64, '0')}"
 ADDRESS = {"NEWTYPESTRUCT": {"TUPLEARRAY": {"CONTENT": "U8", "SIZE": 32}}}
 OBJECT = ": an object or another call's result, without bytes here"
-SECONDS = 2
+SECONDS = 5
 MEMORY = 64 << 20
 NAMES = [
     *["NotJson", "RepeatedMember", "NotModules", "ChainError", "MixedChains", "RepeatedName", "BadType"],
