@@ -1,5 +1,5 @@
 #!/usr/bin/env python3
-"""Times library calls on the inputs of the benchmark: calls.py INPUTS CALLS [PLAIN]. CALLS is the program `test_calls`.
+"""Times library calls on the inputs of the benchmark: calls.py INPUTS CALLS [PLAIN]. CALLS is the program `test_codec`.
 Prints the milliseconds of processor time that a call takes: a run with many calls, minus a run without any."""
 
 from __future__ import annotations

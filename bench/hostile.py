@@ -17,6 +17,7 @@ MIB = 1 << 20
 SECONDS = 60
 MEMORY = 8 << 30
 SMALL = ["--nodes", "1000000", "--depth", "64"]
+NESTED = 60
 
 
 @dataclasses.dataclass(frozen=True)
@@ -39,8 +40,8 @@ def doubling(count: int) -> bytes:
     return json.dumps({**made, f"C{count}": "UNITSTRUCT"}).encode()
 
 
-def chain(count: int) -> bytes:
-    made = {f"C{at}": {"STRUCT": [{"a": {"TYPENAME": f"C{at + 1}"}}]} for at in range(count)}
+def chain(count: int, field: str = "a") -> bytes:
+    made = {f"C{at}": {"STRUCT": [{field: {"TYPENAME": f"C{at + 1}"}}]} for at in range(count)}
     return json.dumps({**made, f"C{count}": "UNITSTRUCT"}).encode()
 
 
@@ -61,6 +62,16 @@ def long_name(length: int) -> bytes:
     return json.dumps({"S": {"STRUCT": [{"n" * length: {"SEQ": "BOOL"}}]}}).encode()
 
 
+def nested(last: bytes = b'"":null') -> bytes:
+    """NESTED objects, each in the one before, with the last one's members. Of all JSON, such takes the most memory."""
+    return b'{"":' * (NESTED - 1) + b"{" + last + b"}" * NESTED
+
+
+def listed(last: bytes) -> bytes:
+    """4 MB of a JSON array, and this item at its end."""
+    return b"[" + (nested() + b",") * 13_000 + last + b"]"
+
+
 def hexadecimal(data: bytes) -> bytes:
     return data.hex().encode()
 
@@ -74,6 +85,20 @@ def attacks() -> list[Attack]:
         Attack("check: 100,000 small containers", ["check", "@"], containers(100_000), takes_limits=False),
         Attack("grows: the same against itself", ["grows", "@", "@"], containers(100_000), takes_limits=False),
         Attack("encode: 2 million numbers", ["encode", "{}", numbers], input=b"[" + b"1," * 2_000_000 + b"1]"),
+        Attack("encode: refused, 780,000 objects", ["encode", "{}", '"U8"'], input=listed(nested())),
+        Attack("encode: 780,000 objects, and then no JSON", ["encode", "{}", '"U8"'], input=listed(b"x")),
+        Attack(
+            "encode: 780,000 objects, the last with a repeated member",
+            ["encode", "@", '{"SEQ":{"TYPENAME":"C0"}}'],
+            chain(NESTED, ""),
+            listed(nested(b'"":null,"":null')),
+        ),
+        Attack(
+            "check: refused, 780,000 objects",
+            ["check", "@"],
+            b'{"S":{"STRUCT":%b}}' % listed(nested()),
+            takes_limits=False,
+        ),
         Attack("encode: a map of 300,000 falling keys", ["encode", "{}", bytes_map], input=pairs),
         Attack("normalise: the same", ["normalise", "{}", bytes_map], input=pairs),
         Attack("decode: five bytes announce 2,147,483,647 units", ["decode", "{}", units], input=bomb),

@@ -4,7 +4,7 @@
     tests/bindings.py            builds them, and runs all parts side by side
     tests/bindings.py PART..     runs these parts over what was built before
 
-The parts are the library of C, and its header compared with the proved crate's sources; the rows of `test_calls`
+The parts are the library of C, and its header compared with the proved crate's sources; the rows of `test_codec`
 through each language; Python, Rust, WebAssembly, SQLite, PostgreSQL, Go, Java, and Dask; the programs and libraries for
 arm64, in an emulator, and for Windows, in wine.
 """
@@ -56,6 +56,7 @@ def test_program() -> str:
     """The program is compiled with another option than the one that `rt ci` ran, and linked with another start."""
     log = log_of("tests/program.py", DIST) + log_of("tests/explain.py", DIST)
     log += log_of("tests/output_files.py", DIST) + log_of("tests/own_stack.py", DIST)
+    log += log_of("tests/host_streams.py", f"{DIST}/bcs") + log_of("tests/file_rights.py", f"{DIST}/bcs")
     symbols = log_of("objdump", "-T", f"{DIST}/bcs", f"{DIST}/libbcs.so")
     versions = [tuple(map(int, version.split("."))) for version in re.findall(r"GLIBC_(\d[\d.]*)", symbols)]
     newest = "GLIBC_" + ".".join(map(str, max(versions)))

@@ -98,11 +98,11 @@ test_changed_files() {
         mkfifo "dist/$name"
         fails "an additional FIFO, $name ($1)"
     done
-    for name in more .more README.txt BUILT_FROM.old web/README.md web/SIGNERS web/SHA256SUMS.sig x86_64-linux/BUILT_FROM; do
+    for name in more .more README.txt BUILT_FROM.old web/README.md web/SIGNERS web/SHA256SUMS.sig web/RELEASE x86_64-linux/BUILT_FROM; do
         echo more >"dist/$name"
         fails "an additional file, $name ($1)"
     done
-    for name in more SIGNERS SHA256SUMS.sig; do
+    for name in more SIGNERS SHA256SUMS.sig RELEASE RELEASE.sig; do
         ln -s README.md "dist/$name"
         fails "an additional link, $name ($1)"
     done

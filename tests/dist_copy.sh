@@ -29,9 +29,9 @@ script() {
     chmod +x "$file"
 }
 
-# program FILE WORD: writes a program that prints the word and its arguments, and ends with status 3.
+# program FILE WORD: writes a program that prints the word and each of its arguments in angle brackets, and ends with status 3.
 program() {
-    script "$1" "echo \"$2 \$*\"" 'exit 3'
+    script "$1" "printf '%s' '$2'" "printf ' <%s>' \"\$@\"" 'exit 3'
 }
 
 # label SOURCES [KIT]: prints what BUILT_FROM has for them.
@@ -69,8 +69,8 @@ make_copy() {
     xargs -d '\n' cp --parents -t "$room" <"$room/sources"
     mkdir -p "$room/bin" "$room/dist" "$room/tests"
     cp bcs test .gitattributes .gitignore "$room"
-    cp tools/check_dist.sh tools/check_tracked.sh tools/compare_dist.sh tools/dist_sources.sh tools/sign.sh tools/take_dist.sh \
-        "$room/tools"
+    cp tools/check_dist.sh tools/check_tracked.sh tools/compare_dist.sh tools/dist_sources.sh tools/release.py tools/sign.sh \
+        tools/take_dist.sh "$room/tools"
     cp tests/test_command.py "$room/tests"
     cp dist/README.md "$room/dist"
     cd "$room"

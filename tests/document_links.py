@@ -3,7 +3,8 @@
 
 In each Markdown file that git tracks in FOLDER, by default this repository, a link to a file names a tracked file or
 folder there, and a link to a heading, here or in another page, names one that the page has, spelled like GitHub spells
-it. Links to the web aren't followed. Code is skipped."""
+it. Links to the web aren't followed. Code is skipped, but for addresses that `curl` fetches: they have only characters
+that servers accept, and if the answer is stored as bytes, an error isn't stored in its place."""
 
 from __future__ import annotations
 
@@ -20,6 +21,12 @@ CODE = re.compile(r"(`+)(?!`).*?(?<!`)\1(?!`)", re.DOTALL)
 LINK = re.compile(r"\]\(<?([^()\s<>]*(?:\([^()\s]*\)[^()\s<>]*)*)>?(?:\s+\"[^\"]*\")?\)")
 HEADING = re.compile(r"^#{1,6} +(.*?)(?: +#+)?$", re.MULTILINE)
 NAMED = re.compile(r"<a (?:id|name)=\"([^\"]+)\">")
+
+FETCH = re.compile(r"^curl (.*)$", re.MULTILINE)
+# (RFC 3986, and $ for a variable of the shell)
+ADDRESS = re.compile(r'"(?:https?://|\$NODE)([^"]*)"')
+REFUSED = re.compile(r"[^\w$\-.~:/?#\[\]@!&'()*+,;=%]", re.ASCII)
+FAILS = re.compile(r"(?:^| )-[a-zA-Z]*f[a-zA-Z]* ")
 
 
 def anchor_of(heading: str) -> str:
@@ -42,6 +49,13 @@ def anchors(text: str) -> set[str]:
 
 def links(text: str) -> list[str]:
     return LINK.findall(CODE.sub("`code`", FENCE.sub("", text)))
+
+
+def is_wrong_fetch(command: str) -> bool:
+    """Whether a server refuses the address, or bytes are stored that are an error's."""
+    addresses = ADDRESS.findall(command)
+    stores_bytes = command.endswith(".bin")
+    return not addresses or any(map(REFUSED.search, addresses)) or (stores_bytes and not FAILS.search(command))
 
 
 class Pages:
@@ -75,17 +89,26 @@ class Pages:
             if self.is_wrong(page, link)
         ]
 
+    def wrong_fetches(self) -> list[str]:
+        fetches = [(page, command) for page, text in sorted(self.texts.items()) for command in FETCH.findall(text)]
+        if not fetches:
+            return ["no page fetches anything"]
+        return [f"{page}: curl {command}" for page, command in fetches if is_wrong_fetch(command)]
+
 
 def main() -> int:
     pages = Pages(pathlib.Path(sys.argv[1] if sys.argv[1:] else ROOT).resolve())
     count = sum(len(links(text)) for text in pages.texts.values())
     wrong = pages.wrong()
+    fetches = pages.wrong_fetches()
     for link in wrong:
         print(f"links: FAILED: {link} leads nowhere")
+    for fetch in fetches:
+        print(f"links: FAILED: {fetch}: a server refuses the address, or its error is stored")
     if not count:
         print("links: FAILED: there is no link")
     print(f"links: {count} in {len(pages.texts)} pages, {len(wrong)} of them wrong")
-    return 1 if wrong or not count else 0
+    return 1 if wrong or fetches or not count else 0
 
 
 if __name__ == "__main__":

@@ -1,18 +1,24 @@
 #!/usr/bin/env python3
-"""tests/edits.py LOG: checks why the prover rejected the must-fail edits. LOG is what `rt ci` or `rt must-fail`
-printed.
+"""Checks why the prover rejected the must-fail edits.
+
+    tests/edits.py LOG          LOG is what `rt ci` or `rt must-fail` printed
+    tests/edits.py --twins      tries the neutral twins, over the libraries that `rt ci` left
 
 Every edit was rejected because a goal of a clause stayed open, or because its written proof proves something else.
 Any other reason, for example that the borrow checker doesn't accept the edited function, or that a proof is for a
 goal that the edit took away, says nothing about the contract. And the edits that tests/edits.rows lists are there,
-were tried, and were rejected by the clause named there. """
+were tried, and were rejected by the clause named there. The prover accepts the twins of those that have one. """
 
+import argparse
+import os
 import pathlib
 import re
 import sys
+import tempfile
 from typing import NamedTuple
 
-from harness import ROOT, arguments
+import twins
+from harness import ROOT, report
 
 ROWS = ROOT / "tests/edits.rows"
 # Where the proof of a goal fails; and where a goal has no proof, which is told at a line of the source.
@@ -25,12 +31,13 @@ SOURCE = re.compile(
 
 
 class Row(NamedTuple):
-    """An edit, the public call that it turns, and the function of that crate with the clause that refuses it."""
+    """An edit, the public call that it breaks, and the function of that crate with the clause that rejects it."""
 
     edit: str
     call: str
     function: str
     clause: str
+    twin: str = ""
 
     @property
     def crate(self) -> str:
@@ -95,18 +102,42 @@ def rejected_otherwise(log: str) -> list[str]:
     return [line for line in lines if not told.search(line) or NO_GOAL.search(line)]
 
 
-def main() -> int:
-    log = pathlib.Path(arguments(__doc__, "log").log).read_text(encoding="utf-8", errors="replace")
+def check_log(listed: list[Row], log: str) -> int:
     otherwise = rejected_otherwise(log)
     for line in otherwise:
         print(f"edits: FAILED: no clause rejects this: {line}")
-    listed = rows()
     wrong = {row.edit: what for row in listed if (what := wrong_with(row, log))}
     for edit, what in wrong.items():
         print(f"edits: FAILED: {edit}: {what}")
     right = len(listed) - len(wrong)
     print(f"edits: the clauses that tests/edits.rows names reject {right} planted bugs, and {len(wrong)} not")
     return 1 if otherwise or wrong or not listed else 0
+
+
+def try_twins(listed: list[Row]) -> int:
+    """Tries each twin. A file that is the twin of no row is a fault, too."""
+    having = [row for row in listed if row.twin == "twin"]
+    faults = [f"no row has this twin: {name}" for name in twins.without_row({row.edit for row in having})]
+    with tempfile.TemporaryDirectory() as kept:
+        for row in having:
+            wrong = twins.wrong_with(row.edit, row.function, pathlib.Path(kept))
+            print(f"edits: {row.edit}: the twin is {'not ' if wrong else ''}accepted", flush=True)
+            faults += [f"{row.edit}: {wrong}"] if wrong else []
+    spent = os.times()
+    minutes = (spent.children_user + spent.children_system) / 60
+    print(f"edits: the twins took {minutes:.1f} processor minutes")
+    return report(len(having), faults)
+
+
+def main() -> int:
+    parser = argparse.ArgumentParser(description=__doc__, formatter_class=argparse.RawDescriptionHelpFormatter)
+    parser.add_argument("log", nargs="?", type=pathlib.Path)
+    parser.add_argument("--twins", action="store_true", help="try the neutral twins")
+    given = parser.parse_args()
+    if given.twins == bool(given.log):
+        parser.error("give either LOG or --twins")
+    listed = rows()
+    return try_twins(listed) if given.twins else check_log(listed, given.log.read_text("utf-8", errors="replace"))
 
 
 if __name__ == "__main__":

@@ -30,6 +30,8 @@ from harness import ROOT, program_in_folder
 TOOLS = ("openssl", "xxd", "node")
 # the commands in the table of README.md
 LEAST_ROWS = 5
+# the bytes that one of them makes, and then signs
+SIGNED = "/tmp/bytes"
 # other documents, and whether every block of sh is run
 DOCUMENTS = {
     "docs/JSON.md": False,
@@ -151,6 +153,23 @@ class Examples:
                 self.fail(f"README.md: {line[-1]}: status {ended.returncode}: {(ended.stdout + ended.stderr)[-300:]!r}")
         if len(rows) < LEAST_ROWS:
             self.fail(f"README.md has {len(rows)} commands in its table")
+        self.run_refused([row for row in rows if f"&& echo sign {SIGNED}" in row], clone)
+
+    def run_refused(self, rows: list[str], clone: pathlib.Path) -> None:
+        """The command that makes bytes to sign, with a refused transaction: the file stays, and nothing is signed."""
+        file = self.room / "bytes"
+        file.write_bytes(b"those of another transaction")
+        changes = [("aptos_transfer.json", "aptos_transfer_damaged.json"), (SIGNED, str(file))]
+        for row in rows:
+            for old, new in changes:
+                row = row.replace(old, new)
+            ended = subprocess.run(
+                ["bash", "-c", row], cwd=clone, env=bare(), stdin=subprocess.DEVNULL, capture_output=True
+            )
+            found = f"{ended.returncode} {ended.stdout.decode()}{file.read_text()}"
+            self.check("README.md", row, "2 those of another transaction", found.encode())
+        if not rows:
+            self.fail(f"README.md has no command that makes {SIGNED} and signs it")
 
     def run_help(self) -> None:
         """The help of each command of the program has examples, as lines `COMMAND  # ANSWER`."""

@@ -46,10 +46,12 @@ def explain(words: list[str], stdin: str, stderr: int | None) -> subprocess.Comp
 
 
 def faults_of_row(row: ExplainRow) -> Iterator[str]:
-    ended = explain([*row.options, row.registry.decode(), row.format], f"{row.digits}\n", None)
+    ended = explain([*row.options, row.registry.decode(), row.format], f"{row.digits}\n", subprocess.PIPE)
     is_refused = "refused:" in row.wanted or '"refused":' in row.wanted
     if ended.returncode != (2 if is_refused else 0) or joined(ended.stdout) != row.wanted:
         yield f"{row.name}: status {ended.returncode}, {ended.stdout}"
+    if (row.error or not is_refused) and ended.stderr.removesuffix("\n") != row.error:
+        yield f"{row.name}: standard error has {ended.stderr}"
 
 
 def faults_of_example(name: str, registry: str, format: str) -> Iterator[str]:

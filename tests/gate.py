@@ -153,7 +153,9 @@ def steps(log: pathlib.Path) -> list[Step]:
         Step("mistakes", ["tests/mistakes.py"], built),
         Step("heap", ["tests/program_heap.sh"]),
         Step("trust", python("tools/trust.py", "--check")),
+        Step("trust's classes", ["tests/trust_classes.py"]),
         Step("edits", python("tests/edits.py", str(log))),
+        Step("twins", python("tests/edits.py", "--twins"), built),
         Step("dist is current", ["tools/compare_dist.sh"], made),
     ]
 

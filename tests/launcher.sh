@@ -5,12 +5,13 @@ unset CDPATH
 cd "$(dirname "$0")/.."
 . tests/dist_copy.sh
 
-# runs WHAT WORD [VARIABLE=VALUE..]: with these variables, ./bcs runs the program with that word, and says nothing.
+# runs WHAT WORD [VARIABLE=VALUE..]: with these variables, ./bcs runs the program with that word and all arguments as they are,
+# and says nothing.
 runs() {
     local what="$1" word="$2" status=0
     shift 2
-    env "$@" ./bcs encode '{}' "a b" >output 2>errors || status=$?
-    { [ "$status" = 3 ] && [ "$(cat output)" = "$word encode {} a b" ] && [ ! -s errors ]; } || {
+    env "$@" ./bcs encode '{}' "a  b" '' '*' '\x' >output 2>errors || status=$?
+    { [ "$status" = 3 ] && [ "$(cat output)" = "$word <encode> <{}> <a  b> <> <*> <\\x>" ] && [ ! -s errors ]; } || {
         cat output errors
         fail "./bcs, $what"
     }
@@ -117,6 +118,44 @@ test_own_build() {
     rm $own out/proved
 }
 
+# finds_itself FOLDER COMMAND..: in that folder, the command prints the path of the program.
+finds_itself() (
+    cd "$1"
+    shift
+    [ "$("$@" --where 2>/dev/null)" = "$room/$taken" ] || fail "$* --where"
+)
+
+test_where() {
+    mkdir elsewhere
+    ln -s ../bcs elsewhere/link
+    finds_itself elsewhere ./link
+    finds_itself bin sh ../bcs
+    finds_itself . sh bcs
+    test_path
+    rm $own
+}
+
+# is_lost COMMAND..: in the folder elsewhere, with this script as its input, the command runs no program, and says what to do.
+is_lost() (
+    cd elsewhere
+    ! "$@" -s -- check <../bcs >output 2>errors || fail "$* runs something"
+    { [ ! -s output ] && grep -q 'run it by its path' errors; } || fail "$* prints $(cat output errors)"
+)
+
+# test_path: without a path, the script finds its own program through PATH, and runs none of the current folder.
+test_path() {
+    local with_both="PATH=$room:$room/linked:$PATH"
+    mkdir -p elsewhere/dist/x86_64-linux linked
+    program elsewhere/$taken hostile
+    ln -s ../bcs linked/name
+    finds_itself elsewhere env "$with_both" bcs
+    finds_itself elsewhere env "$with_both" bash bcs
+    finds_itself elsewhere env "$with_both" bash name
+    is_lost bash
+    echo "# another" >elsewhere/bash
+    is_lost bash
+}
+
 # test_build: ./bcs --build, with the script that plays the building.
 test_build() {
     local time
@@ -140,22 +179,6 @@ test_build() {
     ends 4 "git tracks what only a build may make" --build
     git rm -q --cached $own
     tools/dist_sources.sh --built-from >out/proved
-}
-
-# finds_itself FOLDER COMMAND..: in that folder, the command prints the path of the program.
-finds_itself() (
-    cd "$1"
-    shift
-    [ "$("$@" --where 2>/dev/null)" = "$room/$taken" ] || fail "$* --where"
-)
-
-test_where() {
-    mkdir elsewhere
-    ln -s ../bcs elsewhere/link
-    finds_itself elsewhere ./link
-    finds_itself bin sh ../bcs
-    finds_itself . sh bcs
-    rm $own
 }
 
 # test_processors: by these features of theirs, in the order in which Linux lists them.

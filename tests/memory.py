@@ -1,9 +1,9 @@
 #!/usr/bin/env python3
 """Runs proved programs with each of their requests for memory refused in turn, one per run.
 
-They are `test_calls`, over the rows of crates/test_calls/memory.rows, and `bcs`, at the jobs of tests/memory_jobs.py.
-`test_calls` is asked rows on values that take much memory or stack, too. Both must be there as `rt ci` or `rt run` left
-them. Nothing is left behind.
+They are `test_codec` and `test_jobs`, over the rows of their memory.rows, and `bcs`, at the jobs of
+tests/memory_jobs.py. The first two are asked rows on values that take much memory or stack, too. All must be there as
+`rt ci` or `rt run` left them. Nothing is left behind.
 """
 
 import os
@@ -18,7 +18,8 @@ from harness import ROOT, Failed, end_with
 from memory_jobs import FILES, JOBS
 from memory_of_program import Program
 
-BCS, TEST_CALLS = ROOT / "crates/bcs/out/bcs", ROOT / "crates/test_calls/out/test_calls"
+BCS = ROOT / "crates/bcs/out/bcs"
+TESTS = ("test_codec", "test_jobs")
 STACK = 8 << 20
 
 
@@ -36,13 +37,16 @@ def set_stack() -> None:
     resource.setrlimit(resource.RLIMIT_STACK, (STACK, STACK))
 
 
-def ask_large_rows() -> None:
+def ask_large_rows(crate: str) -> None:
     """Rows that take more time or stack than the gate gives a program."""
-    table = (ROOT / "crates/test_calls/large.rows").read_text(encoding="utf-8")
+    folder = ROOT / "crates" / crate
+    table = (folder / "large.rows").read_text(encoding="utf-8")
     asked = "".join(line.partition(" -> ")[0] + "\n" for line in table.splitlines())
-    ended = subprocess.run([TEST_CALLS], input=asked, stdout=subprocess.PIPE, encoding="utf-8", preexec_fn=set_stack)
+    ended = subprocess.run(
+        [folder / "out" / crate], input=asked, stdout=subprocess.PIPE, encoding="utf-8", preexec_fn=set_stack
+    )
     if ended.returncode != 0 or ended.stdout != table:
-        raise Failed(f"the rows of crates/test_calls/large.rows: status {ended.returncode}")
+        raise Failed(f"the rows of crates/{crate}/large.rows: status {ended.returncode}")
     print(f"memory: {table.count(' -> ')} rows of large and of deep values", flush=True)
 
 
@@ -64,9 +68,10 @@ def main() -> None:
     with tempfile.TemporaryDirectory() as folder:
         room = pathlib.Path(folder)
         refuser = build_refuser(room)
-        if subprocess.run([sys.executable, "tests/memory_of_calls.py", refuser]).returncode != 0:
-            sys.exit(1)
-        ask_large_rows()
+        for crate in TESTS:
+            if subprocess.run([sys.executable, "tests/memory_of_calls.py", refuser, crate]).returncode != 0:
+                sys.exit(1)
+            ask_large_rows(crate)
         sweep_program(refuser, room)
 
 

@@ -1,12 +1,12 @@
-"""Asks `test_calls` the rows of crates/test_calls/memory.rows while memory is short, or a read or write fails.
+"""Asks `test_codec` or `test_jobs` the rows of its memory.rows while memory is short, or a read or write fails.
 
-    python3 tests/memory_of_calls.py REFUSER
+    python3 tests/memory_of_calls.py REFUSER CRATE
 
-REFUSER is the library that is built from tests/refuse.c. For the rows of each paragraph, every request for memory is
-refused in turn, one per run. Then one row answers "out of memory", and all others give their usual answers; or the
-program ends before a row, since it found no room for its own words. If the request was only a hint, nothing is missing,
-and the run is repeated with the next request refused too. A group of rows has at most one such request, or the number
-in its line `# hints: N`.
+REFUSER is the library that is built from tests/refuse.c, and CRATE the program's name. For the rows of each paragraph,
+every request for memory is refused in turn, one per run. Then one row answers "out of memory", and all others give
+their usual answers; or the program ends before a row, since it found no room for its own words. If the request was only
+a hint, nothing is missing, and the run is repeated with the next request refused too. A group of rows has at most one
+such request, or the number in its line `# hints: N`.
 """
 
 import os
@@ -21,8 +21,9 @@ from typing import NamedTuple
 
 from harness import Failed, arguments, end_with
 
-CALLS = pathlib.Path(__file__).resolve().parent.parent / "crates/test_calls"
-PROGRAM = CALLS / "out/test_calls"
+CRATES = pathlib.Path(__file__).resolve().parent.parent / "crates"
+# What unsets the registry of the rows above. A job has its own.
+UNSET: dict[str, list[str]] = {"test_codec": ["registry\t{} -> ok 0"], "test_jobs": []}
 # Behind each run, in both its streams.
 END = re.compile(rb"\x1e(\d+) (\d+)\n")
 # What a row answers for want of memory: a job puts nothing, and ends with status 4.
@@ -55,19 +56,26 @@ class Run(NamedTuple):
     requests: int
 
 
-def runs(refuser: str, rows: list[str], ranges: list[str]) -> list[Run]:
+class Tested(NamedTuple):
+    """The program, and the library that refuses its requests."""
+
+    refuser: str
+    program: pathlib.Path
+
+
+def runs(tested: Tested, rows: list[str], ranges: list[str]) -> list[Run]:
     """A run over the rows for each range of requests, which are refused."""
     return [
-        run for first in range(0, len(ranges), RANGES) for run in runs_of(refuser, rows, ranges[first : first + RANGES])
+        run for first in range(0, len(ranges), RANGES) for run in runs_of(tested, rows, ranges[first : first + RANGES])
     ]
 
 
-def runs_of(refuser: str, rows: list[str], ranges: list[str]) -> list[Run]:
+def runs_of(tested: Tested, rows: list[str], ranges: list[str]) -> list[Run]:
     with tempfile.TemporaryFile() as given, tempfile.TemporaryFile() as put:
         given.write("".join(f"{row.partition(' -> ')[0]}\n" for row in rows).encode())
         given.seek(0)
-        refused = {"LD_PRELOAD": refuser, "REFUSE": " ".join(ranges)}
-        subprocess.run([PROGRAM], stdin=given, stdout=put, stderr=subprocess.DEVNULL, env=refused, check=True)
+        refused = {"LD_PRELOAD": tested.refuser, "REFUSE": " ".join(ranges)}
+        subprocess.run([tested.program], stdin=given, stdout=put, stderr=subprocess.DEVNULL, env=refused, check=True)
         put.seek(0)
         parts = END.split(put.read())
     outputs, statuses, requests = parts[:-1:3], parts[1::3], parts[2::3]
@@ -79,9 +87,9 @@ def runs_of(refuser: str, rows: list[str], ranges: list[str]) -> list[Run]:
     return told
 
 
-def granted(refuser: str, rows: list[str]) -> int:
+def granted(tested: Tested, rows: list[str]) -> int:
     """How many requests the rows make, where each is granted."""
-    [run] = runs(refuser, rows, ["0"])
+    [run] = runs(tested, rows, ["0"])
     for wanted, answer in zip(rows, run.lines):
         if answer != wanted:
             raise Failed(f"with all granted: {answer[:300]}, and not {wanted[:300]}")
@@ -90,11 +98,11 @@ def granted(refuser: str, rows: list[str]) -> int:
     return run.requests
 
 
-def unset_rows(refuser: str, rows: list[str]) -> list[str]:
+def unset_rows(tested: Tested, rows: list[str]) -> list[str]:
     """What the rows answer where the first of them, which sets their registry, isn't asked."""
     if not rows[0].startswith("registry\t"):
         return rows
-    [run] = runs(refuser, rows[1:], ["0"])
+    [run] = runs(tested, rows[1:], ["0"])
     return [rows[0], *run.lines]
 
 
@@ -118,13 +126,13 @@ def judged(rows: list[str], unset: list[str], run: Run) -> str:
     return "row"
 
 
-def swept(refuser: str, group: Group) -> Counter[str]:
+def swept(tested: Tested, group: Group) -> Counter[str]:
     """How the runs ended in which each request is refused, one a run."""
     rows = group.rows
-    total, unset = granted(refuser, rows), unset_rows(refuser, rows)
+    total, unset = granted(tested, rows), unset_rows(tested, rows)
     counts: Counter[str] = Counter()
     again = []
-    for number, run in enumerate(runs(refuser, rows, [str(number) for number in range(1, total + 1)]), start=1):
+    for number, run in enumerate(runs(tested, rows, [str(number) for number in range(1, total + 1)]), start=1):
         how = judged(rows, unset, run)
         counts[how] += 1
         if how == "whole":
@@ -133,7 +141,7 @@ def swept(refuser: str, group: Group) -> Counter[str]:
         most = f"at most {group.hints} may"
         raise Failed(f"{counts['whole']} runs answer though a request was refused, and {most}: {rows[0][:300]}")
     if again:
-        for numbers, run in zip(again, runs(refuser, rows, again)):
+        for numbers, run in zip(again, runs(tested, rows, again)):
             if judged(rows, unset, run) == "whole":
                 raise Failed(f"nothing is missing with requests {numbers} refused")
     if counts["early"] > START_REQUESTS + LINE_REQUESTS * len(rows):
@@ -141,27 +149,27 @@ def swept(refuser: str, group: Group) -> Counter[str]:
     return counts
 
 
-def ask_quiet(refuser: str, rows: list[str]) -> int:
+def ask_quiet(tested: Tested, rows: list[str]) -> int:
     """Rows whose calls ask for no memory: where none is made, there are as many requests."""
-    made = granted(refuser, rows)
-    set_up = granted(refuser, [re.sub("^quiet", "stand", row) for row in rows])
+    made = granted(tested, rows)
+    set_up = granted(tested, [re.sub("^quiet", "stand", row) for row in rows])
     if made != set_up:
         raise Failed(f"the calls make {made - set_up} requests: {rows[0]}")
     return sum(row.startswith("quiet") for row in rows)
 
 
-def ask_falling(refuser: str, rows: list[str]) -> str:
+def ask_falling(tested: Tested, rows: list[str]) -> str:
     """A map of many falling keys, with the request number KEYS_REQUEST refused.
 
     `encode` makes fewer requests than the map has keys, and returns the bytes all the same. The other encoder makes one
     for each key, and reports that memory ran out.
     """
     stand, encode, entries = ([row] for row in rows)
-    set_up = granted(refuser, stand)
+    set_up = granted(tested, stand)
     told = []
     for row, how in ((encode, "whole"), (entries, "row")):
-        requests = granted(refuser, row) - set_up
-        [run] = runs(refuser, row, [str(set_up + KEYS_REQUEST)])
+        requests = granted(tested, row) - set_up
+        [run] = runs(tested, row, [str(set_up + KEYS_REQUEST)])
         if judged(row, row, run) != how or (requests < KEYS_REQUEST) != (how == "whole"):
             raise Failed(f"{row[0][:80]}: {requests} requests, {run.lines}")
         told.append(f"{requests} by {row[0].split()[0]}")
@@ -247,24 +255,27 @@ def groups_of(text: str) -> list[Group]:
 
 
 def main() -> None:
-    refuser = arguments(__doc__, "refuser").refuser
-    groups = groups_of((CALLS / "memory.rows").read_text(encoding="utf-8"))
+    given = arguments(__doc__, "refuser", "crate")
+    folder = CRATES / given.crate
+    tested = Tested(given.refuser, folder / "out" / given.crate)
+    groups = groups_of((folder / "memory.rows").read_text(encoding="utf-8"))
     quiet = [group.rows for group in groups if any(row.startswith("quiet") for row in group.rows)]
-    [falling] = [group.rows for group in groups if group.rows[0].startswith("stand_value")]
-    others = [group for group in groups if group.rows not in [*quiet, falling]]
+    falling = [group.rows for group in groups if group.rows[0].startswith("stand_value")]
+    others = [group for group in groups if group.rows not in [*quiet, *falling]]
     counts: Counter[str] = Counter()
     with ThreadPoolExecutor(os.cpu_count()) as lanes:
-        for found in lanes.map(lambda group: swept(refuser, group), others):
+        for found in lanes.map(lambda group: swept(tested, group), others):
             counts += found
     print(
-        f"memory: {sum(len(group.rows) for group in others)} rows of calls: {counts.total()} requests, each refused in "
-        f"turn; {counts['whole']} of them with the next one, too; {counts['early']} before a row"
+        f"memory: {sum(len(group.rows) for group in others)} rows of {given.crate}: {counts.total()} requests, each "
+        f"refused in turn; {counts['whole']} of them with the next one, too; {counts['early']} before a row"
     )
-    failing = [row for group in others for row in ["registry\t{} -> ok 0", *failing_rows(group.rows)]]
-    granted(refuser, failing)
+    failing = [row for group in others for row in [*UNSET[given.crate], *failing_rows(group.rows)]]
+    granted(tested, failing)
     print(f"memory: {len(failing)} rows on reads and writes that fail in turn")
-    print(f"memory: {sum(ask_quiet(refuser, rows) for rows in quiet)} rows of calls that make no request")
-    print(f"memory: {KEYS_REQUEST} requests and more at 300 falling keys: {ask_falling(refuser, falling)}")
+    print(f"memory: {sum(ask_quiet(tested, rows) for rows in quiet)} rows of calls that make no request")
+    for rows in falling:
+        print(f"memory: {KEYS_REQUEST} requests and more at 300 falling keys: {ask_falling(tested, rows)}")
 
 
 if __name__ == "__main__":

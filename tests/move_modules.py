@@ -134,6 +134,7 @@ def functions(*parts: dict[str, Any]) -> Any:
 
 
 FINE = aptos([("a", "u8")])
+WITHOUT_ABI = {"bytecode": "0x", "abi": None}
 DEEP = "vector<" * 40 + "u8" + ">" * 40
 SUI_DEEP: Any = "U8"
 for _ in range(40):
@@ -160,6 +161,12 @@ REFUSED: list[tuple[Any, str, str, str, str]] = [
     ({"message": "Module not found", "error_code": "m"}, "u8", "ChainError", "", '"Module not found"'),
     ({"jsonrpc": "2.0", "error": {"code": 1, "message": "No\x1b[31m"}}, "u8", "ChainError", "", '"No\\u001b[31m"'),
     ({"bytecode": "0x"}, "u8", "NotModules", "/abi", "expected an object, found nothing"),
+    (WITHOUT_ABI, "u8", "NotModules", "/abi", "expected an object, found null"),
+    ([FINE, {"bytecode": "0x", "abi": []}], "u8", "NotModules", "/1/abi", "expected an object, found an array"),
+    (
+        [WITHOUT_ABI, FINE, {"bytecode": "0x"}],
+        *("0x1::n::S", "MissingModule", ARGUMENT, "/v1/accounts/0x1/module/n; the module at /0 has no abi"),
+    ),
     (changed(FINE, name="a/b"), "u8", "BadType", "/abi/name", '"a/b" isn\'t a name of Move'),
     (changed(FINE, name="x" * 256), "u8", "BadType", "/abi/name", "isn't a name of Move"),
     (changed(FINE, address="1"), "u8", "BadType", "/abi/address", "isn't an address"),
@@ -230,6 +237,10 @@ REFUSED: list[tuple[Any, str, str, str, str]] = [
     (sui([("a", SUI_DEEP)]), "0x1::m::S", "TooLarge", OF_SUI + "/Vector" * 32, "nests more than 32 deep"),
     (sui([]), "0x1::m::S", "UnknownVariants", "/structs/S/fields", "Move has no struct without fields"),
     (enum(variants={"B": [], "A": []}), "0x1::m::S", "UnknownVariants", "/enums/S", "no variantDeclarationOrder"),
+    (
+        enum(variants={"B": [], "A": []}, variantDeclarationOrder=None),
+        *("0x1::m::S", "UnknownVariants", "/enums/S", "no variantDeclarationOrder"),
+    ),
     (
         enum(variants={"B": [], "A": []}, variantDeclarationOrder=["B"]),
         *("0x1::m::S", "UnknownVariants", "/enums/S/variantDeclarationOrder", "aren't the names of all variants"),
@@ -377,6 +388,18 @@ RULES = [
         make.sui("0x1::m", "enum S { C; A; B { x: u8 } }"),
         ["0x1::m::S"],
         {"0x1::m::S": {"ENUM": {"0": {"C": "UNIT"}, "1": {"A": "UNIT"}, "2": {"B": {"STRUCT": [{"x": "U8"}]}}}}},
+    ),
+    Rule(
+        "the only variant, whose number needs no order",
+        enum(variants={"A": []}, variantDeclarationOrder=None),
+        ["0x1::m::S"],
+        {"0x1::m::S": {"ENUM": {"0": {"A": "UNIT"}}}},
+    ),
+    Rule(
+        "modules without declarations that aren't needed",
+        [[WITHOUT_ABI], FINE, {"bytecode": "0x"}],
+        ["0x1::m::S"],
+        {"0x1::m::S": {"STRUCT": [{"a": "U8"}]}},
     ),
     Rule(
         "a type argument that has a container",

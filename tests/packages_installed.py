@@ -91,7 +91,7 @@ def install_program(rooms: Rooms) -> str:
 
 def clone(rooms: Rooms, debian: pathlib.Path) -> None:
     """Without the signature, since a bare Debian has no ssh-keygen, and without git's files, since it has no git."""
-    without = shutil.ignore_patterns(".git", "SIGNERS", "SHA256SUMS.sig")
+    without = shutil.ignore_patterns(".git", "SIGNERS", "SHA256SUMS.sig", "RELEASE", "RELEASE.sig")
     shutil.copytree(rooms.tree, debian / "root/clone", dirs_exist_ok=True, ignore=without)
 
 

@@ -11,19 +11,26 @@ from __future__ import annotations
 import argparse
 import os
 import pathlib
+import pty
 import re
+import select
+import shlex
 import shutil
+import signal
 import subprocess
 import tempfile
+import time
 from collections.abc import Callable
 
 import packaging_install
 import packaging_prefixes
+import packaging_rooms
 from harness import ROOT, Failed, fail, require, run
 
 # A line, and what is offered at its end.
 CASES = """\
 bcs en|encode
+bcs f|from-move
 bcs ex|example explain
 bcs help gr|grows
 bcs encode --ra|--raw
@@ -31,16 +38,29 @@ bcs decode --b|--base64
 bcs sc|scan schema
 bcs grows --|--help --list --output --quiet
 bcs encode reg|registry.json
-bcs encode registry.json |Alpha Beta Gamma
-bcs encode --depth 5 --raw registry.json |Alpha Beta Gamma
+bcs encode registry.json |Alpha Beta Gamma a b
+bcs encode --depth 5 --raw registry.json |Alpha Beta Gamma a b
 bcs encode '{"One":"UNITSTRUCT","Two":"UNITSTRUCT"}' |One Two
 bcs show "a folder/other.json" G|Gone
+bcs encode move.json ad|address
+bcs encode move.json 0x1::coin::|0x1::coin::Coin<0x1::aptos_coin::AptosCoin> 0x1::coin::Info<u64, 0x1::coin::Coin<u8>>
+bcs encode move.json '0x1::coin::I|0x1::coin::Info<u64, 0x1::coin::Coin<u8>>
+bcs encode move.json "0x1::coin::I|0x1::coin::Info<u64, 0x1::coin::Coin<u8>>
+bcs encode move.json 0x1::coin::Coin\\<0x1::ap|0x1::coin::Coin<0x1::aptos_coin::AptosCoin>
+bcs encode move.json 0x1::coin::Info\\<u64\\,\\ 0x1::coin::C|0x1::coin::Info<u64, 0x1::coin::Coin<u8>>
+bcs encode move.json '0x1::coin::Coin<0x1::aptos_coin::AptosCoin>' val|value.json
+bcs encode move.json 0x1::coin::Coin\\<0x1::aptos_coin::AptosCoin\\> val|value.json
+bcs example move.json '0x1::order::Side<u8>' --variant |Buy Sell
+bcs part move.json '0x1::order::Side<u8>' gamma.hex --name ::|::Sell
+bcs from-move mo|move.json
+bcs from-move move.json |
+bcs from-move move.json 0x1::coin::Coin --q|--quiet
 bcs show no.json |
 bcs show bad.json |
 bcs encode bad.json |
 bcs encode '{"One":' |
-./bcs encode registry.json |Alpha Beta Gamma
-hostile/bcs encode registry.json |Alpha Beta Gamma
+./bcs encode registry.json |Alpha Beta Gamma a b
+hostile/bcs encode registry.json |Alpha Beta Gamma a b
 bcs encode registry.json Alpha val|value.json
 bcs part registry.json Alpha |
 bcs part registry.json Alpha --pointer /a val|value.json
@@ -65,13 +85,30 @@ bcs same registry.json Alpha value.json reg|registry.json
 
 REGISTRY = """\
 {"Alpha":"UNITSTRUCT","Beta":{"STRUCT":[{"field":"U8"}]},
-"Gamma":{"ENUM":{"0":{"Off":"UNIT"},"1":{"On":{"NEWTYPE":"U8"}}}},"a b":"UNITSTRUCT"}
+"Gamma":{"ENUM":{"0":{"Off":"UNIT"},"1":{"On":{"NEWTYPE":"U8"}}}},"a b":"UNITSTRUCT",
+"$(touch $ROOM/ran)":"UNITSTRUCT","`touch $ROOM/ran`":"UNITSTRUCT","it's":"UNITSTRUCT","a\\nb":"UNITSTRUCT"}
 """
+
+# with names like those of from-move
+MOVE = """\
+{"0x1::coin::Coin<0x1::aptos_coin::AptosCoin>":"UNITSTRUCT","0x1::coin::Info<u64, 0x1::coin::Coin<u8>>":"UNITSTRUCT",
+"0x1::order::Side<u8>":{"ENUM":{"0":{"Buy":"UNIT"},"1":{"Sell":{"NEWTYPE":"U8"}}}},"address":"UNITSTRUCT"}
+"""
+
+# A line, and the line that the tab key makes of it, as a list of words.
+INSERTED = [
+    ("bcs encode move.json 0x1::coin::I", ["encode", "move.json", "0x1::coin::Info<u64, 0x1::coin::Coin<u8>>"]),
+    ("bcs encode move.json '0x1::coin::I", ["encode", "move.json", "0x1::coin::Info<u64, 0x1::coin::Coin<u8>>"]),
+    ('bcs encode move.json "0x1::order::', ["encode", "move.json", "0x1::order::Side<u8>"]),
+    ("bcs from-move move.json", ["from-move", "move.json"]),
+    ("bcs encode registry.json a", ["encode", "registry.json", "a b"]),
+]
 
 # It gets the file with the completions and the words of the line. (`compopt` asks bash for the names of files.)
 ASK_BASH = """\
 bcs() { touch "$ROOM/ran"; }
 source "$1"
+COMP_LINE=$LINE COMP_WORDBREAKS=$' \\t\\n"\\'@><=;|&(:'
 compopt() { [ "$*" = "-o default" ] && mapfile -t COMPREPLY < <(compgen -f -- "$word"); }
 COMP_WORDS=("${@:2}") COMP_CWORD=$(($# - 2))
 _bcs "$2" "${!#}" "${@: -2:1}"
@@ -108,6 +145,20 @@ zle -N finish && bindkey '^X' finish
 """
 
 
+# What each shell is started with in a terminal, and the line by which it gets the completions and a `bcs` that notes
+# its arguments. (The echo of a line must not look like what the line prints.)
+BASH_NOTES = "bcs() { printf '%s\\n' \"$@\" >$ROOM/words; echo do''ne; }; echo rea''dy"
+FISH_NOTES = "function bcs; printf '%s\\n' $argv >$ROOM/words; echo do''ne; end; echo rea''dy"
+IN_TERMINAL = {
+    "bash": ("bash --norc --noprofile -i", f'. "$SHARED"/bash-completion/completions/bcs; {BASH_NOTES}'),
+    "zsh": (
+        "zsh -f -i",
+        f'fpath=("$SHARED"/zsh/site-functions $fpath); autoload -Uz compinit && compinit -u -D; {BASH_NOTES}',
+    ),
+    "fish": ("fish --no-config -i", f'source "$SHARED"/fish/vendor_completions.d/bcs.fish; {FISH_NOTES}'),
+}
+
+
 def one_line(text: str) -> str:
     return " ".join(text.split())
 
@@ -116,7 +167,22 @@ def pieces_of(word: str) -> list[str]:
     """How bash splits a word on the line."""
     if not word or "'" in word or '"' in word:
         return [word]
-    return re.findall(r"=|:+|[^=:]+", word)
+    return re.findall(r"=|:+|(?:\\.|[^=:\\])+", word)
+
+
+def word_of(line: str, kept: str, offered: str) -> str:
+    """The word that a shell reads if it inserts what is offered at the end of a line."""
+    quote = re.sub(r"""'[^']*'|"[^"]*"|[^'"]""", "", line)
+    return shlex.split((quote or kept) + offered + quote)[0]
+
+
+def read_until(terminal: int, text: bytes) -> None:
+    """Reads what a terminal prints until it has printed the text."""
+    read, deadline = b"", time.monotonic() + 60
+    while text not in read:
+        ready = select.select([terminal], [], [], max(0, deadline - time.monotonic()))[0]
+        require(bool(ready), f"a terminal doesn't print {text!r}: {read!r}")
+        read += os.read(terminal, 4096)
 
 
 class Packaging:
@@ -141,14 +207,17 @@ class Packaging:
             require(not self.needs_all, "folders of others can only be tried by root")
             print("packaging: skipped: folders of others, which only root can make")
 
+    def commands(self) -> list[str]:
+        """The first word of each line that the help has below "Commands:"."""
+        listed = run(self.program, "--help").partition("\nCommands:\n")[2].partition("\n\n")[0]
+        commands = [line.split()[0] for line in listed.splitlines()]
+        require(len(commands) > 10 and len(set(commands)) == len(commands), f"the help lists the commands {commands}")
+        return commands
+
     def help_lines(self) -> list[tuple[str, str]]:
         """The lines of the help, each with its command. Headings and indentation aren't in the manual."""
-        whole = run(self.program, "--help")
-        listed = re.search(r"^Commands:(.*?)\n\n", whole, flags=re.M | re.S)
-        commands = re.findall(r"^  ([a-z]+) ", listed[1], flags=re.M) if listed else []
-        require(len(commands) > 1, "the help lists no commands")
         lines = []
-        for command in ["", *(name for name in commands if name != "help")]:
+        for command in ["", *(name for name in self.commands() if name != "help")]:
             text = run(self.program, *filter(None, [command]), "--help")
             text = re.sub(r"^[A-Z][a-z]*: ?", "", text, flags=re.M)
             lines += [(command, line) for line in re.split(r"\n *|  +", text) if line.strip()]
@@ -158,6 +227,9 @@ class Packaging:
         """Returns the manual."""
         page = self.room / "bcs.1"
         page.write_text(run(ROOT / "tools/packaging/manual.sh", self.program), encoding="utf-8")
+        sections = [line[4:] for line in page.read_text(encoding="utf-8").splitlines() if line.startswith(".SS ")]
+        missing = {*self.commands(), "help"} ^ {*sections, "help"}
+        require(not missing, f"the manual has no section, or one too many, on: {', '.join(sorted(missing))}")
         if self.has("man", "man-db"):
             environment = os.environ | {"LC_ALL": "C.UTF-8", "MANWIDTH": "10000"}
             ran = subprocess.run(
@@ -187,6 +259,7 @@ class Packaging:
             other.write_text(f'#!/bin/sh\ntouch "{self.room}/ran"\necho "Evil: UNITSTRUCT"\n', encoding="utf-8")
             other.chmod(0o755)
         (self.folder / "registry.json").write_text(REGISTRY, encoding="utf-8")
+        (self.folder / "move.json").write_text(MOVE, encoding="utf-8")
         other_registry = '{"Gone":"UNITSTRUCT","Home":"UNITSTRUCT"}\n'
         (self.folder / "a folder/other.json").write_text(other_registry, encoding="utf-8")
         (self.folder / "bad.json").write_text("[\n", encoding="utf-8")
@@ -209,14 +282,14 @@ class Packaging:
         return ran.stdout.decode()
 
     def offered_by_bash(self, line: str) -> list[str]:
-        words = [found[0] for found in re.finditer(r"""('[^']*'|"[^"]*"|[^ '"])+""", line)]
+        words = [found[0] for found in re.finditer(r"""('[^']*('|$)|"[^"]*("|$)|\\.|[^ '"])+""", line)]
         words += [""] if line.endswith(" ") else []
         # Bash splits a word at = and :, and what is offered replaces what stands behind the last of them.
         pieces = [piece for word in words for piece in pieces_of(word)]
         kept = re.sub(r"[^:]*$", "", pieces[-1] if "=" in words[-1] else words[-1])
         file = str(self.shared / "bash-completion/completions/bcs")
         offered = self.ask(line, "bash", "--norc", "-c", ASK_BASH, "bash", file, *pieces).splitlines()
-        return [kept + word for word in offered]
+        return [word_of(line, kept, word) for word in offered if word]
 
     def offered_by_fish(self, line: str) -> list[str]:
         file = str(self.shared / "fish/vendor_completions.d/bcs.fish")
@@ -231,18 +304,43 @@ class Packaging:
         (folder / "start").write_text(START_OF_ZSH, encoding="utf-8")
         self.ask(line, "zsh", "-f", "-c", ASK_ZSH)
         offered = folder / "offered"
-        return offered.read_text(encoding="utf-8").splitlines() if offered.exists() else []
+        words = offered.read_text(encoding="utf-8").splitlines() if offered.exists() else []
+        return [word_of(line, "", word) for word in words if word]
 
     def test_completions(self, shell: str, offered_by: Callable[[str], list[str]]) -> None:
         if not self.has(shell, shell):
             return
-        for case in CASES.splitlines():
-            line, _, expected = case.partition("|")
+        cases = [case.rpartition("|")[::2] for case in CASES.splitlines()]
+        cases.append(("bcs ", " ".join(sorted(self.commands()))))
+        for line, expected in cases:
             offered = one_line(" ".join(sorted(set(offered_by(line)))))
             require(offered == expected, f"{shell} at '{line}' offers '{offered}', and not '{expected}'")
             ran = (self.room / "ran").exists()
             require(not ran, f"{shell} at '{line}' runs a program that isn't the installed one")
-        print(f"packaging: completions for {shell}: {len(CASES.splitlines())} lines")
+        for line, words in INSERTED:
+            found = self.inserted(shell, line)
+            require(found == words, f"the tab key of {shell} at '{line}' makes the words {found}, and not {words}")
+        print(f"packaging: completions for {shell}: {len(cases)} lines, and {len(INSERTED)} by the tab key")
+
+    def inserted(self, shell: str, line: str) -> list[str]:
+        """The words that the shell runs `bcs` with, if it gets the line, a tab and a line feed from a terminal."""
+        start, setting = IN_TERMINAL[shell]
+        noted = self.room / "words"
+        noted.unlink(missing_ok=True)
+        process, terminal = pty.fork()
+        if process == 0:
+            os.chdir(self.folder)
+            variables = {"ROOM": str(self.room), "SHARED": str(self.shared), "TERM": "dumb", "HOME": str(self.room)}
+            os.execvpe("env", ["env", *start.split()], os.environ | variables)
+        try:
+            for text, answer in [(setting, b"ready"), (line + "\t", b"done")]:
+                os.write(terminal, f"{text}\r".encode())
+                read_until(terminal, answer)
+        finally:
+            os.kill(process, signal.SIGKILL)
+            os.waitpid(process, 0)
+            os.close(terminal)
+        return noted.read_text(encoding="utf-8").splitlines()
 
 
 def main() -> None:
@@ -264,6 +362,7 @@ def main() -> None:
             packaging_install.test(program, room, manual)
             packaging.require_root()
             packaging_prefixes.test(program, room)
+            packaging_rooms.test(program, room)
             if packaging.has("busybox", "busybox-static"):
                 tools = packaging_install.test_busybox(program, room)
                 packaging_prefixes.test(program, room, str(tools / "sh"), variables={"PATH": str(tools)})

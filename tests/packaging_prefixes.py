@@ -27,7 +27,7 @@ esac
 """
 SWAPS = {
     "mkdir": '{command} "$@"; status=$?; [ ! -d "{folder}" ] || swap; exit $status',
-    "mktemp": 'swap; exec {command} "$@"',
+    "chmod": 'swap; exec {command} "$@"',
     "rm": 'swap; exec {command} "$@"',
     "cp": 'swap; exec {command} "$@"',
     "mv": 'swap; exec {command} "$@"',

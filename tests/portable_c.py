@@ -140,10 +140,13 @@ def test(trial: Trial, room: pathlib.Path) -> str:
     rows = int(passed[1]) if passed else 0
     if rows < LEAST // trial.each:
         raise Failed(f"the program answers {rows} rows, and not {LEAST // trial.each}")
+    for script in "tests/host_streams.py", "tests/file_rights.py":
+        run(sys.executable, script, *trial.emulator.split(), folder / "bcs")
     compiler = [*trial.compiler.split(), "-std=gnu11", *trial.flags.split(), f"-I{folder}/include"]
     run(*compiler, folder / "tests/driver.c", folder / "libbcs.a", "-pthread", "-o", folder / "driver")
     driver: list[Word] = [*trial.emulator.split(), folder / "driver", "handle"]
     asked = run(sys.executable, "tests/rows", "--without", "changes", "portable-c", *driver)
+    run("tests/output_files.py", "--host", *trial.emulator.split(), folder / "bcs")
     shutil.rmtree(folder)
     return f"{rows} rows of the program; of the library {asked.splitlines()[-1]}"
 

@@ -29,6 +29,12 @@ finds() {
     cp -a taken dist
 }
 
+# add FILE: git tracks one file more.
+add() {
+    echo planted >"$1"
+    git add "$1"
+}
+
 test_files() {
     local name
     accepts "as taken" '^dist: unsigned$'
@@ -62,18 +68,20 @@ test_sources() {
     label "$(tools/dist_sources.sh)" >dist/BUILT_FROM
     finds "a changed source, and a changed BUILT_FROM" "doesn't have exactly the files that SHA256SUMS lists"
     git checkout -q crates
-    echo >>bindings/python/bcs_proved/types.py
-    accepts "a changed file that dist/ isn't made from" '^dist: BUILT_FROM names these sources$'
-    git checkout -q bindings
+    add bindings/python/bcs_proved/types.py
+    accepts "a file that dist/ isn't made from" '^dist: BUILT_FROM names these sources$'
+    git rm -qf bindings/python/bcs_proved/types.py
     echo "tampering: ./test --dist finds what is changed in dist/ and in its sources"
 }
 
-# sign KEY: signs dist/ with the key.
+# sign [--release] KEY: signs with the key. From then on, that is the dist/ that is restored.
 sign() {
-    tools/sign.sh "$1" >sign.log 2>&1 || {
+    tools/sign.sh "$@" >sign.log 2>&1 || {
         cat sign.log
         fail "tools/sign.sh"
     }
+    rm -r taken
+    cp -a dist taken
 }
 
 # cannot_sign TEXT KEY: tools/sign.sh refuses the key with this text, and dist/ is as it was.
@@ -87,8 +95,6 @@ cannot_sign() {
 
 test_signing() {
     local name
-    keys=$(mktemp -d)
-    trap 'rm -rf "$room" "$keys"' EXIT
     for name in key other; do
         ssh-keygen -q -t ed25519 -N '' -C "a comment" -f "$keys/$name"
     done
@@ -109,35 +115,37 @@ test_signing() {
     rm -rf dist
     cp -a taken dist
     sign "$keys/key"
-    grep -qx 'maintainer namespaces="bcs-dist" ssh-ed25519 [^ ]*' dist/SIGNERS || fail "tools/sign.sh writes another dist/SIGNERS"
-    accepts "signed" '^dist: signed by a key in dist/SIGNERS; '
+    grep -qx 'maintainer namespaces="bcs-dist,bcs-release" ssh-ed25519 [^ ]*' dist/SIGNERS \
+        || fail "tools/sign.sh writes another dist/SIGNERS"
+    accepts "signed" "$no_release"
     sign "$keys/other"
-    { accepts "signed by another maintainer" '^dist: signed' && [ "$(wc -l <dist/SIGNERS)" = 2 ]; } || fail "tools/sign.sh, a second key"
+    { accepts "signed by another maintainer" "$no_release" && [ "$(wc -l <dist/SIGNERS)" = 2 ]; } || fail "tools/sign.sh, a second key"
     sign "$keys/key"
     [ "$(wc -l <dist/SIGNERS)" = 2 ] || fail "tools/sign.sh adds a key again"
-    rm -r taken
-    cp -a dist taken
 }
 
-# verified KEYS: runs the commands of SECURITY.md with these public keys.
+# verified BLOCK KEYS: runs the commands of SECURITY.md in its first or second block with these public keys.
 verified() {
-    sed 's/^/maintainer /' "$@" >"$keys/maintainers"
-    awk '/^```/ { is_code = !is_code; next } is_code && /ssh-keygen|sha256sum/' "$top/SECURITY.md" >"$keys/commands"
-    [ "$(grep -c '' "$keys/commands")" = 2 ] || fail "SECURITY.md doesn't have the two commands"
+    sed 's/^/maintainer /' "$2" >"$keys/maintainers"
+    awk -v block="$1" '/^```/ { at++; next } at == 2 * block - 1' "$top/SECURITY.md" >"$keys/commands"
+    [ "$(grep -c '' "$keys/commands")" = $((4 - $1)) ] || fail "SECURITY.md doesn't have the commands of block $1"
     sed -i "s,\([^ ]*\)/maintainers\.keys,$keys/maintainers," "$keys/commands"
     grep -qF "$keys/maintainers" "$keys/commands" || fail "the commands of SECURITY.md read no file maintainers.keys"
     sh -ec "$(cat "$keys/commands")" >verified.log 2>&1
 }
 
 test_signature() {
-    verified "$keys/key.pub" || fail "the commands of SECURITY.md refuse a signed dist/"
-    ! verified "$keys/other.pub" || fail "the commands of SECURITY.md accept a signature of another key"
+    verified 2 "$keys/key.pub" || fail "the commands of SECURITY.md refuse a signed dist/"
+    ! verified 2 "$keys/other.pub" || fail "the commands of SECURITY.md accept a signature of another key"
     tools/compare_dist.sh >compare.log || fail "tools/compare_dist.sh compares the signature"
     grep -q 'byte for byte' compare.log || fail "tools/compare_dist.sh doesn't compare a signed dist/"
     rm dist/SHA256SUMS.sig
     finds "a missing signature" "isn't signed"
     rm dist/SIGNERS
-    finds "a signature of nobody" "there is no dist/SIGNERS that says whose"
+    finds "a signature of nobody" "no dist/SIGNERS that says whose"
+    sed -i '/BUILT_FROM/d' dist/SHA256SUMS
+    ssh-keygen -Y sign -f "$keys/key" -n bcs-dist <dist/SHA256SUMS >dist/SHA256SUMS.sig 2>sign.log
+    finds "signed checksums without BUILT_FROM" "doesn't list BUILT_FROM"
     (cd dist && echo >>LIBRARIES && sum .)
     finds "a change with its checksum" "the signature of SHA256SUMS is wrong"
     echo >>crates/bcs/src/main.rt
@@ -146,7 +154,7 @@ test_signature() {
     git checkout -q crates
     ssh-keygen -Y sign -f "$keys/key" -n other <dist/SHA256SUMS >dist/SHA256SUMS.sig 2>sign.log
     finds "a signature for another purpose" "the signature of SHA256SUMS is wrong"
-    sed 's/.*/maintainer namespaces="bcs-dist" &/' "$keys/other.pub" >dist/SIGNERS
+    sed 's/.*/maintainer &/' "$keys/other.pub" >dist/SIGNERS
     finds "a signature of a key that isn't in dist/SIGNERS" "the signature of SHA256SUMS is wrong"
     finds "a signature without ssh-keygen" "needs ssh-keygen" PATH="$room/few"
     mv .git aside
@@ -158,6 +166,193 @@ test_signature() {
     { grep -q 'run tools/sign.sh' take.log && [ ! -e dist/SHA256SUMS.sig ]; } || fail "tools/take_dist.sh keeps the signature of older files"
     finds "new files that nobody has signed" "isn't signed"
     echo "tampering: ./test --dist finds a wrong signature, and none where there has to be one"
+}
+
+# changes WHAT COMMAND..: after the command, ./test --dist finds one file that isn't the release's. Then it is restored.
+changes() {
+    local what="$1"
+    shift
+    "$@"
+    finds "$what" 'changed since the release: 1 files'
+    git reset -q --hard
+    git clean -qfd bindings tests tools
+}
+
+append() {
+    echo >>"$1"
+}
+
+# link FILE: puts a link to an equal file in the place of a file.
+link() {
+    cp "$1" "$keys/linked"
+    ln -sf "$keys/linked" "$1"
+}
+
+# What users run and the checksum of the sources doesn't cover.
+run_by_users='bcs install test tools/packaging/completions.sh tools/check_dist.sh bindings/python/bcs_proved/registries.py
+    bindings/go/calls.go bindings/java/src/bcsproved/Bcs.java bindings/postgresql/bcs.control bindings/rust/build.rs
+    bindings/sql/words.h bindings/sqlite/bcs_sqlite.c'
+
+test_release() {
+    local name
+    # shellcheck disable=SC2086 # these are several names
+    (cd "$top" && cp --parents -t "$room" $run_by_users)
+    git add install
+    commit "sign"
+    sign --release "$keys/key"
+    accepts "a release that isn't committed yet" "$signed"
+    commit "release"
+    accepts "a release" "$signed"
+    verified 1 "$keys/key.pub" || fail "the commands of SECURITY.md refuse a release"
+    ! verified 1 "$keys/other.pub" || fail "the commands of SECURITY.md accept a release of another key"
+    append install
+    ! verified 1 "$keys/key.pub" || fail "the commands of SECURITY.md accept a changed file"
+    git reset -q --hard
+    for name in $run_by_users; do
+        append "$name"
+    done
+    finds "changed files that users run" "changed since the release: $(echo "$run_by_users" | wc -w) files"
+    for name in $run_by_users; do
+        grep -qxF "    $name" test.log || fail "./test --dist doesn't name $name"
+    done
+    git reset -q --hard
+    changes "a file that can be run" chmod +x crates.txt
+    changes "a file that can't be run" chmod -x install
+    changes "a missing file" rm install
+    changes "a link in place of a file" link install
+    changes "an additional file" add tools/more
+    changes "an additional file with a line break in its name" add "$(printf 'tools/m\nore')"
+    changes "another letter" mv bcs BCS
+    ssh-keygen -Y sign -f "$keys/key" -n bcs-dist <dist/RELEASE >dist/RELEASE.sig 2>sign.log
+    finds "a signature of a list for another purpose" "the signature of RELEASE is wrong"
+    rm dist/RELEASE.sig
+    finds "a list that nobody signed" "RELEASE is missing or isn't signed"
+    rm dist/RELEASE
+    finds "a signature of no list" "RELEASE is missing or isn't signed"
+    rm dist/RELEASE dist/RELEASE.sig
+    accepts "without the list" "$no_release"
+    ! grep -q '^dist: signed' test.log || fail "./test --dist says that a tree without dist/RELEASE is signed"
+    rm -r dist
+    cp -a taken dist
+    echo "tampering: ./test --dist finds what was changed since a release"
+}
+
+# in_archive STATUS TEXT: in a copy without git's files, ./test --dist ends with this status, and says the text.
+in_archive() {
+    local status=0
+    (cd "$keys/archive" && ./test --dist) >test.log 2>&1 || status=$?
+    { [ "$status" = "$1" ] && grep -q "$2" test.log; } || {
+        cat test.log
+        fail "./test --dist ends with $status without git: $2"
+    }
+}
+
+test_without_git() {
+    git checkout -q --detach
+    accepts "a release at no branch" "$signed"
+    git checkout -q main
+    git clone -q . "$keys/archive"
+    rm -rf "$keys/archive/.git"
+    mkdir -p "$keys/archive/out" "$keys/archive/tests/__pycache__"
+    echo made | tee "$keys/archive/out/file" >"$keys/archive/tests/__pycache__/file.pyc"
+    in_archive 0 "$signed"
+    in_archive 0 'git knows nothing of bindings/python'
+    touch "$keys/archive/tests/argparse.py"
+    in_archive 1 'changed since the release: 1 files'
+    echo >>"$keys/archive/install"
+    in_archive 1 'changed since the release: 2 files'
+    rm -r "$keys/archive" dist/RELEASE* taken/RELEASE*
+    echo "tampering: ./test --dist finds what was changed since a release without git, too"
+}
+
+# wrong FILE TEXT COMMAND..: after the command, ./test --dist names the file and says the text.
+wrong() {
+    local file="$1" text="$2"
+    shift 2
+    "$@"
+    finds "$*" "the rights of these files"
+    grep -qF -e "    $file $text" test.log || {
+        cat test.log
+        fail "./test --dist doesn't say: $file $text"
+    }
+}
+
+test_rights() {
+    wrong bcs "is setuid" chmod u+s bcs
+    chmod u-s bcs
+    wrong tools/sign.sh "is setuid or setgid" chmod g+s tools/sign.sh
+    chmod g-s tools/sign.sh
+    wrong test "can be written by others" chmod o+w test
+    chmod o-w test
+    wrong tools "can be written by others" chmod o+w tools
+    chmod o-w tools
+    wrong dist/x86_64-linux/bcs "has a name elsewhere" ln dist/x86_64-linux/bcs "$keys/name"
+    wrong tools/sign.sh "has a name elsewhere" ln tools/sign.sh "$room/name"
+    rm "$room/name"
+    wrong bindings/c "is a link in place of a folder" link_folder bindings/c
+    rm bindings/c
+    mv "$keys/folder" bindings/c
+    ln bcs bindings/bcs
+    git add bindings/bcs
+    accepts "two names of one file, which git tracks" ''
+    git rm -qf bindings/bcs
+    if [ "$(id -u)" = 0 ]; then
+        wrong bcs "has capabilities" capable bcs
+        cp bcs copy && mv copy bcs
+    elif [ "${CI-}" = true ]; then
+        fail "only root can give capabilities"
+    else
+        echo "tampering: skipped: capabilities, which only root can give"
+    fi
+    accepts "with the rights as they were" ''
+    echo "tampering: ./test --dist finds rights of others, and names elsewhere"
+}
+
+# link_folder FOLDER: puts a link to an equal folder in its place.
+link_folder() {
+    mv "$1" "$keys/folder"
+    ln -s "$keys/folder" "$1"
+}
+
+# capable FILE: gives a file the capability to write everywhere.
+capable() {
+    python3 -c '
+import os, struct, sys
+os.setxattr(sys.argv[1], "security.capability", struct.pack("<5I", 0x02000001, 2, 0, 0, 0))' "$1"
+}
+
+# foreign FILE..: ./test --dist names each file, which git doesn't track. Then it is removed.
+foreign() {
+    local name
+    for name; do
+        finds "$name" "git doesn't track these files"
+        grep -qF -e "    $name" test.log || fail "./test --dist doesn't name $name"
+        rm -r "$name"
+    done
+}
+
+test_modules() {
+    local name
+    for name in json.py sitecustomize.py JSON.PY re.cpython-311-x86_64-linux-gnu.so .hidden.py; do
+        echo >"bindings/python/$name"
+        foreign "bindings/python/$name"
+    done
+    mkdir bindings/python/json
+    echo >bindings/python/json/__init__.py
+    foreign bindings/python/json/__init__.py
+    rmdir bindings/python/json
+    echo >bindings/python/bcs_proved/more_types.py
+    foreign bindings/python/bcs_proved/more_types.py
+    ln -s "$keys" bindings/python/json
+    foreign bindings/python/json
+    mkdir -p bindings/python/bcs_proved/__pycache__
+    echo >bindings/python/bcs_proved/__pycache__/errors.pyc
+    accepts "what Python compiled" 'git tracks all modules in bindings/python'
+    echo 'raise SystemExit("2 passed, 0 failed")' >tests/argparse.py
+    echo other >>dist/x86_64-linux/bcs
+    finds "a changed byte beside a module in tests/" "doesn't have exactly the files"
+    rm tests/argparse.py
+    echo "tampering: ./test --dist finds modules that git doesn't track"
 }
 
 # tracks FILE: git tracks a file that it ignores, and ./test --dist finds it.
@@ -198,13 +393,21 @@ test_ignored_files() {
     echo "tampering: ./test --dist finds tracked files in folders that git ignores"
 }
 
+no_release='^dist: no release: a key in dist/SIGNERS has signed the files in dist/, and nobody the others$'
+signed='^dist: signed by a key in dist/SIGNERS; '
 top=$PWD
 make_copy
 make_history
 make_tools
 ln -s "$(python3 -c 'import sys; print(sys.executable)')" few/python3
+keys=$(mktemp -d)
+trap 'rm -rf "$room" "$keys"' EXIT
 test_files
 test_sources
+test_rights
+test_modules
 test_signing
 test_signature
+test_release
+test_without_git
 test_ignored_files

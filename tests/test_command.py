@@ -19,10 +19,11 @@ NATIVE = ROOT / f"dist/{os.uname().machine}-linux"
 ROWS = [sys.executable, "tests/rows"]
 DESCRIPTION = """
 Tests the program that ./bcs runs and the libraries in dist/: the worked rows, the explained bytes and the examples of
-the documents. Before that it checks the files: dist/ has exactly those of SHA256SUMS, was built from these sources, and
-is signed if it has SIGNERS; and git tracks nothing that only a build may make. A part that needs something that isn't
-here, like a compiler, is skipped, and its line says what that is. With CI=true in the environment it fails. The last
-line is `N passed, M failed`, and the status is 0 if none failed.
+the documents. Before that it checks the files: dist/ has exactly those of SHA256SUMS, was built from these sources,
+and is signed if it has SIGNERS; git tracks nothing that only a build may make, and each file in bindings/python;
+others have no rights to files that run; and if dist/ has RELEASE, nothing was changed since then. A part that needs
+something that isn't here, like a compiler, is skipped, and its line says what that is. With CI=true in the environment
+it fails. The last line is `N passed, M failed`, and the status is 0 if none failed.
 """
 # the last lines of parts
 PASSED = re.compile(r"[a-z]+: (\d+) passed, (\d+) failed")

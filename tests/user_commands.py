@@ -2,7 +2,7 @@
 """tests/user_commands.py PROGRAM: runs what somebody without the toolchain runs.
 
 That is ./test with the program and the libraries in dist/, and with PROGRAM; ./test --self-test, in which ./test shows
-that it finds wrong answers; and the manual, the completions and ./install.
+that it finds wrong answers; the manual, the completions and ./install; and the files that bcs-registry writes.
 
 The files in dist/ are tested with the rows of the commit that they were built in, since today's rows may need what they
 can't do yet.
@@ -48,7 +48,9 @@ def tree_of_dist(room: pathlib.Path) -> pathlib.Path:
     tree = room / "then"
     git("clone", "--quiet", "--shared", "--no-checkout", ".", str(tree))
     git("-C", str(tree), "checkout", "--quiet", "--detach", older[1])
-    # It may have been signed in a later commit.
+    # It may have been signed in a later commit, but not as a release.
+    for name in ["RELEASE", "RELEASE.sig"]:
+        (tree / "dist" / name).unlink(missing_ok=True)
     for name in ["SIGNERS", "SHA256SUMS.sig"]:
         (tree / "dist" / name).unlink(missing_ok=True)
         if (ROOT / "dist" / name).exists():
@@ -74,6 +76,7 @@ def main() -> None:
     test(ROOT, "--quick", "--program", program)
     print(log_of("./test", "--self-test", "--program", program), end="")
     print(log_of("tests/packaging.py", "--all", program), end="")
+    print(log_of("tests/registry_files.py", program), end="")
 
 
 if __name__ == "__main__":

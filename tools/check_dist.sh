@@ -1,11 +1,13 @@
 #!/bin/sh
 # Checks dist/ without the toolchain: `tools/check_dist.sh [--files]`.
 #
-# dist/ has exactly the files that SHA256SUMS lists, with these checksums, and README.md, SHA256SUMS, BUILT_FROM and the
-# signature. Nothing in it is a link. BUILT_FROM names these sources, by their content. If dist/ has SIGNERS, one of them has
-# signed SHA256SUMS. With --files, neither the sources nor the signature are checked.
+# dist/ has exactly the files that SHA256SUMS lists, with these checksums, and README.md, SHA256SUMS, BUILT_FROM, RELEASE and
+# the signatures. Nothing in it is a link. BUILT_FROM names these sources, by their content. tools/release.py finds nothing. If
+# dist/ has SIGNERS, one of them has signed SHA256SUMS and, if it is there, RELEASE. With --files, only the files of dist/ are
+# checked.
 #
-# It needs coreutils, findutils, diffutils and awk, or those of busybox, and ssh-keygen if dist/ is signed.
+# It needs coreutils, findutils, diffutils and awk, or those of busybox; without --files python3, and ssh-keygen if dist/ is
+# signed.
 set -eu
 unset CDPATH
 export LC_ALL=C
@@ -24,7 +26,7 @@ fail() {
 # list_sums: prints the checksum of each file that SHA256SUMS has to list, in its form. (An older one doesn't list BUILT_FROM.)
 list_sums() (
     cd dist
-    set -- ! -path ./README.md ! -path ./SHA256SUMS ! -path ./SHA256SUMS.sig ! -path ./SIGNERS
+    set -- ! -path ./README.md ! -path ./SHA256SUMS ! -path ./SHA256SUMS.sig ! -path ./RELEASE ! -path ./RELEASE.sig ! -path ./SIGNERS
     grep -q '^[0-9a-f]*  BUILT_FROM$' SHA256SUMS || set -- "$@" ! -path ./BUILT_FROM
     find . -type f "$@" -exec sha256sum {} + | sed 's,  \./,  ,' | sort -k 2
 )
@@ -76,18 +78,32 @@ check_sources() {
     echo "dist: BUILT_FROM names these sources"
 }
 
+# verify FILE NAMESPACE: ends unless dist/FILE.sig is a signature of dist/FILE for this purpose, by a key in dist/SIGNERS.
+verify() {
+    { [ -e "dist/$1" ] && [ -e "dist/$1.sig" ]; } \
+        || fail "dist/ has SIGNERS, and $1 is missing or isn't signed: a maintainer has to run tools/sign.sh"
+    command -v ssh-keygen >/dev/null || fail "dist/ is signed, and checking that needs ssh-keygen (Debian's openssh-client)"
+    ssh-keygen -Y verify -f dist/SIGNERS -I maintainer -n "$2" -s "dist/$1.sig" <"dist/$1" >"$room/verified" 2>&1 \
+        || fail "the signature of $1 is wrong: $(tail -n 1 "$room/verified")"
+}
+
 check_signature() {
+    local name
     if [ ! -e dist/SIGNERS ]; then
-        [ ! -e dist/SHA256SUMS.sig ] || fail "dist/ is signed, but there is no dist/SIGNERS that says whose signature is valid"
+        for name in SHA256SUMS.sig RELEASE RELEASE.sig; do
+            [ ! -e "dist/$name" ] || fail "there is dist/$name, but no dist/SIGNERS that says whose signature is valid"
+        done
         echo "dist: unsigned"
         return
     fi
-    [ -e dist/SHA256SUMS.sig ] || fail "dist/ has SIGNERS, and isn't signed: a maintainer has to run tools/sign.sh"
-    command -v ssh-keygen >/dev/null || fail "dist/ is signed, and checking that needs ssh-keygen (Debian's openssh-client)"
     grep -q '^[0-9a-f]*  BUILT_FROM$' dist/SHA256SUMS || fail "the signed SHA256SUMS doesn't list BUILT_FROM"
-    ssh-keygen -Y verify -f dist/SIGNERS -I maintainer -n bcs-dist -s dist/SHA256SUMS.sig <dist/SHA256SUMS >"$room/verified" 2>&1 \
-        || fail "the signature of SHA256SUMS is wrong: $(tail -n 1 "$room/verified")"
-    echo "dist: signed by a key in dist/SIGNERS; SECURITY.md shows how to check it with a key that you got elsewhere"
+    verify SHA256SUMS bcs-dist
+    if [ -e dist/RELEASE ] || [ -e dist/RELEASE.sig ]; then
+        verify RELEASE bcs-release
+        echo "dist: signed by a key in dist/SIGNERS; SECURITY.md shows how to check it with a key that you got elsewhere"
+    else
+        echo "dist: no release: a key in dist/SIGNERS has signed the files in dist/, and nobody the others"
+    fi
 }
 
 { [ $# = 0 ] || [ "$*" = --files ]; } || {
@@ -100,5 +116,7 @@ trap 'exit 1' HUP INT TERM
 check_files
 if [ $# = 0 ]; then
     check_sources
+    command -v python3 >/dev/null || fail "checking the other files needs python3"
+    python3 -I tools/release.py --check
     check_signature
 fi

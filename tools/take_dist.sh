@@ -50,7 +50,7 @@ for name in $names; do
 done
 taken=yes
 if [ -e dist/SHA256SUMS.sig ] && ! cmp -s "$room/old/SHA256SUMS" dist/SHA256SUMS; then
-    rm dist/SHA256SUMS.sig
-    echo "the signature of the old files is deleted: run tools/sign.sh"
+    rm -f dist/SHA256SUMS.sig dist/RELEASE dist/RELEASE.sig
+    echo "the signatures of the old files are deleted: run tools/sign.sh"
 fi
 echo "dist/ is built from these sources: $(wc -l <dist/SHA256SUMS) files"

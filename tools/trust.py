@@ -9,6 +9,7 @@ counted.
 from __future__ import annotations
 
 import dataclasses
+import fnmatch
 import functools
 import pathlib
 import re
@@ -267,32 +268,78 @@ def unsafe_table() -> list[str]:
     return rows
 
 
+# Each file that git tracks is in one class, by the first pattern here that its name fits (* stands for / too).
+# These don't run where somebody uses what the packages, `dist/` and `./install` give him.
+NOT_RUN = {
+    "proved code": ["crates/*", "crates.txt"],
+    "built files": ["dist/*"],
+    "tests": [
+        "tests/*",
+        "bindings/*/tests/*",
+        "bindings/*/test.sh",
+        "bindings/arm64/test.py",
+        "bindings/go/*_test.go",
+        "bindings/go/driver/main.go",
+        "bindings/portable/flat_rows.py",
+        "bindings/postgresql/expected/*",
+        "bindings/postgresql/sql/*",
+        "bindings/sql/*.py",
+    ],
+    "documents": [
+        "*.md",
+        "docs/*.svg",
+        "bindings/web/page.png",
+        "LICENSE-*",
+        "HANDLES",
+        "tools/packaging/bcs-registry.1",
+    ],
+    "examples": ["examples/*", "bindings/c/example.c", "bindings/rust/examples/*.rs"],
+    "measurements": ["bench/*"],
+    "settings of tools": [
+        ".flake8",
+        ".gitattributes",
+        ".gitignore",
+        ".shellcheckrc",
+        "pyproject.toml",
+        "bindings/*/.gitignore",
+        "bindings/rust/rustfmt.toml",
+    ],
+    "the gate, and what only maintainers run": [
+        ".ci/run",
+        "bindings/hosts/functions",
+        "tools/api.py",
+        "tools/compare_dist.sh",
+        "tools/further_api.txt",
+        "tools/sign.sh",
+        "tools/specified_api.txt",
+        "tools/take_dist.sh",
+        "tools/trust.py",
+        "tools/unproved.py",
+    ],
+}
+
 # What isn't Rattle and runs with the proved code, or makes it.
 GLUE = {
     "start of the program, its stack, its test of the processor, and its heap": [
         "tools/link/*.c",
         "tools/link/*.h",
+        "bindings/hosts/descriptor.h",
         "bindings/hosts/statx.h",
     ],
     "start and host of the program on arm64, and of its library's calls": [
         "bindings/arm64/start.c",
         "bindings/arm64/shims.py",
+        "bindings/arm64/libc.symbols",
         "bindings/hosts/linux.c",
     ],
-    "C library": ["bindings/c/*.c", "bindings/c/*.h", "bindings/c/include/*.h"],
-    "Rust": ["bindings/rust/src/**/*.rs"],
-    "Python": ["bindings/python/bcs_proved/*.py"],
+    "C library": ["bindings/c/*.c", "bindings/c/*.h", "bindings/c/libbcs.map", "bindings/c/build.sh"],
+    "Rust": ["bindings/rust/src/*.rs", "bindings/rust/build.rs", "bindings/rust/*.toml"],
     "test vectors": ["bindings/python/bcs_proved/vectors/*.py"],
-    "JavaScript and WebAssembly": ["bindings/web/*.mjs", "bindings/web/*.c"],
-    "the program and the library in C": [
-        "bindings/portable/*.c",
-        "bindings/portable/*.h",
-        "bindings/portable/translation.py",
+    "Python": [
+        "bindings/python/bcs_proved/*.py",
+        "bindings/python/bcs_proved/py.typed",
+        "bindings/python/pyproject.toml",
     ],
-    "the page": ["bindings/web/page/*.mjs"],
-    "Windows": ["bindings/windows/*.c", "bindings/windows/*.h", "bindings/windows/*.ll"],
-    "PostgreSQL": ["bindings/postgresql/*.c", "bindings/postgresql/*.sql", "bindings/sql/*.h"],
-    "SQLite": ["bindings/sqlite/*.c"],
     "what builds `dist/`": [
         "tools/build.py",
         "tools/make_dist.sh",
@@ -303,22 +350,83 @@ GLUE = {
         "bindings/arm64/build.sh",
         "bindings/windows/build.sh",
         "bindings/web/build.sh",
-        "bindings/web/module.py",
-        "bindings/web/module_rewriting.py",
-        "bindings/web/page/build.py",
+        "bindings/web/*.py",
         "bindings/python/make_vectors.sh",
     ],
+    "the page": ["bindings/web/page/*.mjs", "bindings/web/page/page.*"],
+    "JavaScript and WebAssembly": [
+        "bindings/web/*.mjs",
+        "bindings/web/*.mts",
+        "bindings/web/*.c",
+        "bindings/web/package.json",
+    ],
+    "Go": ["bindings/go/*.go", "bindings/go/go.mod"],
+    "Java": ["bindings/java/*.java", "bindings/java/jni/bcs_jni.c", "bindings/java/build.sh"],
+    "the program and the library in C": [
+        "bindings/portable/*.c",
+        "bindings/portable/*.h",
+        "bindings/portable/translation.py",
+        "bindings/portable/Makefile",
+        "bindings/portable/CMakeLists.txt",
+        "bindings/portable/Package.swift",
+    ],
+    "Windows": [
+        "bindings/windows/*.c",
+        "bindings/windows/*.h",
+        "bindings/windows/*.ll",
+        "bindings/windows/imports/*.def",
+    ],
+    "PostgreSQL, and the headers of both SQL extensions": [
+        "bindings/postgresql/*.c",
+        "bindings/postgresql/*.h",
+        "bindings/postgresql/*.sql",
+        "bindings/postgresql/bcs.control",
+        "bindings/postgresql/exports.map",
+        "bindings/postgresql/Makefile",
+        "bindings/sql/*.h",
+    ],
+    "SQLite": ["bindings/sqlite/*.c", "bindings/sqlite/*.h", "bindings/sqlite/build.sh"],
+    "`./bcs`, `./install`, and what they run or install": [
+        "bcs",
+        "install",
+        "tools/check_tracked.sh",
+        "tools/dist_sources.sh",
+        "tools/packaging/*.sh",
+    ],
+    "`./test --dist`": ["test", "tools/check_dist.sh", "tools/release.py"],
+    "what makes the packages": ["tools/packages.py", "tools/packaging/*.py", "tools/packaging/licence"],
 }
+
+
+def tracked() -> list[str]:
+    ran = subprocess.run(["git", "ls-files", "-z"], cwd=ROOT, capture_output=True, text=True, check=True)
+    return [name for name in ran.stdout.split("\0") if name]
+
+
+def classes_of(names: list[str]) -> dict[str, list[str]]:
+    """The files of each class. Each pattern has to be the first one that some file fits."""
+    patterns = [
+        (title, pattern) for classes in (NOT_RUN, GLUE) for title, listed in classes.items() for pattern in listed
+    ]
+    found: dict[str, list[str]] = {title: [] for title in [*NOT_RUN, *GLUE]}
+    unused = set(patterns)
+    for name in names:
+        first = next((known for known in patterns if fnmatch.fnmatchcase(name, known[1])), None)
+        if not first:
+            sys.exit(f"trust: FAILED: {name!r} is in no class of tools/trust.py: does it run where somebody uses bcs?")
+        found[first[0]].append(name)
+        unused.discard(first)
+    if unused:
+        sys.exit(f"trust: FAILED: no file fits {sorted(unused)}")
+    return found
 
 
 def glue_table() -> list[str]:
     rows = ["| Part | Files | Lines |", "|---|---|---|"]
-    for title, patterns in GLUE.items():
-        files = sorted({path for pattern in patterns for path in ROOT.glob(pattern) if path.is_file()})
-        if not files:
-            sys.exit(f"trust: FAILED: no file of {title}")
-        lines = sum(len(path.read_text(encoding="utf-8").splitlines()) for path in files)
-        rows.append(f"| {title} | {len(files)} | {lines:,} |")
+    classes = classes_of(tracked())
+    for title in GLUE:
+        lines = sum(len((ROOT / name).read_text(encoding="utf-8").splitlines()) for name in classes[title])
+        rows.append(f"| {title} | {len(classes[title])} | {lines:,} |")
     return rows
 
 

@@ -92,7 +92,8 @@ make_program() {
     retarget "$program_module" "$room/program.o"
     tool llvm-objcopy --redefine-sym main=bcs_main "$room/program.o"
     link "$folder/bcs" -pie --dynamic-linker /lib/ld-linux-aarch64.so.1 \
-        "$room/start.o" "$room/linux.o" "$room/program_heap.o" "$room/statx.o" "$room/program.o"
+        "$room/start.o" "$room/linux.o" "$room/program_heap.o" "$room/statx.o" "$room/calls.o" \
+        "$room/open.o" "$room/entropy.o" "$room/program.o"
 }
 
 # A few lines of C under the name of each proved call that returns an answer lead to that call. The heap is an object of its own in
@@ -124,6 +125,9 @@ compile_c "$here/start.c"
 compile_c "$root/bindings/hosts/linux.c"
 compile_c "$root/tools/link/program_heap.c"
 compile_c "$root/tools/link/statx.c"
+compile_c "$root/tools/link/calls.c"
+compile_c "$root/tools/link/open.c"
+compile_c "$root/tools/link/entropy.c"
 for name in library heap static; do
     compile_c "$root/bindings/c/$name.c"
 done

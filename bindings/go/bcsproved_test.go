@@ -7,10 +7,12 @@ import (
 	"fmt"
 	"math"
 	"os"
+	"os/exec"
 	"path/filepath"
 	"runtime"
 	"sort"
 	"strings"
+	"syscall"
 	"testing"
 )
 
@@ -97,7 +99,22 @@ func TestRefusals(t *testing.T) {
 func TestDefaultLimits(t *testing.T) {
 	registry := open(t, "{}")
 	units, format := []byte{0xff, 0xff, 0xff, 0xff, 0x07}, `{"SEQ":"UNIT"}`
-	// Without a limit, decoding would take all memory, so the others come first.
+	if os.Getenv("BCS_TEST_RACE") != "" {
+		t.Skip("the race detector reserves terabytes; bindings/go/test.sh runs it without")
+	}
+	// Without a limit, decoding would take all memory, so the process has a limit of its own.
+	if os.Getenv("BCS_TEST_LIMITS") == "" {
+		command := exec.Command(os.Args[0], "-test.run=^TestDefaultLimits$", "-test.timeout=5m")
+		command.Env = append(os.Environ(), "BCS_TEST_LIMITS=1")
+		if told, err := command.CombinedOutput(); err != nil {
+			t.Errorf("%v: %s", err, told)
+		}
+		return
+	}
+	most := uint64(pages(t, 0)*os.Getpagesize() + 1<<30)
+	if err := syscall.Setrlimit(syscall.RLIMIT_AS, &syscall.Rlimit{Cur: most, Max: most}); err != nil {
+		t.Fatal(err)
+	}
 	for _, call := range []func() error{
 		func() error { _, err := registry.Scan(format, units); return err },
 		func() error { _, err := registry.Part(format, units, "."); return err },
@@ -118,6 +135,17 @@ func TestDefaultLimits(t *testing.T) {
 	}
 	if StandardLimits() != (Limits{500, 4294967295}) {
 		t.Error(StandardLimits())
+	}
+	// Values that share parts take little memory, and their JSON any amount. (Bytes are no nodes here.)
+	lists, shared := open(t, `{"T":{"NEWTYPESTRUCT":{"SEQ":{"TYPENAME":"T"}}}}`), any([]any{})
+	for i := 0; i < 40; i++ {
+		shared = []any{shared, shared}
+	}
+	if _, err := lists.Encode("T", shared); !strings.Contains(fmt.Sprint(err), "has more nodes than the limits allow") {
+		t.Error(err)
+	}
+	if _, err := registry.Encode(`{"SEQ":"U8"}`, make([]byte, defaultNodesOfValue+1)); err != nil {
+		t.Error(err)
 	}
 	_, err = registry.WithLimits(Limits{0, 3}).EncodeJSON(format, []byte("[null,null,null]"))
 	if !strings.HasPrefix(fmt.Sprint(err), "refused: TooManyNodes") {

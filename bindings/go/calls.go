@@ -18,20 +18,24 @@ type question struct {
 	word         string // the format, as the caller wrote it
 	format       []byte // its JSON
 	depth, nodes C.uint32_t
+	nodesOfValue uint32 // that a value of Go may have
 }
+
+// defaultNodesOfValue is low, since few objects have any number of nodes if pointers share them.
+const defaultNodesOfValue = 1 << 24
 
 // ask begins a call that reads no bytes.
 func (r *Registry) ask(format string) (*question, error) {
-	limits := StandardLimits()
+	limits, nodesOfValue := StandardLimits(), uint32(defaultNodesOfValue)
 	if r.limits != nil {
-		limits = *r.limits
+		limits, nodesOfValue = *r.limits, r.limits.Nodes
 	}
 	r.shared.lock.RLock()
 	if r.shared.handle == nil {
 		r.shared.lock.RUnlock()
 		return nil, ErrClosed
 	}
-	return &question{r.shared, r.shared.handle, format, formatJSON(format), C.uint32_t(limits.Depth), C.uint32_t(limits.Nodes)}, nil
+	return &question{r.shared, r.shared.handle, format, formatJSON(format), C.uint32_t(limits.Depth), C.uint32_t(limits.Nodes), nodesOfValue}, nil
 }
 
 // askAbout begins a call that reads bytes. By default it limits the nodes, since few bytes can encode many.

@@ -39,7 +39,7 @@ cd "$room/module"
 unformatted=$(gofmt -l .)
 [ -z "$unformatted" ] || fail "gofmt would change $unformatted"
 go vet ./... || fail "go vet"
-run "go test -race" go test -race -v .
+run "go test -race" env BCS_TEST_RACE=1 go test -race -v .
 ran=$(grep -c '^--- PASS' "$room/log") || fail "go test -race ran no test"
 echo "go: $ran tests, under the race detector"
 

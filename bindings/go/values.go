@@ -166,7 +166,7 @@ func (q *question) textOf(value any) ([]byte, error) {
 	if err != nil {
 		return nil, err
 	}
-	w := &writer{codec: codec, out: make([]byte, 0, 512), nodes: uint32(q.nodes)}
+	w := &writer{codec: codec, out: make([]byte, 0, 512), nodes: q.nodesOfValue}
 	if err := w.dynamic(n, reflect.ValueOf(value), true); err != nil {
 		return nil, err
 	}

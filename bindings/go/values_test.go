@@ -73,6 +73,10 @@ type (
 		Key   string
 		Value uint8
 	}
+	longer struct {
+		Key         string
+		Value, More uint8
+	}
 )
 
 // MarshalText makes `level` a type that isn't just an integer.
@@ -129,6 +133,7 @@ var valuesOfTable = []struct {
 	{[]byte{1, 2, 3, 4}, "BYTES=0401020304 seqU8=0401020304 arr4U8=01020304 seqU16=040100020003000400 seqN=0401020304"},
 	{[4]byte{1, 2, 3, 4}, "BYTES=0401020304 seqU8=0401020304 arr4U8=01020304 seqU16=040100020003000400 seqN=0401020304"},
 	{[]myByte{5}, "BYTES=0105 seqU8=0105 seqU16=010500 seqN=0105"}, {[]int{1, 300}, "seqU16=0201002c01 arr2U16=01002c01"}, {[]int{1, 30}, "BYTES=02011e seqU8=02011e seqU16=020100" + "1e00 arr2U16=01001e00 seqN=02011e"},
+	{[]any{1, "x", 2}, ""}, {[3]any{1, "x", 2}, ""}, {[]longer{{"a", 1, 2}}, ""}, {Variant{"Pair", []byte{1, 2, 3}}, ""},
 	{[]any{1, "x"}, "tup=010178"}, {[]any{1, uint16(2)}, "BYTES=020102 seqU8=020102 seqU16=0201000200 arr2U16=01000200 seqN=020102"},
 	{json.RawMessage("7"), ""}, {ptr(uint8(3)), "optU8=0103 " + number("3")}, {(*uint8)(nil), "optU8=00"}, {Some{4}, "optU8=0104"},
 	{ptr(ptr(true)), "optopt=010101"}, {ptr((*bool)(nil)), "optopt=0100"},
@@ -176,6 +181,31 @@ func TestTableOfValues(t *testing.T) {
 	}
 	if taken < 150 || rejected < 2500 {
 		t.Errorf("only %d cells were taken and %d refused", taken, rejected)
+	}
+}
+
+// Formats may come from strangers, so a registry doesn't remember them all, nor what was made for them.
+func TestRememberedFormats(t *testing.T) {
+	const formats, most = 2500, 1000
+	registry := open(t, "{}")
+	for i := 0; i < formats; i++ {
+		format := fmt.Sprintf(`{"OPTION":{"TUPLEARRAY":{"CONTENT":"BOOL","SIZE":%d}}}`, i+1)
+		if data, err := registry.Encode(format, (*[]bool)(nil)); err != nil || !bytes.Equal(data, []byte{0}) {
+			t.Fatal(data, err)
+		}
+		if err := registry.Unmarshal(format, []byte{0}, new(*[]bool)); err != nil {
+			t.Fatal(err)
+		}
+	}
+	codec := registry.shared.codec
+	if count := len(codec.roots); count == 0 || count > most {
+		t.Error(count, "formats")
+	}
+	// (each format has a converter, and so has what its option holds)
+	for _, count := range []int{len(codec.encoders.made), len(codec.decoders.made)} {
+		if count == 0 || count > 3*most {
+			t.Error(count, "converters")
+		}
 	}
 }
 

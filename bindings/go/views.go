@@ -23,7 +23,9 @@ type Inside struct{ Name, Format string }
 // for it.
 type Call struct{ Name, Function string }
 
-// ExplainWith is Explain with views. Bytes in a byte string that aren't exactly one value are damage, at their place in data.
+// ExplainWith is Explain with views. Bytes in a byte string that aren't exactly one value are damage, at their place in data. So is a list
+// that isn't one of byte strings (BadPath), or whose function isn't the one that is called (OtherFunction); the last line has both names.
+// A line of the text, or in JSON an object before the last one, notes each name that matches nothing, and each function that wasn't compared.
 func (r *Registry) ExplainWith(format string, data []byte, form Form, views Views) (*Explanation, error) {
 	all := views.all()
 	lines, err := linesOfViews(all)
@@ -45,7 +47,7 @@ func (r *Registry) ExplainWith(format string, data []byte, form Form, views View
 }
 
 func (q *question) explainWith(form Form, lines, data []byte, out *C.uint8_t, length C.size_t) C.bcs_answer {
-	return C.bcs_handle_explain_with(q.handle, at(q.format), size(q.format), q.depth, q.nodes, C.uint32_t(form), at(lines),
+	return C.bcs_handle_explain_with(q.handle, at(q.format), size(q.format), q.depth, q.nodes, C.uint32_t(form)+C.BCS_NOTES, at(lines),
 		size(lines), at(data), size(data), out, length)
 }
 

@@ -32,6 +32,20 @@ func TestOrderOfViews(t *testing.T) {
 	}
 }
 
+// The rows of tests/rows/explain_views.rows have more.
+func TestCalls(t *testing.T) {
+	registry := open(t, noted)
+	note := "note: at --call, .x: no list there\n"
+	explained, err := registry.ExplainWith("Note", []byte{0, 0}, FormWays, Views{Calls: []Call{{".x", "f"}}})
+	if err != nil || explained.Damage != nil || !strings.HasSuffix(explained.Text, note) {
+		t.Errorf("%v, %v", explained, err)
+	}
+	explained, err = registry.ExplainWith(`{"SEQ":"U16"}`, []byte{0}, FormWays, Views{Calls: []Call{{".", "f"}}})
+	if err != nil || explained.Damage == nil || explained.Damage.Reason != "BadPath" || explained.Damage.Kind != KindBytes {
+		t.Errorf("%v, %v", explained, err)
+	}
+}
+
 func TestRefusedViews(t *testing.T) {
 	registry := open(t, noted)
 	for _, row := range []struct {

@@ -1,5 +1,5 @@
 /* The host of the proved program on Linux: the functions of README.md that a C library doesn't have under these names. The others
-   (open, read, ..) are the C library's own, whose errors have the right numbers. The heap is bindings/c/heap.c. */
+   are those of tools/link, or (open, close, ..) the C library's own, whose errors have the right numbers. */
 #include <stddef.h>
 
 /* What headers declare: the files of dist/ are compiled without those of a system. */

@@ -1,5 +1,5 @@
 /* The host of the program, which provides the functions that bindings/hosts describes: a part of bcs.c, after the translated
-   code. It is for any system with POSIX.
+   code and bindings/hosts/descriptor.h. It is for any system with POSIX.
 
    The program runs on a thread of its own, whose stack is large enough for all limits on depth. If the code traps, it ends
    with `fault: memory` and the status 4. */
@@ -11,6 +11,10 @@
 #include <sys/stat.h>
 #include <sys/types.h>
 #include <unistd.h>
+#ifdef __linux__
+#include <sys/syscall.h>
+#include <sys/xattr.h>
+#endif
 
 #define STACK ((size_t)64 << 20)
 /* What the system keeps at the ends of a thread's stack. */
@@ -33,8 +37,8 @@ static u32 number_of(int error) {
         int own;
         u32 of_linux;
     } errors[] = {
-        {EPERM, 1},   {ENOENT, 2},  {EINTR, 4},   {EIO, LINUX_EIO}, {EBADF, 9},   {EAGAIN, 11}, {ENOMEM, 12},       {EACCES, 13},
-        {EEXIST, 17},         {ENOTDIR, 20}, {EISDIR, 21}, {EINVAL, 22}, {EMFILE, 24},     {EFBIG, 27},  {ENOSPC, 28}, {ESPIPE, 29},       {EROFS, 30},
+        {EPERM, 1},   {ENOENT, 2},  {EINTR, 4},   {EIO, LINUX_EIO}, {ENXIO, 6}, {EBADF, 9},   {EAGAIN, 11}, {ENOMEM, 12},       {EACCES, 13},
+        {EBUSY, 16}, {EEXIST, 17},         {ENOTDIR, 20}, {EISDIR, 21}, {EINVAL, 22}, {EMFILE, 24},     {EFBIG, 27},  {ENOSPC, 28}, {ESPIPE, 29},       {EROFS, 30},
         {EPIPE, 32},  {ENAMETOOLONG, 36},          {ELOOP, 40},
     };
     for (size_t row = 0; row < sizeof errors / sizeof *errors; row++) {
@@ -110,7 +114,8 @@ static u32 Z_envZ_open(HOST, u64 path, u32 flags, u64 more) {
     u32 mode = 0;
     (void)host;
     memcpy(&mode, bytes_at(more, sizeof mode), sizeof mode);
-    return (u32)told(open(text_at(path), flags_of(flags), (mode_t)mode));
+    const int number = named_descriptor(text_at(path), (int)flags);
+    return (u32)told(number >= 0 ? dup(number) : open(text_at(path), flags_of(flags), (mode_t)mode));
 }
 
 static u32 Z_envZ_close(HOST, u32 file) {
@@ -119,13 +124,25 @@ static u32 Z_envZ_close(HOST, u32 file) {
 }
 
 static u64 Z_envZ_read(HOST, u32 file, u64 place, u64 room) {
+    const size_t most = room < MOST_BYTES ? (size_t)room : MOST_BYTES;
+    void *const bytes = bytes_at(place, room);
+    ssize_t length;
     (void)host;
-    return told(read((int)file, bytes_at(place, room), room < MOST_BYTES ? (size_t)room : MOST_BYTES));
+    do {
+        length = read((int)file, bytes, most);
+    } while (length == -1 && errno == EINTR);
+    return told(length);
 }
 
 static u64 Z_envZ_write(HOST, u32 file, u64 place, u64 length) {
+    const size_t most = length < MOST_BYTES ? (size_t)length : MOST_BYTES;
+    const void *const bytes = bytes_at(place, length);
+    ssize_t written;
     (void)host;
-    return told(write((int)file, bytes_at(place, length), length < MOST_BYTES ? (size_t)length : MOST_BYTES));
+    do {
+        written = write((int)file, bytes, most);
+    } while (written == -1 && errno == EINTR);
+    return told(written);
 }
 
 static u64 Z_envZ_lseek(HOST, u32 file, u64 offset, u32 whence) {
@@ -163,15 +180,66 @@ static u32 mode_of(const struct stat *file) {
 #endif
 }
 
+enum { OF_LINK = 0x100, OF_DESCRIPTOR = 0x1000 };
+
+#ifdef __linux__
+static int is_none(int answer) {
+    return answer == -1 && (errno == ENODATA || errno == EOPNOTSUPP);
+}
+
+/* Whether a file has, or may have, an access control list of this name. */
+static int has_list(const char *list, u32 file, const char *name, u32 flags) {
+    return !is_none((int)((flags & OF_DESCRIPTOR) != 0 ? fgetxattr((int)file, list, NULL, 0)
+                          : (flags & OF_LINK) != 0     ? lgetxattr(name, list, NULL, 0)
+                                                       : getxattr(name, list, NULL, 0)));
+}
+
+/* Android ends a program that makes the call. */
+static int is_mounted(u32 file, const char *name, u32 flags) {
+#if defined(SYS_statx) && !defined(__ANDROID__)
+    enum { ATTRIBUTES = 1, MOUNT_ROOT = 0x2000 };
+    uint64_t found[32];
+    return syscall(SYS_statx, (int)file, name, (int)flags, 0, found) == 0 && (found[ATTRIBUTES] & MOUNT_ROOT) != 0;
+#else
+    (void)file, (void)name, (void)flags;
+    return 0;
+#endif
+}
+#endif
+
+/* Whether replacing a file would lose more than its content: its access control list, or that it is mounted by itself. Only Linux
+   is asked. */
+static int has_more(u32 file, const char *name, u32 flags) {
+#ifdef __linux__
+    return is_mounted(file, name, flags) || has_list("system.posix_acl_access", file, name, flags) ||
+           has_list("system.nfs4_acl", file, name, flags);
+#else
+    (void)file, (void)name, (void)flags;
+    return 0;
+#endif
+}
+
+/* What a file is. The folder of the process belongs to its user, and tells who that is; not each system has one. */
+static int describe(u32 file, const char *name, u32 flags, struct stat *its) {
+    const int answer = (flags & OF_DESCRIPTOR) != 0 ? fstat((int)file, its) : (flags & OF_LINK) != 0 ? lstat(name, its) : stat(name, its);
+    if (answer == 0 || (flags & OF_DESCRIPTOR) != 0 || strcmp(name, "/proc/self") != 0) {
+        return answer;
+    }
+    memset(its, 0, sizeof *its);
+    its->st_mode = S_IFDIR;
+    its->st_uid = geteuid();
+    return 0;
+}
+
 /* Stores what a file is as bindings/hosts/statx.h has it. */
 static u32 Z_envZ_statx(HOST, u32 file, u64 path, u32 flags, u32 mask, u64 found) {
-    enum { OF_LINK = 0x100, OF_DESCRIPTOR = 0x1000 };
     struct stat its;
     (void)host, (void)mask;
     const char *const name = text_at(path);
-    const int answer = (flags & OF_DESCRIPTOR) != 0 ? fstat((int)file, &its) : (flags & OF_LINK) != 0 ? lstat(name, &its) : stat(name, &its);
+    const int answer = describe(file, name, flags, &its);
     if (answer == 0) {
-        put_number(found + 16, (u64)its.st_nlink, 4);
+        const u64 links = (u64)its.st_nlink;
+        put_number(found + 16, S_ISREG(its.st_mode) && links == 1 && has_more(file, name, flags) ? 2 : links, 4);
         put_number(found + 20, (u64)its.st_uid, 4);
         put_number(found + 24, (u64)its.st_gid, 4);
         put_number(found + 28, mode_of(&its), 2);
@@ -187,8 +255,16 @@ static u32 Z_envZ_fsync(HOST, u32 file) {
     return (u32)told(fsync((int)file));
 }
 
+/* On Linux a folder's default access control list is also that of a file created in it. A mode would then allow what that list
+   grants to other users. */
 static u32 Z_envZ_fchmod(HOST, u32 file, u32 mode) {
     (void)host;
+#ifdef __linux__
+    const int removed = fremovexattr((int)file, "system.posix_acl_access");
+    if (removed != 0 && !is_none(removed)) {
+        return (u32)told(-1);
+    }
+#endif
     return (u32)told(fchmod((int)file, (mode_t)mode));
 }
 
@@ -205,6 +281,18 @@ static u32 Z_envZ_rename(HOST, u64 from, u64 to) {
 static u32 Z_envZ_unlink(HOST, u64 path) {
     (void)host;
     return (u32)told(unlink(text_at(path)));
+}
+
+/* Not every system has this call. */
+static u32 Z_envZ_getentropy(HOST, u64 place, u64 length) {
+    void *const bytes = bytes_at(place, length);
+    const int file = open("/dev/urandom", O_RDONLY | O_CLOEXEC);
+    const ssize_t count = file >= 0 ? read(file, bytes, (size_t)length) : -1;
+    (void)host;
+    if (file >= 0) {
+        close(file);
+    }
+    return count == (ssize_t)length ? 0 : (u32)refused(EIO);
 }
 
 /* The program is linked with these and doesn't call them. */
@@ -254,12 +342,35 @@ static void Z_envZ_rattle_set_errno(HOST, u32 error) {
 
 /* ---- The start. */
 
-static int ran_out(void) {
-    static const char words[] = "fault: memory\n";
-    if (write(2, words, sizeof words - 1) == -1) {
+static int fault(const char *words) {
+    if (write(2, words, strlen(words)) == -1) {
         return STATUS_FAULT; /* the standard error is closed */
     }
     return STATUS_FAULT;
+}
+
+static int ran_out(void) {
+    return fault("fault: memory\n");
+}
+
+/* If descriptor 0, 1 or 2 is closed, the next file that is opened gets its number, and what the program prints would be written
+   into that file. So a closed one is filled with something that, like a closed one, can't be used: a folder's name, or a file that
+   is open only for the other direction. */
+#ifdef O_PATH
+#define UNUSABLE "/"
+#define FLAGS(file) O_PATH
+#else
+#define UNUSABLE "/dev/null"
+#define FLAGS(file) ((file) == 0 ? O_WRONLY : O_RDONLY)
+#endif
+
+static int are_streams_open(void) {
+    for (int file = 0; file <= 2; file++) {
+        if (fcntl(file, F_GETFD) == -1 && open(UNUSABLE, FLAGS(file)) != file) {
+            return 0;
+        }
+    }
+    return 1;
 }
 
 static void *run(void *status) {
@@ -282,6 +393,9 @@ int main(int count, char **words) {
     int status = STATUS_FAULT;
     arguments = words;
     count_of_arguments = (u64)count;
+    if (!are_streams_open()) {
+        return fault("fault: open\nin the file " UNUSABLE "\n");
+    }
     if (pthread_attr_init(&attributes) != 0 || pthread_attr_setstacksize(&attributes, STACK) != 0 ||
         pthread_create(&thread, &attributes, run, &status) != 0 || pthread_join(thread, NULL) != 0) {
         return ran_out();

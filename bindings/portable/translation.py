@@ -108,7 +108,8 @@ def program(module: pathlib.Path, licence: str) -> str:
     """bcs.c, from bcs_program.wasm."""
     title = "bcs: canonical bytes (BCS) by a registry of formats, proved: the program, in one file."
     features = "#define _GNU_SOURCE\n#define _DARWIN_C_SOURCE\n#define _FILE_OFFSET_BITS 64\n"
-    parts = [own(HERE / "runtime.h"), translated(module), own(HERE / "program.c")]
+    descriptor = own(HERE.parent / "hosts/descriptor.h")
+    parts = [own(HERE / "runtime.h"), translated(module), descriptor, own(HERE / "program.c")]
     return "\n".join([notice(title, licence), features, *parts])
 
 

@@ -72,8 +72,8 @@ write_pieces(const Question *question, uint8_t *out, size_t room)
 static bcs_answer
 write_pieces_with(const Question *question, uint8_t *out, size_t room)
 {
-	return unless_capped(question, bcs_handle_explain_with(ASK(&question->ask), question->form, PIECE(question->views),
-														   PIECE(question->input), out, room));
+	return unless_capped(question, bcs_handle_explain_with(ASK(&question->ask), question->form + BCS_NOTES,
+														   PIECE(question->views), PIECE(question->input), out, room));
 }
 
 /* The longest answer: a value of the server, with a zero behind it. */

@@ -1,6 +1,6 @@
 #!/bin/sh
 # Tests the crate, without a network: its lints, its tests with and without serde_json, its documentation, its programs,
-# and the rows of crates/test_calls. BCS_LIB names the folder with libbcs.a, and BCS_PREFIX, if it is set, the prefix
+# and the rows of crates/test_codec. BCS_LIB names the folder with libbcs.a, and BCS_PREFIX, if it is set, the prefix
 # under which the library is installed.
 set -eu
 unset CDPATH

@@ -21,7 +21,7 @@ static bcs_answer write_normal(const struct question *question, uint8_t *out, si
 }
 
 static bcs_answer write_pieces_with(const struct question *question, uint8_t *out, size_t room) {
-    return bcs_handle_explain_with(ASK(&question->ask), question->form, PIECE(question->views), PIECE(question->input), out, room);
+    return bcs_handle_explain_with(ASK(&question->ask), question->form + BCS_NOTES, PIECE(question->views), PIECE(question->input), out, room);
 }
 
 static bcs_answer write_pieces(const struct question *question, uint8_t *out, size_t room) {

@@ -1,6 +1,6 @@
 #!/bin/sh
 # Tests what bindings/web/build.sh made in the folder that BCS_WEB names; without it, that is made first. Tested are both
-# modules: the loader, values of all types, calls within calls, the heap, and the rows of crates/test_calls; the module with
+# modules: the loader, values of all types, calls within calls, the heap, and the rows of crates/test_codec; the module with
 # 32-bit memory also beside the library of C, and the page in headless Chromium. The program runs in Node: all rows of
 # tests/rows/bcs.rows, files and streams, beside the native program (BCS_PROGRAM, or crates/bcs/out/bcs) if it is built.
 # BCS_PREFIX is where bindings/c/build.sh installed the library of C; without it, bindings/c/out. Missing packages of Debian's
@@ -78,12 +78,14 @@ for name in loader values reentry heap examples parts; do
     tested "$name" bcs.wasm node --expose-gc
 done
 
-python3 "$here/../../tests/rows" web node "$here/tests/driver.mjs" "$web/bcs.wasm" || fail "rows of crates/test_calls"
+python3 "$here/../../tests/rows" web node "$here/tests/driver.mjs" "$web/bcs.wasm" || fail "rows of crates/test_codec"
 "$here/tests/rows_of_program.py" "$web" || fail "rows of the program"
 "$here/tests/command.py" "$web" || fail "the program with files and links"
+"$here/../../tests/output_files.py" --host node "$web/bcs.mjs" || fail "the program with -o"
 program=$(realpath -m "${BCS_PROGRAM:-$here/../../crates/bcs/out/bcs}")
 [ -x "$program" ] || program=
 python3 "$here/tests/streams.py" "$web" ${program:+"$program"} || fail "the program with streams"
+"$here/../../tests/host_streams.py" node "$web/bcs.mjs" || fail "the program with closed descriptors and interrupted calls"
 "$here/tests/start.py" "$web" || fail "the start of the program"
 
 [ -e "$prefix/lib/libbcs.a" ] || fail "no library of C in $prefix, to compare with: bindings/c/build.sh makes it"
@@ -96,7 +98,7 @@ for name in loader values reentry heap examples; do
     tested "$name" bcs64.wasm node ${wide:+"$wide"}
 done
 python3 "$here/../../tests/rows" --without changes web64 \
-    node ${wide:+"$wide"} "$here/tests/driver.mjs" "$web/bcs64.wasm" || fail "rows of crates/test_calls on bcs64.wasm"
+    node ${wide:+"$wide"} "$here/tests/driver.mjs" "$web/bcs64.wasm" || fail "rows of crates/test_codec on bcs64.wasm"
 
 export BCS_WEB="$web"
 tested loading bcs.wasm node

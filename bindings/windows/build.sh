@@ -75,7 +75,7 @@ link() {
     local out="$1"
     shift
     "$room/tools/lld-link" /nologo /machine:x64 /nodefaultlib /Brepro /opt:ref /opt:icf /debug:none /WX "/out:$out" "$@" \
-        "$room/heap_words.o" "$room/heap.o" "$room/stack_probe.o" "$room/kernel32.lib" "$room/msvcrt.lib"
+        "$room/heap_words.o" "$room/heap.o" "$room/stack_probe.o" "$room/advapi32.lib" "$room/kernel32.lib" "$room/msvcrt.lib"
 }
 
 if [ -z "$code" ]; then
@@ -90,7 +90,7 @@ compile_code "$code" "$room/library_code.o"
 compile_code "$program_code" "$room/program_code.o"
 clang -c -O2 -x ir "$here/heap_words.ll" -o "$room/heap_words.o"
 compile_c "$here/host.c" "$here/stack_probe.c" "$root/bindings/c/library.c" "$root/bindings/c/heap.c"
-for name in kernel32 msvcrt; do
+for name in advapi32 kernel32 msvcrt; do
     "$room/tools/llvm-dlltool" -m i386:x86-64 -d "$here/imports/$name.def" -l "$room/$name.lib"
 done
 

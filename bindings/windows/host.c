@@ -1,13 +1,14 @@
 /* The functions that docs/PLATFORMS.md lists, on Windows, and where bcs.exe begins. They are made of the functions of
    KERNEL32.dll and msvcrt.dll that imports/ lists. */
 #include "windows.h"
+#include "../hosts/descriptor.h"
 #include "../hosts/statx.h"
 #include <stdbool.h>
 
 /* ---- Errors. */
 
 /* The numbers that the program knows. They are Linux's. */
-enum { ENOENT = 2, EINTR = 4, EIO = 5, EBADF = 9, EAGAIN = 11, ENOMEM = 12, EACCES = 13, EEXIST = 17, ENOTDIR = 20, EINVAL = 22, EMFILE = 24,
+enum { EPERM = 1, ENOENT = 2, EINTR = 4, EIO = 5, EBADF = 9, EAGAIN = 11, ENOMEM = 12, EACCES = 13, EEXIST = 17, ENOTDIR = 20, EINVAL = 22, EMFILE = 24,
        ENOSPC = 28, ESPIPE = 29, EROFS = 30, EPIPE = 32, ENAMETOOLONG = 36, ELOOP = 40 };
 
 static const struct {
@@ -262,9 +263,22 @@ int64_t readlink(const char *path, char *buffer, uint64_t room) {
 
 /* ---- Files. */
 
+/* The standard streams. NULL is one that is missing. */
+static handle streams[3];
+
+/* A process may begin with the number of a handle that isn't open. The next file that is opened may get it, and what the program
+   prints would be written into that file. */
+static void find_streams(void) {
+    for (uint32_t file = 0; file < 3; file++) {
+        const handle stream = GetStdHandle(STANDARD_INPUT - file);
+        SetLastError(0);
+        streams[file] = GetFileType(stream) != UNKNOWN || GetLastError() == 0 ? stream : NULL;
+    }
+}
+
 /* A descriptor is the number of a handle: these fit into 32 bits and are multiples of 4, so 0, 1 and 2 are no handles. */
 static handle handle_of(int32_t file) {
-    return file >= 0 && file <= 2 ? GetStdHandle(STANDARD_INPUT - (uint32_t)file) : (handle)(intptr_t)file;
+    return file >= 0 && file <= 2 ? streams[file] : (handle)(intptr_t)file;
 }
 
 /* A path that is longer than the system's calls accept has to be whole, and to begin with \\?\ or \\?\UNC\. */
@@ -309,6 +323,10 @@ static uint32_t disposition(int32_t flags) {
 int32_t open(const char *path, int32_t flags, ...) {
     enum { WRITES_ONLY = 1 /* on Linux */ };
     const bool writes = (flags & WRITES_ONLY) != 0;
+    const int32_t named = named_descriptor(path, flags);
+    if (named >= 0) {
+        return named <= 2 ? named : fails(EBADF);
+    }
     unit *const name = path_of(path);
     if (name == NULL) {
         return fails(ENOMEM);
@@ -325,8 +343,10 @@ int32_t open(const char *path, int32_t flags, ...) {
     return error == 0 ? descriptor : -1;
 }
 
+/* The standard streams stay open: `open` returns them under their own numbers. */
 int32_t close(int32_t file) {
-    return CloseHandle(handle_of(file)) != 0 ? 0 : system_fails();
+    const bool is_standard = file >= 0 && file <= 2;
+    return is_standard || CloseHandle(handle_of(file)) != 0 ? 0 : system_fails();
 }
 
 static uint32_t at_most(uint64_t length) {
@@ -334,8 +354,7 @@ static uint32_t at_most(uint64_t length) {
 }
 
 /* Somebody may write no bytes into a pipe, which isn't its end. */
-int64_t read(int32_t file, char *buffer, uint64_t room) {
-    const handle from = handle_of(file);
+static int64_t read_once(handle from, char *buffer, uint64_t room) {
     uint32_t length = 0;
     if (is_console(from)) {
         return read_console(from, buffer, room);
@@ -349,8 +368,7 @@ int64_t read(int32_t file, char *buffer, uint64_t room) {
     return length;
 }
 
-int64_t write(int32_t file, const char *bytes, uint64_t length) {
-    const handle to = handle_of(file);
+static int64_t write_once(handle to, const char *bytes, uint64_t length) {
     uint32_t written = 0;
     if (is_console(to)) {
         return write_console(to, bytes, length);
@@ -359,6 +377,22 @@ int64_t write(int32_t file, const char *bytes, uint64_t length) {
         return system_fails();
     }
     return written > 0 || length == 0 ? (int64_t)written : fails(EAGAIN);
+}
+
+int64_t read(int32_t file, char *buffer, uint64_t room) {
+    int64_t length;
+    do {
+        length = read_once(handle_of(file), buffer, room);
+    } while (length < 0 && last_error == EINTR);
+    return length;
+}
+
+int64_t write(int32_t file, const char *bytes, uint64_t length) {
+    int64_t written;
+    do {
+        written = write_once(handle_of(file), bytes, length);
+    } while (written < 0 && last_error == EINTR);
+    return written;
 }
 
 /* (Linux and Windows number the three ways to move alike.) */
@@ -377,7 +411,24 @@ static bool names_device(const char *path) {
     return begins && path[2] == '.' && (path[3] == '\\' || path[3] == '/');
 }
 
-/* Stores what an open file is, with Linux's numbers. Only a disk has files with more than a kind. */
+/* A number that files share if they have the same owner and list of rights, or 0 if these aren't known. */
+static uint32_t number_of_rights(handle file) {
+    enum { OWNER_AND_LIST = 5 };
+    static const uint32_t start = 2166136261, factor = 16777619; /* of the hash FNV-1a */
+    uint32_t length = 0;
+    GetKernelObjectSecurity(file, OWNER_AND_LIST, NULL, 0, &length);
+    uint8_t *const rights = malloc(length);
+    const bool is_known = rights != NULL && GetKernelObjectSecurity(file, OWNER_AND_LIST, rights, length, &length) != 0;
+    uint32_t number = is_known ? start : 0;
+    for (uint32_t at = 0; is_known && at < length; at++) {
+        number = (number ^ rights[at]) * factor;
+    }
+    free(rights);
+    return number;
+}
+
+/* Stores what an open file is, with Linux's numbers. Its rights are in place of a group. If they aren't known, it may not be
+   replaced, like one with a second name. Only a disk has files with more than a kind. */
 static int32_t describe(handle file, struct statx *found) {
     enum { DEVICE = 0020000, FOLDER = 0040000, FILE = 0100000, LINK = 0120000, WRITABLE = 0222, READABLE = 0444 };
     struct information its;
@@ -391,7 +442,8 @@ static int32_t describe(handle file, struct statx *found) {
     }
     const uint32_t kind = (its.attributes & IS_LINK) != 0 ? LINK : (its.attributes & IS_FOLDER) != 0 ? FOLDER : FILE;
     found->mode = (uint16_t)(kind | READABLE | ((its.attributes & IS_READ_ONLY) != 0 ? 0 : WRITABLE));
-    found->links = its.links;
+    found->group = number_of_rights(file);
+    found->links = its.links + (found->group == 0);
     found->length = (uint64_t)its.length_high << 32 | its.length_low;
     found->number = (uint64_t)its.index_high << 32 | its.index_low;
     found->of_device_minor = its.volume;
@@ -409,7 +461,8 @@ int32_t statx(int32_t file, const char *path, int32_t flags, uint32_t mask, stru
         return fails(ENOMEM);
     }
     const uint32_t link = (flags & OF_LINK) != 0 ? LINK_ITSELF : 0;
-    const handle opened = CreateFileW(name, 0, SHARED_WITH_ALL, NULL, EXISTING, EVEN_FOLDERS | IDENTIFY_ONLY | link, NULL);
+    const uint32_t how = EVEN_FOLDERS | IDENTIFY_ONLY | link;
+    const handle opened = CreateFileW(name, READING_RIGHTS, SHARED_WITH_ALL, NULL, EXISTING, how, NULL);
     const int32_t answer = opened == NO_FILE ? system_fails() : describe(opened, found);
     free(name);
     if (opened != NO_FILE) {
@@ -422,7 +475,9 @@ int32_t fsync(int32_t file) {
     return FlushFileBuffers(handle_of(file)) != 0 ? 0 : system_fails();
 }
 
-/* A new file has the rights that its folder gives, so nothing has to change. */
+/* A new file has the rights that its folder gives. If they are those of FILE, nothing has to change. Otherwise the program calls
+   `fchown`, and writes FILE directly, since that fails. (ReplaceFileW keeps FILE's rights, but can't open a file that is open here,
+   and may leave no file of FILE's name.) */
 int32_t fchmod(int32_t file, uint32_t mode) {
     (void)file, (void)mode;
     return 0;
@@ -430,7 +485,7 @@ int32_t fchmod(int32_t file, uint32_t mode) {
 
 int32_t fchown(int32_t file, uint32_t owner, uint32_t group) {
     (void)file, (void)owner, (void)group;
-    return 0;
+    return fails(EPERM);
 }
 
 int32_t rename(const char *from, const char *to) {
@@ -447,6 +502,16 @@ int32_t unlink(const char *path) {
     const int32_t answer = name == NULL ? fails(ENOMEM) : DeleteFileW(name) != 0 ? 0 : system_fails();
     free(name);
     return answer;
+}
+
+int32_t getentropy(uint8_t *bytes, uint64_t length) {
+    for (unsigned number; length > 0; length--) {
+        if (rand_s(&number) != 0) {
+            return fails(EIO);
+        }
+        *bytes++ = (uint8_t)number;
+    }
+    return 0;
 }
 
 /* The program is linked with these and doesn't call them. */
@@ -480,6 +545,7 @@ int32_t module_main(void);
 void start(void) {
     static const char fault[] = "fault: memory\n";
     SetErrorMode(NO_QUESTIONS);
+    find_streams();
     if (!take_arguments()) {
         write(2, fault, sizeof fault - 1);
         ExitProcess(4);

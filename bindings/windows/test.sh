@@ -80,6 +80,12 @@ compile() {
     x86_64-w64-mingw32-gcc -std=gnu11 -O2 -Wall -Wextra -Werror -D__USE_MINGW_ANSI_STDIO=1 -I"$here/tests/posix" \
         -I"$root/bindings/c/include" "$source" "$@" "$folder/bcs.lib" -o "$room/$name.exe"
 }
+interrupted_calls() {
+    x86_64-w64-mingw32-gcc -std=gnu11 -O2 -Wall -Wextra -Werror -ffreestanding -nostdinc -isystem "$root/tools/link/include" \
+        "$here/tests/interrupted.c" -o "$room/interrupted.exe" && "$wine" "$room/interrupted.exe" \
+        && echo "repeated, on files and consoles"
+}
+part "interrupted calls" interrupted_calls
 compile starts "$here/tests/starts.c" -municode
 part_with_starts "what programs of Windows can do to it" "$wine" "$room/starts.exe" "$folder/bcs.exe"
 

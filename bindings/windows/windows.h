@@ -25,6 +25,8 @@ enum {
     EVEN_FOLDERS = 0x02000000,   /* FILE_FLAG_BACKUP_SEMANTICS */
     LINK_ITSELF = 0x00200000,    /* FILE_FLAG_OPEN_REPARSE_POINT */
     IDENTIFY_ONLY = 0x00110000,  /* SECURITY_SQOS_PRESENT, SECURITY_IDENTIFICATION */
+    READING_RIGHTS = 0x00020000, /* READ_CONTROL */
+    UNKNOWN = 0,                 /* FILE_TYPE_UNKNOWN */
     DISK = 1,                    /* FILE_TYPE_DISK */
     IS_READ_ONLY = 0x1,          /* FILE_ATTRIBUTE_READONLY */
     IS_FOLDER = 0x10,            /* FILE_ATTRIBUTE_DIRECTORY */
@@ -74,11 +76,15 @@ int WideCharToMultiByte(uint32_t page, uint32_t flags, const unit *units, int le
 int WriteConsoleW(handle console, const unit *units, uint32_t length, uint32_t *written, void *nothing);
 int WriteFile(handle file, const char *bytes, uint32_t length, uint32_t *written, void *overlapped);
 
+/* ADVAPI32.dll */
+int GetKernelObjectSecurity(handle file, uint32_t asked, void *rights, uint32_t room, uint32_t *length);
+
 /* msvcrt.dll. <stdlib.h> declares its heap. */
 int __wgetmainargs(int *count, unit ***words, unit ***environment, int wildcards, int *options);
 int memcmp(const void *first, const void *second, size_t length);
 void *memcpy(void *to, const void *from, size_t length);
 void *memmove(void *to, const void *from, size_t length);
 void *memset(void *to, int byte, size_t length);
+int rand_s(unsigned *number);
 
 #endif

@@ -1,9 +1,9 @@
-"""Asks a driver the rows of crates/test_calls and of the tables and modules in this folder, and checks its answers.
+"""Asks a driver the rows of crates/test_codec, crates/test_jobs and this folder, and checks its answers.
 
     python3 tests/rows [--without KIND]... NAME DRIVER [WORD]...
 
 A driver is a program that makes the calls of one language. driver.py says which lines it reads and writes.
-NAME is its name in the table `floors`, which has the number of rows that it must answer. crates/test_calls/README.md
+NAME is its name in the table `floors`, which has the number of rows that it must answer. crates/test_codec/README.md
 and the comments at the top of tests/rows/bcs.rows say what a row means. Rows that no call can express are counted by
 kind.
 """
@@ -25,7 +25,7 @@ from pieces import pieces_of
 from places import has_place, place_told_row, rows_of_names
 from tests import ROOT, Tally, rows_of_tests
 from values import encode_row
-from views import views_row
+from views import told_of, views_row
 
 FLOORS = pathlib.Path(__file__).resolve().parent / "floors"
 
@@ -78,7 +78,7 @@ def ask_hostile_names(driver: Driver, tally: Tally) -> None:
 
 def ask_views(driver: Driver, tally: Tally) -> None:
     for row in rows_of_views(ROOT):
-        tally.judge("views", row.name, partial(views_row, driver, row), row.wanted)
+        tally.judge("views", row.name, partial(views_row, driver, row), told_of(row))
 
 
 def ask_contents(driver: Driver, tally: Tally) -> None:

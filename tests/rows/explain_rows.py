@@ -18,7 +18,8 @@ OPTIONS = re.compile(r"^(?:--\S+ (?:\d+ )?)*")
 
 
 class ExplainRow(NamedTuple):
-    """Bytes as digits, and the lines that are printed for them, as `joined` returns them."""
+    """Bytes as digits, and the lines that are printed for them, as `joined` returns them. `error` is the line on
+    standard error, if a table has it."""
 
     name: str
     registry: bytes
@@ -26,6 +27,7 @@ class ExplainRow(NamedTuple):
     format: str
     digits: str
     wanted: str
+    error: str = ""
 
 
 def rows_of_table(root: pathlib.Path) -> Iterator[ExplainRow]:
@@ -44,9 +46,9 @@ def rows_of_views(root: pathlib.Path) -> Iterator[ExplainRow]:
     registry = (root / "tests/rows/explain_views.json").read_bytes()
     for row in (root / "tests/rows/explain_views.rows").read_text(encoding="utf-8").split("\n"):
         if row and not row.startswith("#"):
-            words, format, digits, wanted = f" {row}".split(" | ", 3)
+            words, format, digits, wanted, *error = f" {row}".split(" | ")
             options = [word for option in words.strip().split("  ") if option for word in option.split(" ", 1)]
-            yield ExplainRow(row, registry, options, format, digits, wanted.strip(" "))
+            yield ExplainRow(row, registry, options, format, digits, wanted.strip(" "), *error)
 
 
 def rows_of_examples(root: pathlib.Path) -> Iterator[ExplainRow]:

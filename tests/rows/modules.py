@@ -30,6 +30,7 @@ from move_modules import (  # noqa: E402
     RANDOM_TYPES,
     REFUSED,
     SUI,
+    WITHOUT_ABI,
     swapped,
 )
 
@@ -70,6 +71,7 @@ MADE = [
     Made([], [], {}, []),
     *(Made(modules, list(STANDARD), STANDARD, []) for modules in (APTOS, SUI, [])),
     Made(FINE, ["0x1::m::S"], {"0x1::m::S": {"STRUCT": [{"a": "U8"}]}}, []),
+    Made([WITHOUT_ABI, FINE], ["0x1::m::S"], {"0x1::m::S": {"STRUCT": [{"a": "U8"}]}}, []),
     Made(
         SUI,
         ["0xcafe::shapes::Shape<u16>"],

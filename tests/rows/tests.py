@@ -23,7 +23,7 @@ class Row(NamedTuple):
 
 def rows_of_tests() -> Iterator[Row]:
     registry = b"{}"
-    for file in ("crates/test_calls/stdout", "tests/rows/bcs.rows"):
+    for file in ("crates/test_codec/stdout", "crates/test_jobs/stdout", "tests/rows/bcs.rows"):
         lines = (ROOT / file).read_text(encoding="utf-8").split("\n")
         for number, line in enumerate(lines, start=1):
             row, arrow, wanted = line.partition(" -> ")

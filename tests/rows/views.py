@@ -1,5 +1,8 @@
 """Pieces inside of byte strings, and values of Move: the rows of explain_views.rows through the call with views."""
 
+import json
+import re
+
 from driver import Driver, Question, Refused, expect
 from explain_rows import ExplainRow, joined
 from jobs import FORMS, explained, refusal
@@ -13,6 +16,27 @@ def lines_of(options: list[str]) -> str:
     """The views of a row's options, a line for each."""
     named = zip(options, options[1:])
     return "\n".join(f"{option.removeprefix('--')} {view}" for option, view in named if option in VIEWS)
+
+
+NOTE = re.compile(r"at --\w+, (.*): (no.*)")
+
+
+def told_of(row: ExplainRow) -> str:
+    """What a call returns for a row. Notes, which the program prints on standard error, are in its text: as lines at
+    the end, or in JSON as objects before the last one."""
+    if "refused:" in row.wanted or '"refused":' in row.wanted or not row.error:
+        return row.wanted
+    notes = row.error.split("; ")
+    if "--json" not in row.options:
+        return " / ".join([row.wanted, *(f"note: {note}" for note in notes)])
+    *lines, end = row.wanted.split(" / ")
+    return " / ".join([*lines, *map(object_of, notes), end])
+
+
+def object_of(note: str) -> str:
+    told = NOTE.fullmatch(note)
+    assert told, note
+    return json.dumps({"name": told[1], "note": told[2]}, separators=(",", ":"))
 
 
 def views_row(driver: Driver, row: ExplainRow) -> str:

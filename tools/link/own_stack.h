@@ -1,7 +1,7 @@
 /* The program's own stack, for the two starts. The greatest limits on depth need up to 16 MiB, and a system may give a program
    less: `ulimit -s`. So the program reserves a stack, of which it only touches what it uses, with a guard before its end: the
    proved code touches its stack page by page. If the stack can't be reserved, that is `fault: memory`. */
-#include <stddef.h>
+#include "standard_streams.h"
 #include <sys/mman.h>
 
 #define STACK ((size_t)16 << 20)
@@ -39,9 +39,13 @@ __attribute__((naked)) static int main_on(char *top, int count, char **words) {
 }
 
 static int main_on_own_stack(int count, char **words, char **environment) {
-    static const char fault[] = "fault: memory\n";
+    static const char fault[] = "fault: memory\n", no_streams[] = "fault: open\nin the file /\n";
     char *const stack = mmap(NULL, GUARD + STACK, PROT_NONE, MAP_PRIVATE | MAP_ANONYMOUS | MAP_NORESERVE, -1, 0);
     (void)environment;
+    if (!are_streams_open()) {
+        (void)write(STANDARD_ERROR, no_streams, sizeof no_streams - 1);
+        return STATUS_FAULT;
+    }
     if (stack == MAP_FAILED || mprotect(stack + GUARD, STACK, PROT_READ | PROT_WRITE) != 0) {
         (void)write(STANDARD_ERROR, fault, sizeof fault - 1);
         return STATUS_FAULT;

@@ -1,7 +1,8 @@
 #!/bin/sh
 # tools/packaging/completions.sh SHELL PROGRAM: prints the program's completions for bash, zsh or fish. Commands, options and
 # their arguments come from the program's own help. The program itself reports what depends on the registry on the line: `bcs
-# show` lists containers and the variants of an enum, and `bcs explain` the names of the parts of FILE. The completions ask the
+# show` lists containers and the variants of an enum, and `bcs explain` the names of the parts of FILE. Of the containers, those
+# are offered whose names have only characters of names in Rust and of types in Move. The completions ask the
 # program that is installed beside them (../../../bin/bcs from their file), and never one that the line or PATH happens to name.
 # shellcheck disable=SC2016 # these are programs in awk, bash, zsh and fish, in which $ has a meaning of its own
 set -eu
@@ -16,10 +17,11 @@ fail() {
 # What all three need from a line of the help's table.
 read_help='
     BEGIN {
-        split("REG OLD NEW FILE A B", files, " ")
+        split("REG OLD NEW FILE A B MODULES", files, " ")
         for (at in files) stands_for["" files[at]] = "file"
         stands_for["FORMAT"] = stands_for["NAME"] = "container"
         stands_for["PATH"] = "path"
+        stands_for["TYPE"] = "type"
         values["variant"] = "variants"; values["name"] = "parts"; values["output"] = "files"
         values["color"] = "always auto never"; values["refusals"] = "json"
         needs_equals["color"] = 1
@@ -37,6 +39,7 @@ read_help='
         kind = stands_for[word]
         if (kind == "") { print "tools/packaging/completions.sh: unknown argument in the help: " $3 >"/dev/stderr"; failed = 1; exit 1 }
         place = ++words[$2]
+        is_repeated = $3 ~ /\.\.\.$/
     }
     $1 == "option" {
         has_value = sub(/ <.*/, "", $3)
@@ -47,23 +50,28 @@ read_help='
 bash_completions='
     $1 == "argument" { kinds[$2] = kinds[$2] " " kind }
     $1 == "option" { options[$2] = options[$2] (short == "" ? " " : " -" short " ") "--" $3 }
-    has_value && !seen[$3]++ { valued = valued (valued == "" ? "" : " | ") (short == "" ? "" : "-" short " | ") "--" $3 }
+    has_value && !($3 in needs_equals) && !seen[$3]++ { valued = valued (valued == "" ? "" : " | ") (short == "" ? "" : "-" short " | ") "--" $3 }
     { has_value = 0 }
     END {
         if (failed) exit 1
         print "_bcs() {"
-        print "    local word=${COMP_WORDS[COMP_CWORD]} words=() coding=() kinds=() option= options=\047" substr(options[""], 2) "\047 at"
+        print "    local line=() words=() coding=() kinds=() word option= options=\047" substr(options[""], 2) "\047 at"
         print "    COMPREPLY=()"
-        print "    for ((at = 1; at < COMP_CWORD; at++)); do"
-        print "        case ${COMP_WORDS[at]} in"
-        print "            " valued ") option=${COMP_WORDS[at]} && _bcs_skip_value ;;"
-        print "            --raw | --base64) coding+=(\"${COMP_WORDS[at]}\") ;;"
+        print "    _bcs_read_line"
+        print "    word=${line[-1]}"
+        print "    for ((at = 1; at < ${#line[@]} - 1; at++)); do"
+        print "        case ${line[at]} in"
+        print "            " valued ") option=${line[at]} at=$((at + 1)) ;;"
+        print "            --raw | --base64) coding+=(\"${line[at]}\") ;;"
         print "            -*) ;;"
-        print "            *) words+=(\"${COMP_WORDS[at]}\") ;;"
+        print "            *) words+=(\"${line[at]}\") ;;"
         print "        esac"
         print "    done"
-        print "    if [ \"$at\" != \"$COMP_CWORD\" ]; then"
-        print "        _bcs_complete_value \"$option\""
+        print "    if [ \"$at\" = ${#line[@]} ]; then"
+        print "        _bcs_complete_value \"$option\" \"$word\""
+        print "        return 0"
+        print "    elif [[ $word == --*=* ]]; then"
+        print "        _bcs_complete_value \"${word%%=*}\" \"${word#*=}\""
         print "        return 0"
         print "    fi"
         print "    case ${words[0]} in"
@@ -78,7 +86,7 @@ bash_completions='
         print "    elif [ ${#words[@]} = 0 ]; then"
         print "        mapfile -t COMPREPLY < <(compgen -W \047" commands "\047 -- \"$word\")"
         print "    elif [ \"${kinds[${#words[@]} - 1]}\" = container ]; then"
-        print "        mapfile -t COMPREPLY < <(compgen -W \"$(_bcs_containers \"${words[1]}\")\" -- \"$word\")"
+        print "        _bcs_offer \"$word\" < <(_bcs_containers \"${words[1]}\")"
         print "    elif [ \"${kinds[${#words[@]} - 1]}\" = file ]; then"
         print "        compopt -o default"
         print "    fi"
@@ -89,36 +97,62 @@ bash_containers='
 _bcs_program=$(readlink -f -- "${BASH_SOURCE[0]}")
 _bcs_program=${_bcs_program%/share/bash-completion/completions/*}/bin/bcs
 
-# _bcs_file WORD: the word as it is on the line, without its quotes, which xargs takes away.
-_bcs_file() {
+# Sets `line` to the words up to the cursor. COMP_WORDS has them in pieces, since bash splits words at = : < and >, too.
+_bcs_read_line() {
+    local rest=$COMP_LINE piece
+    for piece in "${COMP_WORDS[@]:0:COMP_CWORD + 1}"; do
+        if [[ ${#line[@]} = 0 || $rest == [[:space:]]* ]]; then line+=(""); fi
+        rest=${rest#"${rest%%[![:space:]]*}"}
+        rest=${rest#"$piece"}
+        line[-1]+=$piece
+    done
+}
+
+# _bcs_plain WORD: the word as it is on the line, without its quotes, which xargs takes away.
+_bcs_plain() {
     xargs printf %s 2>/dev/null <<<"${1/#\~\//$HOME/}"
+}
+
+# _bcs_offer TYPED: reads names, and offers those that begin like what is typed, quoted like it. Each is offered from where
+# readline inserts it: behind the quote, or behind the last colon.
+_bcs_offer() {
+    local quote="" kept name
+    if [[ $1 == ["\"'"'"'"]* ]]; then quote=${1:0:1}; fi
+    kept=$quote
+    if [[ ! $quote && $COMP_WORDBREAKS == *:* ]]; then kept=${1%"${1##*:}"}; fi
+    while IFS= read -r name; do
+        if [ ! "$quote" ]; then printf -v name %q "$name"; fi
+        if [[ $quote$name == "$1"* ]]; then name=$quote$name && COMPREPLY+=("${name#"$kept"}"); fi
+    done
 }
 
 # _bcs_show REGISTRY: prints what the registry has, if it is one.
 _bcs_show() {
     local registry lines
-    registry=$(_bcs_file "$1")
+    registry=$(_bcs_plain "$1")
     [[ $registry == "{"* || -f $registry ]] || return 0
     lines=$("$_bcs_program" show --quiet -- "$registry" 2>/dev/null </dev/null) || return 0
     printf "%s\n" "$lines"
 }
 
 _bcs_containers() {
-    _bcs_show "$1" | sed -n "s/^\([A-Za-z_][A-Za-z_0-9]*\): .*/\1/p"
+    _bcs_show "$1" | sed -n "s/^\([A-Za-z_][A-Za-z_0-9]*\): .*/\1/p; s/^\"\([A-Za-z_0-9][A-Za-z_0-9:<>, ]*\)\": .*/\1/p"
 }
 
 # _bcs_variants REGISTRY FORMAT
 _bcs_variants() {
-    [[ $2 =~ ^[A-Za-z_][A-Za-z_0-9]*$ ]] || return 0
-    _bcs_show "$1" | sed -n "/^$2: ENUM/,/^[^ ]/s/^  [0-9]* \"\{0,1\}\([A-Za-z_][A-Za-z_0-9]*\).*/\1/p"
+    local name
+    name=$(_bcs_plain "$2")
+    [[ $name && $name != *[!A-Za-z_0-9:\<\>,\ ]* ]] || return 0
+    _bcs_show "$1" | sed -n "/^\"\{0,1\}$name\"\{0,1\}: ENUM/,/^[^ ]/s/^  [0-9]* \"\{0,1\}\([A-Za-z_][A-Za-z_0-9]*\).*/\1/p"
 }
 
 # _bcs_parts REGISTRY FORMAT FILE [--raw] [--base64]
 _bcs_parts() {
-    local registry file lines
-    registry=$(_bcs_file "$1") file=$(_bcs_file "$3")
+    local registry format file lines
+    registry=$(_bcs_plain "$1") format=$(_bcs_plain "$2") file=$(_bcs_plain "$3")
     [[ ($registry == "{"* || -f $registry) && -f $file ]] || return 0
-    lines=$("$_bcs_program" explain --quiet "${@:4}" -- "$registry" "$2" "$file" 2>/dev/null </dev/null) || return 0
+    lines=$("$_bcs_program" explain --quiet "${@:4}" -- "$registry" "$format" "$file" 2>/dev/null </dev/null) || return 0
     printf "%s\n" "$lines" | sed -n "s/^.* \([].:?[][]A-Za-z_0-9.:?[]*\)$/\1/p"
 }
 
@@ -127,20 +161,9 @@ _bcs_is_named() {
     [[ " ${COMP_WORDS[*]} " == *" --"@(name|pointer)[\ =]* ]]
 }
 
-# Moves `at` to the end of an option'"'"'s value. Bash splits words at = and :, so a value can be several words.
-_bcs_skip_value() {
-    if [ "$option" = --color ] && [ "${COMP_WORDS[at + 1]}" != "=" ]; then return 0; fi
-    at=$((at + 1))
-    if [ "${COMP_WORDS[at]}" = "=" ]; then at=$((at + 1)); fi
-    while [ "$at" -lt "$COMP_CWORD" ] && [[ ${COMP_WORDS[at]} == *: || ${COMP_WORDS[at + 1]} == :* ]]; do at=$((at + 1)); done
-}
-
-# _bcs_complete_value OPTION: offers values that begin like the one before the cursor, each from its last colon on.
+# _bcs_complete_value OPTION TYPED: offers values that begin like what is typed, each from its last colon on.
 _bcs_complete_value() {
-    local first=$COMP_CWORD typed="" offered="" at
-    while [ "$first" -gt 0 ] && [ "${COMP_WORDS[first - 1]}" != "$1" ] && [ "${COMP_WORDS[first - 1]}" != "=" ]; do first=$((first - 1)); done
-    for ((at = first; at <= COMP_CWORD; at++)); do typed+=${COMP_WORDS[at]}; done
-    typed=${typed#=}
+    local offered=""
     case $1 in
         --variant) offered=$(_bcs_variants "${words[1]}" "${words[2]}") ;;
         --name) offered=$(_bcs_parts "${words[1]}" "${words[2]}" "${words[3]}" "${coding[@]}" | sort -u) ;;
@@ -148,15 +171,15 @@ _bcs_complete_value() {
         --refusals) offered=json ;;
         -o | --output) compopt -o default && return ;;
     esac
-    mapfile -t COMPREPLY < <(compgen -W "$offered" -- "$typed")
-    COMPREPLY=("${COMPREPLY[@]#"${typed%"${typed##*:}"}"}")
+    mapfile -t COMPREPLY < <(compgen -W "$offered" -- "$2")
+    COMPREPLY=("${COMPREPLY[@]#"${2%"${2##*:}"}"}")
 }
 '
 
 zsh_completions='
     function spec(text) { gsub(/\[/, "\\[", text); gsub(/\]/, "\\]", text); gsub(/:/, "\\:", text); return text }
     $1 == "argument" { action = kind == "file" ? "_files" : kind == "container" ? "_bcs_containers" : kind == "path" ? "_bcs_path" : " "
-        add($2, place ":" word ":" action) }
+        add($2, (is_repeated ? "*" : place) ":" word ":" action) }
     function add(command, text) { specs[command] = specs[command] " " in_quotes(text) }
     $1 == "option" && short != "" { add($2, "-" short (has_value ? "+" : "") "[" spec($4) "]" (has_value ? ":value:" value($3) : "")) }
     function value(name) {
@@ -206,7 +229,7 @@ _bcs_show() {
 
 _bcs_containers() {
     local -a names
-    names=(${(f)"$(_bcs_show | sed -n "s/^\([A-Za-z_][A-Za-z_0-9]*\): .*/\1/p")"})
+    names=(${(f)"$(_bcs_show | sed -n "s/^\([A-Za-z_][A-Za-z_0-9]*\): .*/\1/p; s/^\"\([A-Za-z_0-9][A-Za-z_0-9:<>, ]*\)\": .*/\1/p")"})
     compadd -a names
 }
 
@@ -217,8 +240,9 @@ _bcs_path() {
 
 _bcs_variants() {
     local -a names
-    [[ $line[2] =~ "^[A-Za-z_][A-Za-z_0-9]*\$" ]] || return 1
-    names=(${(f)"$(_bcs_show | sed -n "/^$line[2]: ENUM/,/^[^ ]/s/^  [0-9]* \"\{0,1\}\([A-Za-z_][A-Za-z_0-9]*\).*/\1/p")"})
+    local name=${(Q)line[2]}
+    [[ -n $name && $name != *[^A-Za-z_0-9:\<\>,\ ]* ]] || return 1
+    names=(${(f)"$(_bcs_show | sed -n "/^\"\{0,1\}$name\"\{0,1\}: ENUM/,/^[^ ]/s/^  [0-9]* \"\{0,1\}\([A-Za-z_][A-Za-z_0-9]*\).*/\1/p")"})
     compadd -a names
 }
 
@@ -230,7 +254,7 @@ _bcs_parts() {
     [[ ($registry == "{"* || -f $registry) && -f $REPLY ]] || return 1
     (( ${words[(I)--raw]} )) && coding+=(--raw)
     (( ${words[(I)--base64]} )) && coding+=(--base64)
-    lines=$($_bcs_program explain --quiet $coding -- $registry $line[2] $REPLY 2>/dev/null </dev/null) || return 1
+    lines=$($_bcs_program explain --quiet $coding -- $registry ${(Q)line[2]} $REPLY 2>/dev/null </dev/null) || return 1
     names=(${(fu)"$(print -r -- $lines | sed -n "s/^.* \([].:?[][]A-Za-z_0-9.:?[]*\)\$/\1/p")"})
     compadd -a names
 }
@@ -296,13 +320,13 @@ function __bcs_show
 end
 
 function __bcs_containers
-    string replace -rf "^([A-Za-z_][A-Za-z_0-9]*): .*" "\$1" -- (__bcs_show)
+    string replace -rf "^(?:([A-Za-z_][A-Za-z_0-9]*)|\"([A-Za-z_0-9][A-Za-z_0-9:<>, ]*)\"): .*" "\$1\$2" -- (__bcs_show)
 end
 
 function __bcs_variants
     set -l name (__bcs_words)[3]
-    string match -qr "^[A-Za-z_][A-Za-z_0-9]*\$" -- "$name"; or return
-    __bcs_show | sed -n "/^$name: ENUM/,/^[^ ]/s/^  [0-9]* \"\{0,1\}\([A-Za-z_][A-Za-z_0-9]*\).*/\1/p"
+    string match -qr "^[A-Za-z_0-9:<>, ]+\$" -- "$name"; or return
+    __bcs_show | sed -n "/^\"\{0,1\}$name\"\{0,1\}: ENUM/,/^[^ ]/s/^  [0-9]* \"\{0,1\}\([A-Za-z_][A-Za-z_0-9]*\).*/\1/p"
 end
 
 function __bcs_parts

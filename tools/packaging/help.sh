@@ -42,7 +42,7 @@ table() {
 # (A failure on the left side of a pipe would be lost.)
 help=$("$program" --help)
 printf '%s\n' "$help" | table ""
-commands=$(printf '%s\n' "$help" | sed -n '/^Commands:/,/^$/s/^  \([a-z]*\) .*/\1/p')
+commands=$(printf '%s\n' "$help" | sed -n '/^Commands:/,/^$/s/^  \([^ ]*\) .*/\1/p')
 for command in $commands; do
     [ "$command" != help ] || continue
     help=$("$program" "$command" --help </dev/null)

@@ -33,11 +33,13 @@ def test_go(bench: Bench) -> None:
     program, tests = bench.room / "go", bench.room / "go_tests"
     run("go build", words("go", "build", "-o", program, "./driver"), folder=module, variables=variables)
     run("go test -c", words("go", "test", "-c", "-o", tests, "."), folder=module, variables=variables)
-    # Two tests start themselves as another process, which the emulator can't do.
+    # Two tests start themselves as another process, which the emulator can't do. TestDefaultLimits does so, too, for a limit
+    # of memory that the emulator ignores, so it runs in this process.
     listed = run("the list of the tests of Go", words(*EMULATOR, tests, "-test.list", "."), folder=module).split()
     names = [name for name in listed if name not in ("TestStack", "TestMemory")]
     command = words(*EMULATOR, tests, "-test.v", "-test.run", f"^({'|'.join(names)})$")
-    output = run("the tests of Go", command, folder=module, variables={"BCS_EXAMPLES": f"{ROOT}/examples"})
+    variables = {"BCS_EXAMPLES": f"{ROOT}/examples", "BCS_TEST_LIMITS": "1"}
+    output = run("the tests of Go", command, folder=module, variables=variables)
     if len(re.findall(r"^--- PASS", output, re.MULTILINE)) != len(names) or len(names) < 11:
         fail(f"too few tests of Go ran: {' '.join(names)}")
     passed(f"Go: {len(names)} tests")

@@ -66,9 +66,12 @@ def test_program(bench: Bench) -> None:
     ask_rows(bench)
     program = Program(bench, bench.room / "number")
     program.number.write_text("-4660\n", encoding="utf-8")
+    for test in "host_streams", "file_rights":
+        passed(f"the program: {run(test, words(ROOT / f'tests/{test}.py', *program.command())).strip()}")
     streams(program)
     terminal(program)
     files(program)
+    run("-o FILE", words(ROOT / "tests/output_files.py", "--host", *program.command()))
     large_input(program)
     deep_input(program)
     refused_memory(program)

@@ -96,6 +96,7 @@ enum bcs_fault {
     /* of a path */
     BCS_PATH_BAD_PATH = 601,
     BCS_PATH_NO_CONTENT = 602, /* it leads to a part that has no content */
+    BCS_PATH_OTHER_FUNCTION = 603, /* it leads to the arguments of another function */
     /* why a format has no example */
     BCS_EXAMPLE_UNKNOWN_VARIANT = 701,
     BCS_EXAMPLE_NO_VALUE = 702,
@@ -123,7 +124,8 @@ enum bcs_form {
     BCS_WAYS = 0,  /* a line for each piece: place, bytes, kind, and the names that lead to it */
     BCS_PATHS = 1, /* the same, followed by the path for bcs_part */
     BCS_TREE = 2,  /* indented by the depth of the piece */
-    BCS_JSON = 3   /* a JSON object per line */
+    BCS_JSON = 3,  /* a JSON object per line */
+    BCS_NOTES = 4  /* add it to one of these for bcs_handle_explain_with: with notes about the views, of which each is a line */
 };
 
 /* What bcs_text_place, bcs_stop_place and bcs_registry_place report about a refusal. */
@@ -298,7 +300,11 @@ bcs_answer bcs_handle_stop_refusal(bcs_handle *handle, const uint8_t *format, si
    They mean what the options of `bcs explain` mean. FORMAT is the name of a container or the JSON of a format. Empty lines are
    skipped, and a NAME that matches nothing changes nothing. BCS_PATH: a line isn't one of these. BCS_FORMAT: FORMAT is refused, or
    the registry doesn't have FUNCTION, or no container NAME of 32 U8. If a byte string isn't a value of its format, `fault` and
-   `place` report that stop. */
+   `place` report that stop; and so they do if another function is called than FUNCTION (BCS_PATH_OTHER_FUNCTION), or the list isn't
+   one of byte strings (BCS_PATH_BAD_PATH). The text then ends at that place, and its last line has both names.
+
+   With a form such as BCS_JSON + BCS_NOTES, a line says which NAME matched nothing, and which FUNCTION wasn't compared with what is
+   called: in JSON {"name":"NAME","note":"no list there"} before the last line, otherwise note: .. after it. */
 bcs_answer bcs_handle_explain_with(bcs_handle *handle, const uint8_t *format, size_t format_length, uint32_t depth,
                                    uint32_t nodes, uint32_t form, const uint8_t *views, size_t views_length,
                                    const uint8_t *bytes, size_t bytes_length, uint8_t *out, size_t out_length);
@@ -414,6 +420,7 @@ static inline const char *bcs_fault_text(uint32_t fault) {
     case BCS_STOP_TRAILING_BYTES: return "TrailingBytes";
     case BCS_PATH_BAD_PATH: return "BadPath";
     case BCS_PATH_NO_CONTENT: return "NoContent";
+    case BCS_PATH_OTHER_FUNCTION: return "OtherFunction";
     case BCS_EXAMPLE_NO_VALUE: return "NoValue";
     case BCS_MOVE_REPEATED_MEMBER: return "RepeatedMember";
     case BCS_MOVE_NOT_MODULES: return "NotModules";

@@ -152,7 +152,7 @@ static const struct {
     {401, "EndOfInput"}, {402, "BadBool"}, {403, "BadOption"}, {404, "LongForm"}, {405, "NumberTooLarge"},
     {406, "LengthTooLarge"}, {407, "UnknownVariant"}, {408, "BadUtf8"}, {409, "KeyOrder"}, {410, "KeyRepeated"},
     {411, "TooDeep"}, {412, "TrailingBytes"}, {413, "TooManyNodes"}, {414, "Unsupported"},
-    {501, "TooNested"}, {601, "BadPath"}, {602, "NoContent"},
+    {501, "TooNested"}, {601, "BadPath"}, {602, "NoContent"}, {603, "OtherFunction"},
     {701, "UnknownVariant"}, {702, "NoValue"}, {703, "TooManyNodes"}, {704, "TooNested"},
     {801, "NotJson"}, {802, "RepeatedMember"}, {803, "NotModules"}, {804, "ChainError"},
     {805, "MixedChains"}, {806, "RepeatedName"}, {807, "BadType"}, {808, "MissingModule"},

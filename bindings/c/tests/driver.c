@@ -128,7 +128,7 @@ static struct job job_of(char *words[WORDS], size_t count) {
         } else if (job.call == EXAMPLE) {
             job.number = (uint32_t)number_of(words[6], example_words, COUNT(example_words));
         } else if (job.call == EXPLAIN_WITH) {
-            job.number = (uint32_t)number_of(words[6], form_words, COUNT(form_words));
+            job.number = (uint32_t)number_of(words[6], form_words, COUNT(form_words)) + BCS_NOTES;
             job.second = bytes_of(words[7]);
         } else if (job.call == PART_NAMED || job.call == CONTENT) {
             job.second = bytes_of(words[6]);

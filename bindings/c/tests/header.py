@@ -38,6 +38,7 @@ OTHER_FAULTS = {
     "ShownTooNested": "BCS_SHOWN_TOO_NESTED",
     "BadPath": "BCS_PATH_BAD_PATH",
     "NoContent": "BCS_PATH_NO_CONTENT",
+    "OtherFunction": "BCS_PATH_OTHER_FUNCTION",
     "ExampleUnknownVariant": "BCS_EXAMPLE_UNKNOWN_VARIANT",
     "ExampleNoValue": "BCS_EXAMPLE_NO_VALUE",
     "ExampleTooManyNodes": "BCS_EXAMPLE_TOO_MANY_NODES",
@@ -49,6 +50,8 @@ NOTATION = re.compile(
 )
 # The notation of paths, which isn't one of `PartName`.
 STEPS = re.compile(r"\bconst (STEPS): u32 = (\d+);")
+# What is added to a form.
+NOTES = re.compile(r"\bconst (NOTES): u32 = (\d+);")
 
 
 class Interface(NamedTuple):
@@ -138,7 +141,7 @@ def of_crate(folder: pathlib.Path) -> Interface:
         structs=structs,
         statuses=numbers(code, {"Status": FRONTS["Status"]}),
         faults=numbers(code, {enum: front for enum, front in FRONTS.items() if enum != "Status"}) | others,
-        forms=forms_of(code),
+        forms=forms_of(code) | {"BCS_" + name: int(number) for name, number in NOTES.findall(code)},
         notations={"BCS_" + in_capitals(name): int(number) for number, name in NOTATION.findall(code)}
         | {"BCS_" + name: int(number) for name, number in STEPS.findall(code)},
     )

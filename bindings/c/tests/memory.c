@@ -64,6 +64,18 @@ void rattle_dealloc(void *block) {
 #define ON_VALUE(the_call, its_input) \
     .call = the_call, .registry = OF(REGISTRY), .format = OF(FORMAT), .input = OF(its_input), STANDARD
 
+/* A call of an entry function. */
+#define FUNCTION "0x1::m::f<vector<u8>, 0x1::m::S>"
+#define DIGIT "{\"TUPLEARRAY\":{\"CONTENT\":\"U8\",\"SIZE\":1}}"
+#define TYPES                                                                                                            \
+    "{\"T\":{\"ENUM\":{\"0\":{\"Struct\":{\"NEWTYPE\":{\"TYPENAME\":\"S\"}}},\"1\":{\"U8\":\"UNIT\"},\"2\":{\"Vector\":{\"NEWTYPE\":" \
+    "{\"TYPENAME\":\"T\"}}}}},\"S\":{\"STRUCT\":[{\"address\":" DIGIT "},{\"module\":\"STR\"},{\"name\":\"STR\"},"                \
+    "{\"type_args\":{\"SEQ\":{\"TYPENAME\":\"T\"}}}]},\"M\":{\"STRUCT\":[{\"address\":" DIGIT "},{\"name\":\"STR\"}]},"            \
+    "\"C\":{\"STRUCT\":[{\"module\":{\"TYPENAME\":\"M\"}},{\"function\":\"STR\"},{\"ty_args\":{\"SEQ\":{\"TYPENAME\":\"T\"}}},"     \
+    "{\"args\":{\"SEQ\":\"BYTES\"}}]},\"" FUNCTION "\":{\"STRUCT\":[{\"arg0\":\"U8\"}]},\"" FUNCTION "::arg0\":{\"NEWTYPESTRUCT\":\"U8\"}}"
+#define ON_CALL(its_input) \
+    .call = EXPLAIN_WITH, .registry = OF(TYPES), .format = OF("{\"TYPENAME\":\"C\"}"), .input = OF(its_input), STANDARD
+
 /* With a name, the status that each has with memory, and how much room its output has. */
 static const struct {
     const char *name;
@@ -111,6 +123,8 @@ static const struct {
     {"explain, damaged", {ON_VALUE(EXPLAIN, DAMAGED), .number = BCS_WAYS}, BCS_DONE, ROOM},
     {"explain, damaged, JSON", {ON_VALUE(EXPLAIN, DAMAGED), .number = BCS_JSON}, BCS_DONE, ROOM},
     {"explain with views", {ON_VALUE(EXPLAIN_WITH, DATA_OF_IT), .number = BCS_WAYS, .second = OF("inside [key:0162]::M.y[0]={\"TUPLE\":[\"U8\",\"U16\"]}\ninside .x=B")}, BCS_DONE, ROOM},
+    {"explain with a call", {ON_CALL("\1\1m\1f\2\2\1\0\1\1m\1S\0\1\1\7"), .number = BCS_WAYS + BCS_NOTES, .second = OF("call .args=" FUNCTION "\ncall .x=" FUNCTION)}, BCS_DONE, ROOM},
+    {"explain with a call of another function", {ON_CALL("\1\1m\1g\0\1\1\7"), .number = BCS_JSON + BCS_NOTES, .second = OF("call .args=" FUNCTION)}, BCS_DONE, ROOM},
     {"explain with views, refused", {ON_VALUE(EXPLAIN_WITH, DATA_OF_IT), .number = BCS_WAYS, .second = OF("inside .x=C")}, BCS_FORMAT, ROOM},
     {"no such registry", {.call = CHECKS, .registry = OF("{\"A\":{\"STRUCT\":[{\"x\":\"U8\"},{\"x\":\"U8\"}]}}"),
                           .format = OF("\"U8\""), STANDARD}, BCS_REGISTRY, 0},

@@ -501,6 +501,34 @@ static size_t need_of_views(uint8_t *stack, size_t count) {
     return need;
 }
 
+/* A call with types that nest as deep as those that from-move accepts: what is compared, and the bytes. */
+#define TYPES 32
+#define DIGIT "{\"TUPLEARRAY\":{\"CONTENT\":\"U8\",\"SIZE\":1}}"
+static size_t need_of_call(uint8_t *stack) {
+    struct text types = nested_text("<0x1::m::S", "<u8>", ">", TYPES - 1), registry = {NULL, 0, 0}, bytes = {NULL, 0, 0}, view = {NULL, 0, 0};
+    add_words(&registry, "{\"T\":{\"ENUM\":{\"0\":{\"Struct\":{\"NEWTYPE\":{\"TYPENAME\":\"S\"}}},\"1\":{\"U8\":\"UNIT\"}}},"
+                         "\"S\":{\"STRUCT\":[{\"address\":" DIGIT "},{\"module\":\"STR\"},{\"name\":\"STR\"},{\"type_args\":{\"SEQ\":{\"TYPENAME\":\"T\"}}}]},"
+                         "\"M\":{\"STRUCT\":[{\"address\":" DIGIT "},{\"name\":\"STR\"}]},\"C\":{\"STRUCT\":[{\"module\":{\"TYPENAME\":\"M\"}},"
+                         "{\"function\":\"STR\"},{\"ty_args\":{\"SEQ\":{\"TYPENAME\":\"T\"}}},{\"args\":{\"SEQ\":\"BYTES\"}}]},\"0x1::m::f");
+    add(&registry, types.at, types.length);
+    add_words(&registry, "\":{\"STRUCT\":[]}}");
+    add_words(&view, "call .args=0x1::m::f");
+    add(&view, types.at, types.length);
+    add_words(&bytes, "\1\1m\1f\1");
+    for (size_t number = 0; number + 1 < TYPES; number++) {
+        add(&bytes, "\0\1\1m\1S\1", 7);
+    }
+    add(&bytes, "\1\0", 2);
+    const struct job job = {EXPLAIN_WITH,         slice_of_text(registry), OF("{\"TYPENAME\":\"C\"}"), slice_of_text(bytes),
+                            slice_of_text(view), STANDARD,                BCS_JSON};
+    const size_t need = need_of(&job, stack, BCS_DONE, BCS_FAULT_NONE);
+    free(types.at);
+    free(registry.at);
+    free(bytes.at);
+    free(view.at);
+    return need;
+}
+
 /* ---- An ordinary value. */
 
 static const char *examples;
@@ -563,6 +591,7 @@ static void on_threads(void) {
     printf("stack: %zu KiB: all modules\n", need_of_modules(stack) / KIB);
     printf("stack: %zu KiB: a byte string in a value\n", need_of_views(stack, 1) / KIB);
     printf("stack: %zu KiB: 15 byte strings in each other\n", need_of_views(stack, 15) / KIB);
+    printf("stack: %zu KiB: a call with types that nest 32 deep\n", need_of_call(stack) / KIB);
 }
 
 static void try_main(struct trial *trials, struct chain chain) {

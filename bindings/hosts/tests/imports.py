@@ -15,8 +15,10 @@ from typing import NoReturn
 
 HERE = pathlib.Path(__file__).resolve().parent.parent
 
-# What the programs need of the C library, in place of the functions that a host defines: rattle_.., and statx, which
-# older systems lack. The last line is for the heap and the stack.
+# The functions that tools/link defines.
+OWN = {"fchmod", "getentropy", "open", "read", "statx", "write"}
+# What the programs need of the C library in place of these, and of rattle_... The last line is for the heap and the
+# stack.
 OF_BOTH = """
     __errno_location __libc_start_main getenv syscall
     free getrlimit madvise malloc mmap mprotect realloc
@@ -116,7 +118,7 @@ def check_library(folder: pathlib.Path, room: pathlib.Path) -> None:
 
 def check_program(folder: pathlib.Path, program: list[str]) -> None:
     """The program is linked with its host, so the functions that the host calls replace its own."""
-    of_system = [name for name in program if name != "statx" and not name.startswith("rattle_")]
+    of_system = [name for name in program if name not in OWN and not name.startswith("rattle_")]
     expected = [*of_system, *PROGRAM_NEEDS[folder.name].split()]
     same(f"the program in {folder.name}", expected, of_elf("-D", folder / "bcs"))
 

@@ -2,6 +2,7 @@ import static java.util.stream.Collectors.joining;
 
 import bcsproved.BcsException;
 import bcsproved.BcsException.Kind;
+import bcsproved.Explanation;
 import bcsproved.Form;
 import bcsproved.Limits;
 import bcsproved.MadeRegistry;
@@ -92,6 +93,10 @@ public final class Tests extends Check {
         equal(damage.reason() + " " + damage.place() + " " + damage.at(), "BadBool 3 null");
         damage = registry.explain("Note", unhex("00"), Form.WAYS, bool).damage();
         equal(damage.reason() + " " + damage.place() + " " + damage.at(), "EndOfInput 1 .args");
+        damage = registry.explain("{\"SEQ\":\"U16\"}", unhex("00"), Form.WAYS, Views.NONE.withCall(".", "f")).damage();
+        equal(damage.reason() + " " + damage.place() + " " + damage.kind(), "BadPath 0 BYTES");
+        Explanation noted = registry.explain("Note", data, Form.WAYS, Views.NONE.withCall(".x", "f"));
+        equal(noted.text().endsWith("\nnote: at --call, .x: no list there\n") && noted.damage() == null, true);
         Views memo = Views.NONE.withInside(".memo", "f");
         badViews(registry, Kind.PATH, "BadPath", "", "inside: " + A_NAME, memo.withInside("", "f"));
         badViews(registry, Kind.PATH, "BadPath", ".a=b", "inside: " + A_NAME, memo.withInside(".a=b", "f"));

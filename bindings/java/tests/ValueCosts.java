@@ -45,12 +45,16 @@ final class ValueCosts extends Check {
         return ManagementFactory.getThreadMXBean().getCurrentThreadCpuTime();
     }
 
-    /** Rejected within five seconds of the processor's time, with a message that isn't large. */
     private static void rejected(String message, Check.Test test) {
+        rejected(5, message, test);
+    }
+
+    /** Rejected within these seconds of the processor's time, with a message that isn't large. */
+    private static void rejected(long seconds, String message, Check.Test test) {
         long start = processorTime();
         BcsException e = thrown(BcsException.class, test);
         equal(e.kind() == Kind.VALUE && e.getMessage().contains(message) ? "" : e.getMessage(), "");
-        equal(e.getMessage().length() < 20_000 && processorTime() - start < 5_000_000_000L, true);
+        equal(e.getMessage().length() < 20_000 && processorTime() - start < seconds * 1_000_000_000L, true);
     }
 
     private static void endless(Registry registry) throws BcsException {
@@ -69,6 +73,8 @@ final class ValueCosts extends Check {
         rejected("is there a cycle in Integer", () -> registry.encode("C", 7));
         rejected("more nodes than the limits allow", () -> limited.encode("Tree", tree));
         rejected("more nodes than the limits allow", () -> limited.encode("{\"SEQ\":\"U16\"}", endless()));
+        rejected(30, "more nodes than the limits allow", () -> registry.encode("Tree", tree));
+        rejected(30, "more nodes than the limits allow", () -> registry.encode("{\"SEQ\":\"U16\"}", endless()));
         rejected("a number of 1048577 bits", () -> registry.encode("\"U64\"", BigInteger.ONE.shiftLeft(1 << 20)));
         String four = "{\"TUPLEARRAY\":{\"CONTENT\":\"U8\",\"SIZE\":4}}";
         rejected("has 4 bytes, not 100000000", () -> registry.encode(four, new byte[100_000_000]));

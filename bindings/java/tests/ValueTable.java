@@ -137,6 +137,9 @@ final class ValueTable extends Check {
         row(Map.of(), "map=00");
         row(List.of(entry("b", 2), entry("a", 1)), "map=02016101016202");
         row(List.of(entry("a", 1), entry("a", 2)), "!map");
+        row(List.of(1, "x", 2), "");
+        row(new Object[] {1, "x", 2}, "");
+        row(List.of(List.of("a", 1, 2)), "");
         row(Map.of("to", "bob", "amount", 7), "P=03626f620700000000000000");
         row(Map.of("to", "bob", "amount", 7, "memo", ""), "");
         row(Map.of("to", "bob"), "");
@@ -173,6 +176,7 @@ final class ValueTable extends Check {
         row(new Variant("Pair", List.of(1, 2)), "E=020102");
         row(new Variant("Named", Map.of("r", 9)), "E=0309");
         for (Variant odd : List.of(new Variant("Nope"), new Variant("Num"), new Variant("Num", null), new Variant("Dot", null),
+                new Variant("Pair", List.of(1, 2, 3)), new Variant("Pair", new int[] {1, 2, 3}),
                 new Variant("Dot", 1), new Variant(null), new Variant("dot"))) {
             row(odd, "");
         }

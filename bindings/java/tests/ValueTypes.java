@@ -287,6 +287,20 @@ final class ValueTypes extends Check {
         equal(HexFormat.of().formatHex(maps.encode("M", entries)), "0101aa0162");
     }
 
+    /** Keys that differ in Java are rejected if their bytes are equal, and none of them is left out. */
+    private static void equalKeys() throws BcsException {
+        Map<String, List<Object>> rows = Map.of("\"U8\"", List.of(1, 1L), "\"BYTES\"", List.of(new Hex("aa"), unhex("aa")),
+                "{\"SEQ\":\"U16\"}", List.of(List.of(1), new int[] {1}), "{\"OPTION\":\"U8\"}", List.of(Optional.of(1), Optional.of(1L)),
+                "{\"MAP\":{\"KEY\":\"U8\",\"VALUE\":\"U8\"}}", List.of(Map.of(1, 2), Map.of(1L, 2)));
+        try (Registry registry = Registry.open("{}")) {
+            for (Map.Entry<String, List<Object>> row : rows.entrySet()) {
+                Map<Object, Integer> map = Map.of(row.getValue().get(0), 7, row.getValue().get(1), 7);
+                refused(Kind.TEXT, "RepeatedKey", -1, "", "two keys of a map are equal",
+                        () -> registry.encode("{\"MAP\":{\"KEY\":" + row.getKey() + ",\"VALUE\":\"U8\"}}", map));
+            }
+        }
+    }
+
     private static void names() throws BcsException {
         String text = "{\"A\":{\"NEWTYPESTRUCT\":{\"TUPLEARRAY\":{\"CONTENT\":\"U8\",\"SIZE\":32}}},\"B\":{\"NEWTYPESTRUCT\":\"BYTES\"}}";
         String digits = "00".repeat(31) + "01";
@@ -360,6 +374,7 @@ final class ValueTypes extends Check {
         beans();
         all();
         keys();
+        equalKeys();
         names();
         order();
         exceptions();

@@ -259,7 +259,6 @@ class Question:
     def __init__(self, handle: Handle, format: bytes, depth: int, nodes: int) -> None:
         self.handle = handle
         self.format = format
-        self.nodes = nodes
         self._arguments = (handle.pointer, format, len(format), depth, nodes)
 
     def ask(self, name: str, *arguments: Any) -> Answer:

@@ -31,11 +31,15 @@ if __name__ == "__main__" and not __package__ and not getattr(sys.flags, "safe_p
     del sys.path[0]
 
 import collections
+import contextlib
+import errno
 import importlib
 import json
+import os
 import pathlib
 import re
 import shutil
+import stat
 import subprocess
 import tempfile
 from collections.abc import Callable, Iterator
@@ -46,6 +50,19 @@ __all__ = ["from_yaml", "main", "merged"]
 # (this file also runs by itself)
 _VERSION = "0.1.0"
 _STANDARD_STREAM = "-"
+
+# By these names, what is written goes to a descriptor that is open already.
+_DESCRIPTORS = re.compile(r"/dev/(?P<stream>stdout|stderr)|/(?:dev|proc/self)/fd/(?P<number>0|[1-9][0-9]{0,8})")
+# As many links as Linux follows.
+_LINKS = 40
+# Each try takes the name of a file that a run left when it was killed, or that somebody else put there.
+_TRIES = 1000
+# Linux' access control lists. A file that has one can only keep it if it is written directly.
+_INHERITED = "system.posix_acl_access"
+_LISTS = (_INHERITED, "system.nfs4_acl")
+_HAS_NONE = (errno.ENODATA, errno.ENOTSUP) if sys.platform == "linux" else ()
+# There can be no new file in the folder, though the file that is there may be written.
+_HINDRANCES = (errno.EACCES, errno.EPERM, errno.EROFS, errno.ENAMETOOLONG, errno.ENOENT)
 
 # The proved reader rejects a registry that nests deeper.
 _DEPTH = 130
@@ -237,10 +254,13 @@ def _by_module(bcs_proved: Any) -> Check:
 
 def _by_program(*command: str) -> Check:
     def check(text: bytes, name: str) -> None:
-        with tempfile.NamedTemporaryFile(suffix=".json") as file:
-            file.write(text)
-            file.flush()
-            told = subprocess.run([*command, "check", file.name], capture_output=True, check=False)
+        try:
+            with tempfile.NamedTemporaryFile(suffix=".json") as file:
+                file.write(text)
+                file.flush()
+                told = subprocess.run([*command, "check", file.name], capture_output=True, check=False)
+        except OSError as fault:
+            raise Fault("write", f"in a temporary file for {' '.join(command)} check: {fault.strerror}") from fault
         output, errors = (part.decode(errors="replace").strip() for part in (told.stdout, told.stderr))
         if told.returncode == 0 and output.startswith("ok"):
             return
@@ -275,6 +295,9 @@ def _shown(name: str) -> str:
 
 def _content_of(name: str) -> bytes:
     if name == _STANDARD_STREAM:
+        # (Python has nothing for a stream that is closed)
+        if not sys.stdin:
+            raise Fault("read", f"in the standard input: {os.strerror(errno.EBADF)}")
         return _all_of(sys.stdin.buffer, "the standard input")
     try:
         file = open(name, "rb")
@@ -318,6 +341,146 @@ def _converted(names: list[str]) -> tuple[bytes, list[str]]:
     return text, [change for _, changes in read for change in changes]
 
 
+# ---- FILE of -o is never lost: a new file takes its place. The rules are those of `bcs -o` (docs/PROGRAM.md).
+
+
+class _Place(NamedTuple):
+    """Where FILE's name leads: a name that isn't a link's, and what is there."""
+
+    path: str
+    status: Optional[os.stat_result]
+
+
+def _write(name: str, content: bytes) -> None:
+    descriptor = _DESCRIPTORS.fullmatch(name)
+    if descriptor:
+        number = int(descriptor["number"]) if descriptor["number"] else 1 + (descriptor["stream"] == "stderr")
+        with open(number, "wb", closefd=False) as stream:
+            stream.write(content)
+    elif not _replace(name, content):
+        pathlib.Path(name).write_bytes(content)
+
+
+def _replace(name: str, content: bytes) -> bool:
+    """Gives FILE's name, owner, group and mode to a new file. False if FILE has to be written directly."""
+    # (in Python, Windows has no way to keep the rights of a file that is replaced)
+    place = _followed(name) if hasattr(os, "fchown") else None
+    if place is None or not _is_replaceable(name, place.status):
+        return False
+    try:
+        beside, descriptor = _new_file(place)
+    except OSError as fault:
+        if fault.errno in _HINDRANCES:
+            return False
+        raise
+    is_placed = False
+    try:
+        with open(descriptor, "wb") as file:
+            if place.status and not _has_taken_rights(descriptor, place.status):
+                return False
+            file.write(content)
+            file.flush()
+            os.fsync(descriptor)
+        is_placed = _is_renamed(beside, place.path)
+    finally:
+        if not is_placed:
+            with contextlib.suppress(OSError):
+                os.unlink(beside)
+    return is_placed
+
+
+def _followed(name: str) -> Optional[_Place]:
+    """None if a link isn't one of a folder, like those of /proc, or if the links lead nowhere."""
+    path, is_trusted = name, True
+    for _ in range(_LINKS + 1):
+        try:
+            status = os.lstat(path)
+        except FileNotFoundError:
+            if not is_trusted:
+                raise PermissionError(errno.EACCES, os.strerror(errno.EACCES)) from None
+            return _Place(path, None)
+        if not stat.S_ISLNK(status.st_mode):
+            return _Place(path, status)
+        if sys.platform == "linux" and stat.S_IMODE(status.st_mode) != 0o777:
+            return None
+        folder = os.path.dirname(path)
+        # Somebody else's link to a file that isn't there would decide where one is made.
+        is_trusted = is_trusted and status.st_uid in (os.geteuid(), os.stat(folder or ".").st_uid)
+        path = os.path.join(folder, os.readlink(path))
+    return None
+
+
+def _is_replaceable(name: str, old: Optional[os.stat_result]) -> bool:
+    """Whether the name leads to this file, or to none, and all its rights are its owner, group and mode. It opens the
+    file like a shell's `>`, so that the system refuses what it protects, but leaves the file as it is.
+    """
+    if old and (not stat.S_ISREG(old.st_mode) or old.st_nlink != 1 or stat.S_IMODE(old.st_mode) & ~0o777):
+        return False
+    try:
+        file = os.open(name, os.O_WRONLY | os.O_NOCTTY | (os.O_CREAT if old else 0), 0o666)
+    except FileNotFoundError:
+        return old is None
+    try:
+        return old is not None and os.path.samestat(os.fstat(file), old) and not _has_list(file)
+    finally:
+        os.close(file)
+
+
+def _has_list(file: int) -> bool:
+    if sys.platform == "linux":
+        for name in _LISTS:
+            try:
+                os.getxattr(file, name)
+            except OSError as fault:
+                if fault.errno in _HAS_NONE:
+                    continue
+            return True
+    return False
+
+
+def _new_file(place: _Place) -> tuple[str, int]:
+    """In FILE's folder. If it gets FILE's rights, nobody else may read it before."""
+    folder, name = os.path.split(place.path)
+    for _ in range(_TRIES):
+        beside = os.path.join(folder, f".{name}.bcs-{os.urandom(4).hex()}")
+        with contextlib.suppress(FileExistsError):
+            return beside, os.open(beside, os.O_WRONLY | os.O_CREAT | os.O_EXCL, 0o600 if place.status else 0o666)
+    raise FileExistsError(errno.EEXIST, os.strerror(errno.EEXIST))
+
+
+def _has_taken_rights(file: int, old: os.stat_result) -> bool:
+    new = os.fstat(file)
+    try:
+        if (new.st_uid, new.st_gid) != (old.st_uid, old.st_gid):
+            os.fchown(file, old.st_uid, old.st_gid)
+        _remove_inherited_list(file)
+        os.fchmod(file, stat.S_IMODE(old.st_mode))
+    except OSError:
+        return False
+    return True
+
+
+def _remove_inherited_list(file: int) -> None:
+    """With a list, the group's bits of the mode would be those of everybody whom the list names."""
+    if sys.platform == "linux":
+        try:
+            os.removexattr(file, _INHERITED)
+        except OSError as fault:
+            if fault.errno not in _HAS_NONE:
+                raise
+
+
+def _is_renamed(beside: str, path: str) -> bool:
+    """False if FILE is mounted by itself."""
+    try:
+        os.rename(beside, path)
+    except OSError as fault:
+        if fault.errno != errno.EBUSY:
+            raise
+        return False
+    return True
+
+
 class _Misuse(Exception):
     """The arguments are invalid."""
 
@@ -355,10 +518,10 @@ def main(words: Optional[list[str]] = None) -> int:
         return _convert(*_arguments(words))
     except _Misuse as fault:
         usage = "Usage: bcs-registry [merge] [-o FILE] [REGISTRY]..."
-        print(f"error: {fault}\n\n{usage}\n\nFor more information, try '--help'.", file=sys.stderr)
+        _say(f"error: {fault}\n\n{usage}\n\nFor more information, try '--help'.")
         return 3
     except Fault as fault:
-        print(f"fault: {fault.word}\n{fault.message}", file=sys.stderr)
+        _say(f"fault: {fault.word}\n{fault.message}")
         return 4
 
 
@@ -367,18 +530,26 @@ def _convert(names: list[str], output: Optional[str]) -> int:
         text, changes = _converted(names)
     except Refused as fault:
         _put(f"refused: {fault.reason}\n".encode(), None)
-        print(fault, file=sys.stderr)
+        _say(str(fault))
         return 2
     for change in changes:
-        print(change, file=sys.stderr)
+        _say(change)
     return _put(text, output)
+
+
+def _say(line: str) -> None:
+    # (if standard error is closed, `print` would write to standard output)
+    if sys.stderr:
+        print(line, file=sys.stderr)
 
 
 def _put(text: bytes, output: Optional[str]) -> int:
     place = "the standard output" if output is None else f"the file {output}"
     try:
         if output is not None:
-            pathlib.Path(output).write_bytes(text)
+            _write(output, text)
+        elif not sys.stdout:
+            raise OSError(errno.EBADF, os.strerror(errno.EBADF))
         else:
             sys.stdout.buffer.write(text)
             sys.stdout.flush()

@@ -27,6 +27,8 @@ _Value = TypeVar("_Value")
 Names = Mapping[str, Iterable[str]]
 # How many formats a registry remembers, since they may come from strangers.
 _MOST_FORMATS = 1000
+# What is added to a form of bcs.h: notes about the views.
+_WITH_NOTES = 4
 # enum bcs_notation of bcs.h.
 _STEPS, _NAME, _POINTER = 0, 1, 2
 _NOTATIONS = {_NAME: "a name such as .payload.args[1]", _POINTER: "a JSON Pointer such as /payload/args/1"}
@@ -249,7 +251,7 @@ class Registry:
         isn't a value of the format, and ValueTypeError, which is one of these, if a part of it has a type that the
         format doesn't accept there."""
         question = self._question(format, limits)
-        return self._put_text(question, "bcs_handle_to_bcs", self._json_of(question, value)).tobytes()
+        return self._put_text(question, "bcs_handle_to_bcs", self._json_of(question, value, limits)).tobytes()
 
     def encode_json(self, format: Format, text: Text, limits: Optional[Limits] = None) -> bytes:
         """The bytes of the value that a JSON document represents. Raises TextError if it represents none."""
@@ -342,7 +344,7 @@ class Registry:
     ) -> Any:
         """The value as `decode` returns it. Raises TextError if it isn't a value of the format."""
         question = self._question(format, limits)
-        text = self._put_text(question, "bcs_handle_normalise", self._json_of(question, value))
+        text = self._put_text(question, "bcs_handle_normalise", self._json_of(question, value, limits))
         return self._read(question, text, plain_options)
 
     def normalise_json(self, format: Format, text: Text, limits: Optional[Limits] = None) -> str:
@@ -353,7 +355,7 @@ class Registry:
     def equal(self, format: Format, first: Any, second: Any, limits: Optional[Limits] = None) -> bool:
         """Whether two values are equal, maps being finite maps. Raises TextError if one isn't a value of the format."""
         question = self._question(format, limits)
-        return self._equal(question, self._json_of(question, first), self._json_of(question, second))
+        return self._equal(question, self._json_of(question, first, limits), self._json_of(question, second, limits))
 
     def equal_json(self, format: Format, first: Text, second: Text, limits: Optional[Limits] = None) -> bool:
         """Whether two JSON documents represent equal values. Raises TextError if one represents none."""
@@ -468,6 +470,11 @@ class Registry:
         `registry_of_modules` makes. `addresses`, `u256s` and `i256s` are the containers whose values are described as
         Move's own; those that are called "address", "u256" and "i256" are so without it.
 
+        A function is compared with the one that is called beside the list. If that is another one, "refused" is
+        "OtherFunction", and "want" has both names; if the list isn't one of byte strings, it is "BadPath". A dict with
+        "note" and "name" comes before the last one for each name that matches nothing, and each function that wasn't
+        compared.
+
         Raises PathError for a name that is none, and FormatError for formats, functions and containers that the
         registry doesn't have."""
         views = views_of(inside, calls, addresses=addresses, u256s=u256s, i256s=i256s)
@@ -488,7 +495,7 @@ class Registry:
         i256s: Iterable[str] = (),
     ) -> str:
         """The pieces of bytes as lines, as `bcs explain` prints them. Invalid bytes are no error here:
-        the last line reports them. The other arguments are those of `explain`."""
+        the last line reports them. The other arguments are those of `explain`, and each note is a line at the end."""
         views = views_of(inside, calls, addresses=addresses, u256s=u256s, i256s=i256s)
         return self._explained(format, data, form, limits, views)
 
@@ -496,7 +503,7 @@ class Registry:
         data, lines = bytes_of(data), lines_of(views)
         question = self._question(format, limits, data)
         room = min(100 * len(data) + 1000, 1000000)
-        words = (int(form), lines, len(lines), data, len(data))
+        words = (form + _WITH_NOTES, lines, len(lines), data, len(data))
         answer, text = question.put("bcs_handle_explain_with", room, *words)
         if answer.status in (Status.PATH, Status.FORMAT):
             self._check(question)
@@ -540,7 +547,7 @@ class Registry:
             self._known_readers[format, plain_options] = read
             return read
 
-    def _json_of(self, question: Question, value: Any) -> bytes:
+    def _json_of(self, question: Question, value: Any, limits: Optional[Limits]) -> bytes:
         """The JSON of a value. The library's answer about the format comes before what is wrong with the value."""
         known = self._known_formats.get(question.format)
         if known is None:
@@ -550,7 +557,7 @@ class Registry:
             known = self._formats.format(json.loads(question.format.decode()))
             self._known_formats[question.format] = known
         try:
-            return values.json_of(known, value, question.nodes)
+            return values.json_of(known, value, None if limits is None else limits.nodes)
         except values.Rejected as fault:
             error = ValueTypeError if fault.is_type else TextError
             raise error(fault.reason, None, fault.at, fault.message) from fault.__cause__

@@ -31,8 +31,15 @@ _WIDEST = 128
 # of the second kind are rejected by their own type, and an array without items as it is.
 _INTEGER_ITEMS = {*"bBhHiIlLqQnN", "O"}
 _OTHER_ITEMS = {*"efdg?"}
-# So often the limit on nodes is checked in a list.
+# The limits are checked after so many items of a list, and after a string of this length.
 _UNCHECKED = 1000
+# What a value may be by default, since one that holds others many times may be short and have any number of nodes.
+_MOST_NODES = 1 << 24
+_MOST_JSON = 1 << 30
+# Counting nodes ends after so many parts, since a larger value may as well be written.
+_MOST_LOOKED_AT = 100_000
+_HOLDERS = {dict, list, tuple}
+_NO_OCTETS = {type(None), str}
 # `quick` leaves longer lists and byte strings to `open`, and arrays and objects with longer JSON, since a value that
 # holds others many times may have any length.
 _MOST_QUICK_ITEMS = 1 << 16
@@ -88,6 +95,10 @@ class _TooManyNodes(Exception):
     """`open` gives up a value, wherever it is in it."""
 
 
+class _TooLong(Exception):
+    """The same."""
+
+
 def name_of(found: type) -> str:
     return found.__qualname__ if found.__module__ == "builtins" else f"{found.__module__}.{found.__qualname__}"
 
@@ -116,38 +127,71 @@ class Format:
 
 
 class _Pieces(list[str]):
-    """JSON that is written piece by piece, for a value with a maximum number of nodes."""
+    """JSON that is written piece by piece, for a value with a maximum number of nodes. Without one, the bytes of a list
+    of U8 are no nodes."""
 
-    def __init__(self, nodes: int) -> None:
+    def __init__(self, nodes: Optional[int]) -> None:
         super().__init__()
         # (a node has at most five pieces, like bytes that are the key or value in a map)
-        self._most = 5 * nodes + 5
+        most = _MOST_NODES if nodes is None else nodes
+        self._most = 5 * most + 5
+        # (the value is a node, too)
+        self._items = most - 1
+        self._has_octets = nodes is not None
+        self._measured = 0
+        self._length = 0
 
     def expect(self, nodes: int = 0) -> None:
-        """Counts nodes that won't have pieces of their own. Raises _TooManyNodes."""
+        """Counts nodes that won't have pieces of their own. Raises _TooManyNodes or _TooLong."""
         self._most -= 5 * nodes
         if len(self) > self._most:
             raise _TooManyNodes
+        self._length += sum(map(len, self[self._measured :]))
+        self._measured = len(self)
+        if self._length > _MOST_JSON:
+            raise _TooLong
+
+    def expect_items(self, count: int) -> None:
+        """Counts items of a list that will have pieces of their own. Each is a node at least."""
+        self._items -= count
+        if self._items < 0:
+            raise _TooManyNodes
+
+    def put_text(self, text: str) -> None:
+        """Adds a string or digits, which may be long."""
+        self.append(text)
+        if len(text) > _UNCHECKED:
+            self.expect()
+
+    def expect_octets(self, count: int) -> None:
+        """Counts the bytes of a list of U8."""
+        self.expect(count if self._has_octets else 0)
 
 
-def json_of(format: Format, value: Any, nodes: int) -> bytes:
-    """The JSON of a value, unless it surely has more nodes than this. Raises Rejected."""
+def json_of(format: Format, value: Any, nodes: Optional[int]) -> bytes:
+    """The JSON of a value, unless it surely has more nodes than this, or without a number, than by default. Raises
+    Rejected."""
     try:
         text = format.quick(value, _NESTING)
         # (each node has a character at least)
-        if len(text) <= nodes:
+        if nodes is None or len(text) <= nodes:
             return text.encode()
     except (_Slow, RecursionError, UnicodeEncodeError):
         pass
     return _slow_json_of(format, value, nodes)
 
 
-def _slow_json_of(format: Format, value: Any, nodes: int) -> bytes:
+def _slow_json_of(format: Format, value: Any, nodes: Optional[int]) -> bytes:
     out = _Pieces(nodes)
+    most = _MOST_NODES if nodes is None else nodes
     try:
+        if _Counting().leaves(value, _NESTING) > most:
+            raise _TooManyNodes
         _write(format, value, out)
     except _TooManyNodes:
-        raise Rejected("TooManyNodes", f"the value has more nodes than the limit, {nodes}") from None
+        raise Rejected("TooManyNodes", f"the value has more nodes than the limit, {most}") from None
+    except _TooLong:
+        raise Rejected("TooLong", "the JSON of the value is above 1 GiB") from None
     text = "".join(out)
     # (a large value has little room for its pieces beside its text)
     out.clear()
@@ -155,6 +199,37 @@ def _slow_json_of(format: Format, value: Any, nodes: int) -> bytes:
         return text.encode()
     except UnicodeEncodeError:
         raise Rejected("NotJson", "a name in the value has half of a surrogate pair, which isn't Unicode") from None
+
+
+class _Counting:
+    """Counts the parts of a value that hold no others, before anything is written. Each is a node at least, but for the
+    items of a list that may be bytes. It looks at exact types of Python only, so it runs none of the caller's code,
+    and once into a part that is shared."""
+
+    def __init__(self) -> None:
+        self._known: dict[int, int] = {}
+        self._left = _MOST_LOOKED_AT
+
+    def leaves(self, value: Any, levels: int) -> int:
+        """A number that isn't above theirs."""
+        kind = type(value)
+        if kind not in _HOLDERS or not value or not levels:
+            return 1
+        if id(value) in self._known:
+            return self._known[id(value)]
+        parts = [*value.values()] if kind is dict else [*value]
+        kinds = {*map(type, parts)}
+        is_flat = _HOLDERS.isdisjoint(kinds)
+        # (it may hold itself, and is rejected for that later)
+        self._known[id(value)] = 1
+        count = len(parts) if is_flat and (kind is dict or kinds <= _NO_OCTETS) else 0
+        for part in () if is_flat else parts:
+            self._left -= 1
+            if self._left < 0:
+                break
+            count += self.leaves(part, levels - 1)
+        self._known[id(value)] = max(1, count)
+        return max(1, count)
 
 
 def _write(format: Format, value: Any, out: _Pieces) -> None:
@@ -237,11 +312,13 @@ def _put_octets(value: Any, out: _Pieces, are_nodes: bool = False) -> bool:
     if octets is None and type(value) is not Hex:
         return False
     if are_nodes:
-        out.expect(len(value.digits) // 2 if octets is None else len(octets))
+        out.expect_octets(len(value.digits) // 2 if octets is None else len(octets))
     if octets is None:
-        out.append(_text_of(value.digits))
+        out.put_text(_text_of(value.digits))
     else:
-        out += ['"', octets.hex(), '"']
+        out.append('"')
+        out.put_text(octets.hex())
+        out.append('"')
     return True
 
 
@@ -303,7 +380,7 @@ class _Text(Format):
         text = _text_of(value)
         if not text.isascii() and _SURROGATE.search(text):
             raise Rejected("NotJson", "STR takes Unicode, and this str has half of a surrogate pair")
-        out.append(text)
+        out.put_text(text)
         return None
 
     def quick(self, value: Any, levels: int) -> str:
@@ -442,7 +519,7 @@ class _Octets(Format):
         if items is None:
             raise self.wrong(value)
         if self._are_nodes:
-            out.expect(len(items))
+            out.expect_octets(len(items))
         out += ['"', _octets_of_items(items).hex(), '"']
         return None
 
@@ -487,6 +564,7 @@ class _List(Format):
         if items is None:
             raise self.wrong(value)
         if not (type(self._element) is _Number and _are_plain(items)):
+            out.expect_items(len(items))
             return self._writing(items, out)
         out.expect(len(items))
         out.append(_numbers_at_once(items))

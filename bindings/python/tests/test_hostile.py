@@ -408,7 +408,7 @@ class Order(unittest.TestCase):
     def test_many_formats(self) -> None:
         """What is remembered of formats has an end."""
         registry = Registry({})
-        for size in range(2500):
+        for size in range(1, 2500):
             with self.assertRaises(TextError):
                 registry.encode({"TUPLEARRAY": {"CONTENT": "U8", "SIZE": size + 1}}, [])
         self.assertLessEqual(len(registry._known_formats), 1000)
@@ -485,6 +485,77 @@ class Memory(unittest.TestCase):
             self.assertEqual(
                 (told.returncode, told.stdout, told.stderr), (0, "TooManyNodes True\n", ""), (format, value)
             )
+
+    def test_shared_parts_by_default(self) -> None:
+        """Without limits, too, such values are refused before anything is written. Neither long lists nor bytes are
+        taken for them."""
+        script = (
+            "import resource, sys, time; from bcs_proved import Limits, Registry, TextError\n"
+            "registry = Registry({'T': {'NEWTYPESTRUCT': {'SEQ': {'TYPENAME': 'T'}}},"
+            " 'S': {'STRUCT': [{'a': {'OPTION': {'TYPENAME': 'S'}}}, {'b': {'OPTION': {'TYPENAME': 'S'}}}]}})\n"
+            "resource.setrlimit(resource.RLIMIT_AS, (400_000_000, 400_000_000))\n"
+            "lists, fields, pairs = [], {'a': None, 'b': None}, ()\n"
+            "for _ in range(40):\n"
+            " lists, fields, pairs = [lists, lists], {'a': fields, 'b': fields}, [pairs, (), pairs]\n"
+            "texts = ['x' * 10**6] * 2000\n"
+            "format, value, limits = map(eval, sys.argv[1:])\n"
+            "start = time.process_time()\n"
+            "try:\n"
+            "    registry.encode(format, value, limits)\n"
+            "except TextError as fault:\n"
+            "    print(fault.reason, time.process_time() - start < 20)\n"
+        )
+        for format, value, limits, reason in [
+            ("'T'", "lists", "None", "TooManyNodes"),
+            ("'T'", "[lists]", "Limits(depth=100)", "TooManyNodes"),
+            ("'T'", "lists", "Limits.standard()", "TooManyNodes"),
+            ("'T'", "pairs", "None", "TooManyNodes"),
+            ("'S'", "fields", "None", "TooManyNodes"),
+            (
+                "{'SEQ': {'SEQ': 'UNIT'}}",
+                "[[None] * 5000] * 5000",
+                "None",
+                "TooManyNodes",
+            ),
+            ("{'SEQ': {'SEQ': 'STR'}}", "[texts]", "None", "TooLong"),
+            (
+                "{'SEQ': 'BYTES'}",
+                "[bytes(2**24)] * 100",
+                "Limits.standard()",
+                "TooLong",
+            ),
+        ]:
+            memory = "1_500_000_000" if reason == "TooLong" else "400_000_000"
+            told = run("-c", script.replace("400_000_000", memory), format, value, limits)
+            self.assertEqual(
+                (told.returncode, told.stdout, told.stderr),
+                (0, f"{reason} True\n", ""),
+                (format, value),
+            )
+
+    def test_formats_that_are_remembered(self) -> None:
+        """Formats may come from strangers, so a registry forgets them."""
+        registry = Registry({})
+        for size in range(1, 2500):
+            format = {"TUPLEARRAY": {"CONTENT": "UNIT", "SIZE": size}}
+            self.assertEqual(
+                registry.decode(format, registry.encode(format, [None] * size)),
+                [None] * size,
+            )
+        self.assertTrue(0 < len(registry._known_readers) <= 1000)
+        self.assertTrue(0 < len(registry._known_formats) <= 1000)
+
+    def test_the_default_for_values(self) -> None:
+        """It counts a list and its items, as `limits` do, but no bytes."""
+        registry, most = Registry({}), 16_777_216
+        octets = bytes(most + 1)
+        self.assertEqual(registry.encode({"SEQ": "U8"}, octets)[-len(octets) :], octets)
+        with self.assertRaises(TextError) as raised:
+            registry.encode({"SEQ": "UNIT"}, [None] * (most + 1))
+        self.assertEqual(
+            raised.exception.message,
+            "the value has more nodes than the limit, 16777216",
+        )
 
     def test_the_limit(self) -> None:
         """16 for each byte and 65,536 more; the list itself is one, and so is each unit. Three bytes are the

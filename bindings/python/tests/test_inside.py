@@ -1,5 +1,7 @@
 """The content of byte strings, and what `explain` shows inside them: what Python adds to the calls."""
 
+import json
+import pathlib
 import unittest
 from typing import Any
 
@@ -48,7 +50,20 @@ class Inside(unittest.TestCase):
         self.assertEqual(names(inside={"[0]": "P", "[0][bcs].b": {"TUPLE": ["U8", "U8"]}}), within)
         self.assertEqual(names(), [".", "[0]", "[0]", {"end": 6}])
         self.assertEqual(names(inside={}, calls={}, addresses=[], u256s=(), i256s=set()), names())
-        self.assertEqual(names(inside={"[7]": "P"}), names())
+        self.assertEqual(names(inside={"[7]": "P"}), [".", "[0]", "[0]", "[7]", {"end": 6}])
+
+    def test_calls(self) -> None:
+        """The rows of tests/rows/explain_views.rows have more."""
+        note = {"name": ".", "note": "no list there"}
+        self.assertIn(note, REGISTRY.explain('"U8"', b"\x07", calls={".": "F"}))
+        text = REGISTRY.explain_text('"U8"', b"\x07", calls={".": "F"})
+        self.assertTrue(text.endswith("\nnote: at --call, .: no list there\n"))
+        table = pathlib.Path(__file__).parents[3] / "tests/rows/explain_views.json"
+        rows = json.loads(table.read_text(encoding="utf-8"))
+        data = bytes.fromhex("baba016d036f6e6500010107")
+        end = Registry(rows).explain("Aptos", data, calls={".args": "0x1::m::one"})[-1]
+        want = "arguments of 0x1::m::one, found a call of 0xbaba::m::one"
+        self.assertEqual((end["refused"], end["place"], end["want"]), ("OtherFunction", 9, want))
 
     def test_values_of_move(self) -> None:
         def shown(format: str, **views: Any) -> tuple[str, str]:

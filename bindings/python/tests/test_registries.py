@@ -8,6 +8,7 @@ import subprocess
 import sys
 import tempfile
 import unittest
+import unittest.mock
 from contextlib import redirect_stderr, redirect_stdout
 from typing import Any
 
@@ -254,6 +255,44 @@ class Command(unittest.TestCase):
         for words, given, status, output, errors in rows:
             told = self.run_command(*words, given=given)
             self.assertEqual((*told[:2], told[2][: len(errors)]), (status, output, errors))
+
+    def test_too_large(self) -> None:
+        """A file or standard input has at most 2^28 bytes, and what has more isn't read to its end."""
+        large = self.room / "large.json"
+        with large.open("wb") as file:
+            file.truncate((1 << 28) + 1)
+        self.assertEqual(self.run_command(str(large)), (4, "", f"fault: too large\nin the file {large}\n"))
+        with large.open("rb") as file:
+            words = [sys.executable, "-m", "bcs_proved.registries"]
+            told = subprocess.run(words, stdin=file, capture_output=True, text=True)
+        self.assertEqual((told.returncode, told.stderr), (4, "fault: too large\nin the standard input\n"))
+        with unittest.mock.patch.object(registries, "_LARGEST", 20):
+            for length, expected in [(20, 0), (21, 4)]:
+                registry = '{"A":"UNITSTRUCT"}'.ljust(length)
+                self.assertEqual(self.run_with(self.file("small.json", registry))[0], expected)
+
+    def test_closed_streams(self) -> None:
+        """What is meant for standard error never gets into the answer, and a closed stream is a fault."""
+        yaml = self.file("one.yaml", "A:\n  ENUM:\n    0:\n      X: UNIT\n")
+        whole = {"A": {"ENUM": {"0": {"X": "UNIT"}}}}
+        out = self.room / "out.json"
+        rows: list[tuple[list[str], str, int, str]] = [
+            ([yaml], "2>&-", 0, ""),
+            (["-o", str(out), yaml], "2>&-", 0, ""),
+            (["-o", str(out), yaml], "0<&- 1>&- 2>&-", 0, ""),
+            (["-o", str(out), yaml], "1>&-", 0, f"{yaml}: numbers of variants"),
+            ([yaml], "1>&-", 4, "fault: write\nin the standard output: Bad file descriptor\n"),
+            ([], "0<&-", 4, "fault: read\nin the standard input: Bad file descriptor\n"),
+            (["-o", "/dev/stderr", yaml], "2>&-", 4, ""),
+        ]
+        for words, closed, status, said in rows:
+            out.unlink(missing_ok=True)
+            command = ["sh", "-c", f'exec "$@" {closed}', "sh", sys.executable, "-m", "bcs_proved.registries", *words]
+            told = subprocess.run(command, capture_output=True, text=True)
+            self.assertEqual((told.returncode, said in told.stderr), (status, True), (words, closed, told.stderr))
+            if status == 0:
+                found = out.read_text(encoding="utf-8") if "-o" in words else told.stdout
+                self.assertEqual(json.loads(found), whole, (words, closed))
 
     def test_checks_by_the_module_and_the_program(self) -> None:
         """They report the same."""

@@ -662,6 +662,29 @@ def some(cell: Cell) -> Cell:
     return cell._replace(pointer=f"/some{cell.pointer}") if is_json else cell
 
 
+class OtherList(list):  # type: ignore[type-arg]
+    """Lists that `quick` leaves to `open`."""
+
+
+class Items(unittest.TestCase):
+    def test_numbers_of_items(self) -> None:
+        """No item is left out, and none is added."""
+        pair = ["U8", "U8"]
+        registry = Registry({"P": {"TUPLESTRUCT": pair}, "E": {"ENUM": {"0": {"A": {"TUPLE": pair}}}}})
+        entries = {"MAP": {"KEY": "U8", "VALUE": "U8"}}
+        for items in [[1, 2, 3], (1, 2, 3), [1], (), [1, 2, []], OtherList([1, 2, 3])]:
+            cases: list[tuple[Any, Any, str]] = [
+                ({"TUPLE": pair}, items, ""),
+                ("P", items, ""),
+                ("E", {"A": items}, "/A"),
+                (entries, [(7, 8), items], "/1"),
+            ]
+            for format, value, at in cases:
+                with self.assertRaises(TextError, msg=f"{value} at {format}") as raised:
+                    registry.encode(format, value)
+                self.assertEqual((raised.exception.reason, raised.exception.at), ("BadShape", at))
+
+
 class Table(unittest.TestCase):
     def cell(self, column: str, row: Value) -> Cell:
         takes = COLUMNS[column][1]

@@ -73,26 +73,49 @@ pub struct Pieces {
     pub pieces: Vec<Piece>,
     /// Where the bytes stop being a value; `None` where they are one.
     pub stop: Option<Stop>,
+    /// What was expected there. Of a call of another function than a view names it has both names.
+    pub expected: Option<String>,
+    /// What is to be said about the views, as in `.x: no byte string there`.
+    pub notes: Vec<String>,
 }
 
 impl Pieces {
-    /// What the library explains as JSON, an object per line: the last is the end, or the stop.
+    /// What the library explains as JSON, an object per line: the last is the end, or the stop, and notes come before it.
     pub(crate) fn of(explanation: &Explanation) -> Pieces {
-        let mut lines: Vec<&str> = explanation.text.lines().collect();
-        lines.pop();
-        let pieces = lines.into_iter().map(|line| Piece::of(line).expect("a line of a piece is its object")).collect();
-        Pieces { pieces, stop: explanation.stop }
+        let mut lines: Vec<Object> =
+            explanation.text.lines().map(|line| Object::of(line).expect("an object")).collect();
+        let expected = lines.pop().and_then(|last| last.text("want"));
+        let notes = lines.iter().filter_map(Object::note).collect();
+        lines.retain(|line| line.note().is_none());
+        let pieces = lines.iter().map(|line| Piece::of(line).expect("a line of a piece is its object")).collect();
+        Pieces { pieces, stop: explanation.stop, expected, notes }
+    }
+}
+
+/// A line that the library explains.
+struct Object(Vec<(String, Json)>);
+
+impl Object {
+    fn of(line: &str) -> Option<Object> {
+        Some(Object(members(line)?))
+    }
+
+    fn text(&self, name: &str) -> Option<String> {
+        match &self.0.iter().find(|member| member.0 == name)?.1 {
+            Json::Text(text) | Json::Number(text) => Some(text.clone()),
+            Json::Truth(truth) => Some(truth.to_string()),
+            Json::Null | Json::Other => None,
+        }
+    }
+
+    fn note(&self) -> Option<String> {
+        Some(format!("{}: {}", self.text("name")?, self.text("note")?))
     }
 }
 
 impl Piece {
-    fn of(line: &str) -> Option<Piece> {
-        let members = members(line)?;
-        let text = |name: &str| match &members.iter().find(|member| member.0 == name)?.1 {
-            Json::Text(text) | Json::Number(text) => Some(text.clone()),
-            Json::Truth(truth) => Some(truth.to_string()),
-            Json::Null | Json::Other => None,
-        };
+    fn of(line: &Object) -> Option<Piece> {
+        let text = |name: &str| line.text(name);
         Some(Piece {
             place: text("place")?.parse().ok()?,
             bytes: hex::bytes_of(&text("bytes")?)?,

@@ -98,6 +98,8 @@ faults! {
         TrailingBytes = 412: "there are bytes after the value",
         TooManyNodes = 413: "the value has more nodes than the limits allow",
         Unsupported = 414: "no value has the format F32, F64 or CHAR",
+        BadPath = 601: "a view has the arguments of a function in a list that isn't one of byte strings",
+        OtherFunction = 603: "another function is called than a view names",
     }
 }
 

@@ -16,8 +16,8 @@ pub struct Limits {
     /// and a container's row of fields. A number is used as it is.
     ///
     /// `None` sets the limit by what a call reads. For bytes it is 16 nodes per byte plus 65,536, or fewer if the registry has
-    /// a name of more than 64 bytes, so that a few hostile bytes can't become gigabytes. For JSON and values, which are at least
-    /// as large as what they become, it is 4294967295.
+    /// a name of more than 64 bytes, so that a few hostile bytes can't become gigabytes. For values it is 16777216, of which the
+    /// bytes of lists of `U8` are none. For JSON, which is at least as large as what it becomes, it is 4294967295.
     pub nodes: Option<u32>,
 }
 
@@ -29,6 +29,12 @@ impl Limits {
     /// The nodes that a value may have whose JSON is read.
     pub(crate) fn nodes_of_text(self) -> u32 {
         self.nodes.unwrap_or(u32::MAX)
+    }
+
+    /// The nodes that a value of a type may have. Few objects have any number if parts are shared.
+    #[cfg(feature = "serde_json")]
+    pub(crate) fn nodes_of_value(self) -> u32 {
+        self.nodes.unwrap_or(if cfg!(test) { 1 << 12 } else { 1 << 24 })
     }
 }
 

@@ -7,7 +7,7 @@ use crate::error::ErrorKind;
 use crate::integers::U8;
 use crate::mismatch::Mismatch;
 use crate::shapes::Shape;
-use crate::wanted::{Fault, Kind, fault, narrow, option_fault, struct_fault};
+use crate::wanted::{Fault, Kind, fault, loss, option_fault, struct_fault, width_fault};
 use serde::de::value::MapDeserializer;
 use serde::de::{IntoDeserializer, Unexpected, Visitor};
 use std::cell::{Cell, RefCell};
@@ -17,6 +17,8 @@ use std::{iter, ptr};
 /// No format has characters or floats.
 const CHARACTER: char = '\u{10ffff}';
 const FLOAT: f64 = 0.5;
+/// No string has this byte.
+const BYTES: [u8; 1] = [0xff];
 
 /// A value with at most this many parts is checked part by part, which takes quadratic time. Of a larger one the first part of each
 /// format is checked.
@@ -46,7 +48,7 @@ pub(crate) fn count_error() {
 /// Counts an error, and records what the type wanted if it found a stand-in.
 pub(crate) fn record(found: Unexpected, wanted: impl Fn() -> String) {
     ERRORS.with_borrow_mut(|errors| {
-        if matches!(found, Unexpected::Char(CHARACTER)) || found == Unexpected::Float(FLOAT) {
+        if [Unexpected::Char(CHARACTER), Unexpected::Float(FLOAT), Unexpected::Bytes(&BYTES)].contains(&found) {
             errors.wanted.push((errors.count, wanted()));
         }
         errors.count += 1;
@@ -56,14 +58,16 @@ pub(crate) fn record(found: Unexpected, wanted: impl Fn() -> String) {
 /// What replaces a part.
 #[derive(Clone, Copy)]
 pub(crate) enum StandIn {
-    /// In the place of a number, since an `f64` takes floats.
+    /// In the place of a number, too, since an `f64` takes floats.
     Character,
-    /// In the place of anything else, since a `char` takes characters.
+    /// A `char` takes characters.
     Float,
     /// Only an `Option` looks into it.
     InSome,
     /// Of the types that take lists, only structs look into it.
     Map,
+    /// `serde_json::Value` takes the others.
+    Bytes,
 }
 
 impl StandIn {
@@ -72,7 +76,7 @@ impl StandIn {
         match kind {
             Kind::Unit | Kind::Bool => &[InSome],
             Kind::Name | Kind::Option => &[Float],
-            _ if kind.is_number() => &[Character, InSome],
+            _ if kind.is_number() => &[Character, Float, InSome],
             _ if kind.is_list() => &[Float, InSome, Map],
             _ => &[Float, InSome],
         }
@@ -84,6 +88,7 @@ impl StandIn {
             StandIn::Float => visitor.visit_f64(FLOAT),
             StandIn::InSome => visitor.visit_some(CHARACTER.into_deserializer()),
             StandIn::Map => visitor.visit_map(MapDeserializer::new(iter::once((CHARACTER, CHARACTER)))),
+            StandIn::Bytes => visitor.visit_bytes(&BYTES),
         }
     }
 }
@@ -201,19 +206,29 @@ impl Probe {
         if !self.has_buffers.get() {
             return Ok(());
         }
-        let (result, errors) = self.read_with(Reading::List, &read);
+        let (result, Errors { count, .. }) = self.read_with(Reading::List, &read);
         result?;
-        let has_errors = errors.count > 0;
         let parts = self.parts.take();
         let is_small = parts.len() <= MOST_PARTS;
+        let mut lost = None;
         for part in parts.iter().filter(|part| is_small || part.is_first_of_format) {
             let id = (!is_small).then_some(part.id);
-            if let Some(fault) = self.fault_of(part, id, has_errors, &read)? {
-                self.read_with(Reading::Reject(part.number, fault), &read).0?;
-                return Err(Mismatch::new("a type read a value that isn't of its kind"));
+            if let Some(fault) = self.fault_of(part, id, count > 0, &read)? {
+                return self.reject(part, fault, &read);
+            }
+            match self.loss_of(part, id, count, &read) {
+                // The part itself may be right, and be lost with another one.
+                Some(Fault::Lost) => lost = lost.or(Some(part)),
+                Some(fault) => return self.reject(part, fault, &read),
+                None => {}
             }
         }
-        Ok(())
+        lost.map_or(Ok(()), |part| self.reject(part, Fault::Lost, &read))
+    }
+
+    fn reject(&self, part: &Part, fault: Fault, read: impl Fn() -> Result<(), Mismatch>) -> Result<(), Mismatch> {
+        self.read_with(Reading::Reject(part.number, fault), &read).0?;
+        Err(Mismatch::new("a type read a value that isn't of its kind"))
     }
 
     /// Why a type doesn't fit a part that it has. If the value is read without any error, then each untagged enum has its first
@@ -235,16 +250,39 @@ impl Probe {
                 |any: bool| wanted.iter().filter(move |(before, _)| any || *before == 0).map(|(_, word)| &**word);
             let fault = match stand_in {
                 StandIn::Character | StandIn::Float => {
-                    fault(kind, is_empty, words(has_errors)).or_else(|| narrow(kind, words(true)))
+                    fault(kind, is_empty, words(has_errors)).or_else(|| width_fault(kind, words(true)))
                 }
                 StandIn::InSome => option_fault(kind, is_empty, words(has_errors)),
-                StandIn::Map => struct_fault(words(has_errors)),
+                StandIn::Map | StandIn::Bytes => struct_fault(words(has_errors)),
             };
             if fault.is_some() {
                 return Ok(fault);
             }
         }
         Ok(None)
+    }
+
+    /// Why a part is in no type that tried to read it. A flattened `Option` is `None` whatever its content rejects, and an untagged
+    /// enum may have a variant without a field that another one rejects. Then there are no more errors with values that types reject.
+    fn loss_of(
+        &self,
+        part: &Part,
+        id: Option<Id>,
+        errors: usize,
+        read: impl Fn() -> Result<(), Mismatch>,
+    ) -> Option<Fault> {
+        if errors == 0 || part.kind == Kind::Name {
+            return None;
+        }
+        let mut first = None;
+        for stand_in in [StandIn::Float, StandIn::Character, StandIn::Bytes] {
+            let (result, Errors { count, wanted }) = self.read_with(Reading::One(part.number, id, stand_in), &read);
+            if result.is_err() || count > errors {
+                return None;
+            }
+            first = first.or(wanted.into_iter().next().filter(|_| count == errors));
+        }
+        first.map(|(_, wanted)| loss(part.kind, part.is_empty, &wanted))
     }
 
     /// Reads the value once more, and returns the errors of its types.

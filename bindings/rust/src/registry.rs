@@ -517,7 +517,9 @@ impl Registry {
         Ok(Explanation { text: into_text(text), stop: stop(answer) })
     }
 
-    /// What the bytes are, piece by piece, also inside of byte strings, as the [`Views`] say.
+    /// What the bytes are, piece by piece, also inside of byte strings, as the [`Views`] say. If another function is called than a view
+    /// names, the pieces stop before its arguments ([`Reason::OtherFunction`](crate::Reason::OtherFunction)). The notes say which views
+    /// found nothing, and which functions weren't compared.
     ///
     /// ```
     /// use bcs_proved::{Registry, Views};
@@ -537,7 +539,7 @@ impl Registry {
         Ok(Pieces::of(&self.explain_text_with(format, bytes, Form::Json, views)?))
     }
 
-    /// The same as a text for people to read.
+    /// The same as a text for people to read. Each note is a line at its end, or in JSON an object before the last one.
     pub fn explain_text_with(
         &self,
         format: impl Into<Format>,
@@ -548,7 +550,8 @@ impl Registry {
         let (format, bytes, lines) = (format.into(), bytes.as_ref(), views.lines()?);
         let room = bytes.len().saturating_mul(24).saturating_add(1024);
         let question = self.of_bytes(&format, bytes);
-        let explained = fill(room, |out| self.open.explain_with(question, form.number(), &lines, bytes, out));
+        let form = form.number() + sys::NOTES;
+        let explained = fill(room, |out| self.open.explain_with(question, form, &lines, bytes, out));
         let (text, answer) = explained.map_err(|error| self.in_views(error, question, &format, views))?;
         Ok(Explanation { text: into_text(text), stop: stop(answer) })
     }

@@ -469,7 +469,9 @@ struct ObjectMembers<'w> {
     normal: &'w Normal<'w>,
     /// Where the next name begins, or the object ends.
     place: usize,
+    /// How many names were met, and how many values read.
     count: usize,
+    read: usize,
     /// The member whose name was read, and where its value begins.
     next: Option<(&'w Member, usize)>,
 }
@@ -481,12 +483,11 @@ fn visit_members<'de, 'w, V: Visitor<'de>>(
     start: usize,
     visitor: V,
 ) -> Result<V::Value, Mismatch> {
-    let mut object = ObjectMembers { at, members, normal, place: start + 1, count: 0, next: None };
+    let mut object = ObjectMembers { at, members, normal, place: start + 1, count: 0, read: 0, next: None };
     let value = visitor.visit_map(&mut object)?;
-    let read = object.count;
     while object.next_member()?.is_some() {}
     normal.note(start, object.place + 1);
-    whole(value, object.count, object.count - read)
+    whole(value, object.count, object.count - object.read)
 }
 
 impl<'w> ObjectMembers<'w> {
@@ -529,6 +530,7 @@ impl<'de> MapAccess<'de> for ObjectMembers<'_> {
             value.map_err(|error| error.under(&member.name))
         });
         self.place = self.normal.next(start);
+        self.read += 1;
         value
     }
 }
@@ -559,7 +561,8 @@ fn visit_entries<'de, 'w, V: Visitor<'de>>(
     if let Values::Json(_, place) = rest {
         normal.note(start, place + 1);
     }
-    whole(value, entries.begun + left, left)
+    let length = entries.begun + left;
+    whole(value, length, length - entries.count)
 }
 
 impl Entries<'_> {

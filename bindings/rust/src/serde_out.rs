@@ -97,7 +97,8 @@ impl<'w> Writer<'w> {
         if self.out.len() > MOST_JSON {
             return Err(Mismatch::new("the value would be more than 1 GiB of JSON"));
         }
-        Ok(Writer { at: self.at.part(shape)?, nested: self.nested, is_octet, out: &mut *self.out })
+        let at = if is_octet { self.at.octet(shape)? } else { self.at.part(shape)? };
+        Ok(Writer { at, nested: self.nested, is_octet, out: &mut *self.out })
     }
 
     /// Writes a part of the value. The code of a type may drop the error of a part, and would have a value without it.
@@ -274,7 +275,7 @@ impl<'w> Serializer for Writer<'w> {
             return self.put(Kind::Bytes, "bytes", "");
         }
         if self.at.shape.is_octets() {
-            self.at.walk.count(bytes.len())?;
+            self.at.walk.count_octets(bytes.len())?;
         }
         self.out.push('"');
         hex::push_digits(self.out, bytes);
@@ -601,7 +602,20 @@ impl ser::SerializeMap for Entries<'_> {
 
 #[cfg(test)]
 mod tests {
-    use crate::{ErrorKind, Registry};
+    use crate::{Bytes, ErrorKind, Registry, TextFault};
+
+    #[test]
+    fn nodes_have_a_default_limit_and_bytes_have_none() {
+        let registry = Registry::read("{}").unwrap();
+        let octets = vec![7_u8; 1 << 13];
+        for format in [r#"{"SEQ":"U8"}"#, r#"{"TUPLEARRAY":{"CONTENT":"U8","SIZE":8192}}"#] {
+            assert!(registry.encode(format, &octets).is_ok());
+            assert!(registry.encode(format, &Bytes(octets.clone())).is_ok());
+        }
+        assert!(registry.encode(r#"{"SEQ":"UNIT"}"#, &vec![(); 1 << 12]).is_ok());
+        let error = registry.encode(r#"{"SEQ":"UNIT"}"#, &vec![(); 1 << 13]).unwrap_err();
+        assert_eq!(error.kind(), ErrorKind::Text(TextFault::TooManyNodes));
+    }
 
     #[test]
     fn shared_text_ends_at_the_greatest_size() {

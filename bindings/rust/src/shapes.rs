@@ -232,13 +232,21 @@ pub(crate) struct Walk<'w> {
     pub(crate) probe: Probe,
     /// How many more nodes the value may have.
     nodes: Cell<u64>,
+    /// Whether the bytes of a list of `U8` are nodes. By default they aren't, since they cost little.
+    counts_octets: bool,
     /// Whether a part couldn't be written.
     has_failed: Cell<bool>,
 }
 
 impl<'w> Walk<'w> {
-    pub(crate) fn new(shapes: &'w Shapes, has_stack: &'w dyn Fn() -> bool, nodes: u64) -> Walk<'w> {
-        Walk { shapes, has_stack, probe: Probe::new(), nodes: Cell::new(nodes), has_failed: Cell::new(false) }
+    pub(crate) fn new(
+        shapes: &'w Shapes,
+        has_stack: &'w dyn Fn() -> bool,
+        nodes: u64,
+        counts_octets: bool,
+    ) -> Walk<'w> {
+        let (nodes, has_failed) = (Cell::new(nodes), Cell::new(false));
+        Walk { shapes, has_stack, probe: Probe::new(), nodes, counts_octets, has_failed }
     }
 
     /// Counts nodes. The library counts each, but only once it has the JSON, and that of a value with shared parts may be
@@ -248,6 +256,12 @@ impl<'w> Walk<'w> {
         let left = self.nodes.get().checked_sub(nodes as u64).ok_or_else(Mismatch::too_many_nodes)?;
         self.nodes.set(left);
         Ok(())
+    }
+
+    /// Counts bytes of a list of `U8`.
+    #[inline]
+    pub(crate) fn count_octets(&self, octets: usize) -> Result<(), Mismatch> {
+        if self.counts_octets { self.count(octets) } else { Ok(()) }
     }
 
     pub(crate) fn fail(&self) {
@@ -280,6 +294,15 @@ impl<'w> At<'w> {
     #[inline]
     pub(crate) fn to(self, shape: &'w Shape) -> At<'w> {
         At { shape, ..self }
+    }
+
+    /// At a byte that is written as digits.
+    #[inline]
+    pub(crate) fn octet(self, shape: &'w Shape) -> Result<At<'w>, Mismatch> {
+        if !matches!(shape, Shape::Octet) {
+            self.walk.count_octets(1)?;
+        }
+        Ok(self.to(shape))
     }
 
     /// At a part, which is counted. Each level calls the code of a type, so the stack is checked every few levels, except at the

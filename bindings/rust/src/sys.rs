@@ -21,6 +21,7 @@ pub(crate) const WAYS: u32 = 0;
 pub(crate) const PATHS: u32 = 1;
 pub(crate) const TREE: u32 = 2;
 pub(crate) const JSON: u32 = 3;
+pub(crate) const NOTES: u32 = 4;
 
 // What an example has in options, lists and maps: `enum bcs_example`.
 pub(crate) const LEAST: u32 = 0;

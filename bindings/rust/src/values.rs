@@ -83,9 +83,10 @@ impl Registry {
     pub fn encode<T: Serialize + ?Sized>(&self, format: impl Into<Format>, value: &T) -> Result<Vec<u8>, Error> {
         let format = format.into();
         let has_stack = || self.has_stack();
-        let walk = self.walk(&has_stack, self.limits().nodes_of_text().into());
+        let limits = self.limits();
+        let walk = self.walk(&has_stack, limits.nodes_of_value().into(), limits.nodes.is_some());
         let shape = walk.shapes.format(format.as_json());
-        match json_of(value, At::new(&shape, &walk, self.limits().depth)) {
+        match json_of(value, At::new(&shape, &walk, limits.depth)) {
             Ok(text) => self.encode_json(format, text),
             // A format that the registry doesn't have is reported before what the value is.
             Err(mismatch) => self.check(format).and(Err(mismatch.into())),
@@ -114,7 +115,7 @@ impl Registry {
         let format = format.into();
         let text = self.decode_json(&format, bytes)?;
         let has_stack = || self.has_stack();
-        let walk = self.walk(&has_stack, u64::MAX);
+        let walk = self.walk(&has_stack, u64::MAX, true);
         let shape = walk.shapes.format(format.as_json());
         let at = At::new(&shape, &walk, self.limits().depth);
         let read = || value_of::<T>(&text, at);
@@ -140,8 +141,8 @@ impl Registry {
         Ok((limited.decode(&format, &bytes[..length])?, length))
     }
 
-    fn walk<'w>(&'w self, has_stack: &'w dyn Fn() -> bool, nodes: u64) -> Walk<'w> {
-        Walk::new(self.shapes.get_or_init(|| Shapes::read(self.text())), has_stack, nodes)
+    fn walk<'w>(&'w self, has_stack: &'w dyn Fn() -> bool, nodes: u64, counts_octets: bool) -> Walk<'w> {
+        Walk::new(self.shapes.get_or_init(|| Shapes::read(self.text())), has_stack, nodes, counts_octets)
     }
 
     /// Whether the thread has stack left. Rust doesn't know, and the library does: no call succeeds without some of it.

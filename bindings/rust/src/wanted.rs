@@ -15,8 +15,8 @@ pub(crate) enum Kind {
     Bytes,
     Octet,
     Option,
-    /// A list of the word of an integer type. Bytes fit it if a `u8` does.
-    Numbers,
+    /// A list of the word `U8`, which bytes fit, too.
+    Octets,
     List,
     Map,
     Struct,
@@ -34,7 +34,7 @@ impl Kind {
             Shape::Bytes => Kind::Bytes,
             Shape::Octet => Kind::Octet,
             Shape::Option(_) => Kind::Option,
-            Shape::Seq(content) | Shape::Array(content) if matches!(**content, Shape::Integer(_)) => Kind::Numbers,
+            Shape::Seq(_) | Shape::Array(_) if shape.is_octets() => Kind::Octets,
             Shape::Seq(_) | Shape::Array(_) | Shape::Tuple(_) | Shape::Entry(_) => Kind::List,
             Shape::Map(_) => Kind::Map,
             Shape::Struct(_) => Kind::Struct,
@@ -48,7 +48,7 @@ impl Kind {
     }
 
     pub(crate) fn is_list(self) -> bool {
-        matches!(self, Kind::Bytes | Kind::Numbers | Kind::List)
+        matches!(self, Kind::Bytes | Kind::Octets | Kind::List)
     }
 }
 
@@ -59,6 +59,10 @@ pub(crate) enum Fault {
     /// An integer type for a byte of `BYTES`.
     Octet(Integer),
     Narrow(Integer),
+    /// An integer type for the large numbers of a format, and for larger ones that `encode` rejects.
+    Wide(Integer),
+    /// No type has the part.
+    Lost,
 }
 
 impl Fault {
@@ -66,7 +70,11 @@ impl Fault {
         match (self, shape) {
             (Fault::Type(found), _) => Mismatch::unfit(shape, found),
             (Fault::Narrow(integer), Shape::Integer(format)) => Mismatch::narrow(integer.rust, format.format),
-            (Fault::Octet(integer) | Fault::Narrow(integer), _) => Mismatch::unfit(shape, &integer.found()),
+            (Fault::Wide(integer), Shape::Integer(format)) => Mismatch::narrow(format.format, integer.rust),
+            (Fault::Lost, _) => Mismatch::unfit(shape, "a type that leaves it out"),
+            (Fault::Octet(integer) | Fault::Narrow(integer) | Fault::Wide(integer), _) => {
+                Mismatch::unfit(shape, &integer.found())
+            }
         }
     }
 }
@@ -174,13 +182,13 @@ fn fit(kind: Kind, of: Type, is_empty: bool) -> Fit {
         (Kind::Enum, Text | Char | Bytes | Map | Struct | FieldName | VariantName | Address) => Fit::Mistakes,
         (Kind::Option, UnitVariant) => Fit::Mistakes,
         (Kind::Bytes, List) | (Kind::List, Bytes) => Fit::Mistakes,
-        (Kind::Bytes | Kind::Numbers, Bytes) | (Kind::Numbers | Kind::List, List) => Fit::Takes,
-        (Kind::Bytes | Kind::Numbers | Kind::List, Tuple) => Fit::Takes,
-        (Kind::Bytes | Kind::Numbers | Kind::List | Kind::Map, Struct) => Fit::Mistakes,
+        (Kind::Bytes | Kind::Octets, Bytes) | (Kind::Octets | Kind::List, List) => Fit::Takes,
+        (Kind::Bytes | Kind::Octets | Kind::List, Tuple) => Fit::Takes,
+        (Kind::Bytes | Kind::Octets | Kind::List | Kind::Map, Struct) => Fit::Mistakes,
         (Kind::Map | Kind::Struct, Enum) => Fit::Mistakes,
         (Kind::Map | Kind::Struct, Map) | (Kind::Struct, Struct) => Fit::Takes,
         (Kind::Map | Kind::Struct, Unit) if is_empty => Fit::Mistakes,
-        (Kind::Bytes | Kind::Numbers | Kind::List | Kind::Map | Kind::Struct, UnitStruct) if is_empty => Fit::Mistakes,
+        (Kind::Bytes | Kind::Octets | Kind::List | Kind::Map | Kind::Struct, UnitStruct) if is_empty => Fit::Mistakes,
         (_, Other) => Fit::Takes,
         _ => Fit::Rejects,
     }
@@ -195,15 +203,28 @@ pub(crate) fn fault<'t>(kind: Kind, is_empty: bool, mut wanted: impl Iterator<It
     }
 }
 
-/// The integer type that doesn't hold the format. One that does is enough, since an untagged enum may have one for small numbers and
-/// another for the rest.
-pub(crate) fn narrow<'t>(kind: Kind, wanted: impl Iterator<Item = &'t str>) -> Option<Fault> {
+/// The integer type that has numbers of the format and isn't for it. One type has to hold the format. An untagged enum may have
+/// several, and each number goes to the first that holds it: then `encode` has to accept all of them.
+pub(crate) fn width_fault<'t>(kind: Kind, wanted: impl Iterator<Item = &'t str>) -> Option<Fault> {
     let Kind::Integer(format) = kind else {
         return None;
     };
     let integers: Vec<Integer> = wanted.filter_map(integer_of).collect();
-    let holds = integers.iter().any(|integer| integer.holds(format));
-    integers.first().filter(|_| !holds).copied().map(Fault::Narrow)
+    let fault = |of: &Integer| if of.holds(format) { Fault::Wide(*of) } else { Fault::Narrow(*of) };
+    match integers.iter().position(|integer| integer.holds(format)) {
+        None => integers.first().map(fault),
+        Some(0) => None,
+        Some(last) => integers[..=last].iter().find(|integer| !format.holds(**integer)).map(fault),
+    }
+}
+
+/// Why a type that is wanted is left out.
+pub(crate) fn loss(kind: Kind, is_empty: bool, wanted: &str) -> Fault {
+    let of = Type::of(wanted);
+    match fit(kind, of, is_empty) {
+        Fit::Takes => Fault::Lost,
+        Fit::Rejects | Fit::Mistakes => Fault::Type(of.found()),
+    }
 }
 
 /// Whether an `Option` is wanted, by what is wanted within `Some`. An option takes a unit for `None`, whatever it holds.

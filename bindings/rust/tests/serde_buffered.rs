@@ -128,8 +128,13 @@ fn widths_are_rejected_by_their_type() {
     rejected::<i64>(r#""U64""#, SEVEN, "i64 doesn't hold every U64");
     rejected::<NonZeroU8>(r#""U16""#, "0700", "u8 doesn't hold every U16");
     rejected::<Vec<u8>>(r#"{"SEQ":"U16"}"#, "010700", "u8 doesn't hold every U16");
-    rejected::<Bytes>(r#"{"SEQ":"U16"}"#, "010700", "u8 doesn't hold every U16");
+    rejected::<Bytes>(r#"{"SEQ":"U16"}"#, "010700", "SEQ takes a list, not bytes");
     rejected::<Either<u8, u16>>(r#""U64""#, SEVEN, "u8 doesn't hold every U64");
+    // A number must be one that `encode` accepts, whichever variant has it.
+    rejected::<Either<i64, u64>>(r#""U64""#, SEVEN, "i64 doesn't hold every U64");
+    rejected::<Either<i64, u64>>(r#""U64""#, "ffffffffffffffff", "i64 doesn't hold every U64");
+    rejected::<Either<char, u64>>(r#""I64""#, SEVEN, "u64 doesn't hold every I64");
+    rejected::<Either<u16, u64>>(r#""U32""#, "07000000", "U32 doesn't hold every u64");
 }
 
 #[test]
@@ -394,11 +399,12 @@ fn names_are_strings() {
     assert_eq!((error.at(), error.message()), (Some(""), "MAP takes a map, not a struct"));
 }
 
-/// A value is read once, once to list its parts, and up to three times for each part, of which a large value has one for each format.
+/// A value is read once, once to list its parts, and up to three times for each part, of which a large value has one for each
+/// format. (Where types rejected something, it is read up to three times more for each.)
 #[test]
 fn a_value_is_read_a_few_times() {
     let registry = registry(r#"{"SEQ":{"TUPLE":["U8","U16","BYTES"]}}"#);
-    for (count, most) in [(1, 9), (2, 28), (120, 2 * 120 + 7)] {
+    for (count, most) in [(1, 11), (2, 36), (120, 3 * 120 + 7)] {
         let input = [&[9, count][..], &[7, 1, 0, 0].repeat(count.into())].concat();
         READINGS.set(0);
         let flat: Flat<Rest<Vec<(Counted, u16, Bytes)>>> = registry.decode("S", input).unwrap();

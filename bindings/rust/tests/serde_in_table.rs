@@ -1,7 +1,7 @@
 //! Each kind of format as each `serde` type: its value, or a rejection that names the format.
 #![cfg(feature = "serde_json")]
 
-use bcs_proved::{Bytes, ErrorKind, Format, Hex};
+use bcs_proved::{Bytes, ErrorKind, Format, Hex, Registry};
 use serde::Deserialize;
 use serde::de::{DeserializeOwned, Deserializer, IgnoredAny, MapAccess, SeqAccess, Visitor};
 use serde_json::Value;
@@ -359,4 +359,39 @@ impl<'de> Visitor<'de> for First {
 #[test]
 fn elements_that_are_left_are_an_error() {
     row::<First>(&["BYTES", "{STR: U8}", "{U8: BOOL}", "Shape"].map(|name| (name, "First")), &[]);
+}
+
+/// A type that reads names and keys, and no values.
+#[derive(Debug)]
+struct Keys;
+
+impl<'de> Deserialize<'de> for Keys {
+    fn deserialize<D: Deserializer<'de>>(deserializer: D) -> Result<Keys, D::Error> {
+        deserializer.deserialize_map(Keys)
+    }
+}
+
+impl<'de> Visitor<'de> for Keys {
+    type Value = Keys;
+
+    fn expecting(&self, f: &mut fmt::Formatter) -> fmt::Result {
+        f.write_str("keys")
+    }
+
+    fn visit_map<A: MapAccess<'de>>(self, mut map: A) -> Result<Keys, A::Error> {
+        while map.next_key::<IgnoredAny>()?.is_some() {}
+        Ok(Keys)
+    }
+}
+
+#[test]
+fn entries_that_are_left_are_an_error() {
+    let registry = Registry::read(r#"{"Point":{"STRUCT":[{"x":"U8"},{"y":"U8"}]}}"#).unwrap();
+    for (format, data) in [(r#"{"MAP":{"KEY":"U8","VALUE":"BOOL"}}"#, &[2, 7, 1, 8, 0][..]), ("Point", &[7, 8])] {
+        let error = registry.decode::<First>(format, data).unwrap_err();
+        assert!(error.message().starts_with("the type takes 1 of 2 elements"), "{error}");
+        let error = registry.decode::<Keys>(format, data).unwrap_err();
+        assert!(error.message().starts_with("the type takes 0 of 2 elements"), "{error}");
+    }
+    registry.decode::<IgnoredAny>("Point", [7, 8]).unwrap();
 }

@@ -491,6 +491,11 @@ enum Other {
 }
 
 #[derive(serde::Serialize)]
+enum Longer {
+    Rest(u8, u16, u8),
+}
+
+#[derive(serde::Serialize)]
 #[serde(tag = "Circle")]
 enum Tagged {
     Dot { x: u8 },
@@ -512,6 +517,7 @@ fn variants_are_variants() {
     row("a variant", Other::DotOfUnit(()), "Shape = 00");
     row("a variant", Other::DotOfOne(7), "Shape @ /Dot UNIT takes (), not a u8");
     row("a variant", Other::Circle, "Shape ! BadShape");
+    row("a variant", Longer::Rest(1, 2, 3), "Shape ! BadShape");
     row("a variant", Other::Rest { a: 7 }, "Shape @ /Rest TUPLE takes a tuple, not a struct");
     row("a variant", Other::Named(1, 2), "Shape @ /Named STRUCT takes a struct, not a tuple");
     row("a variant", Other::Some(7), "Shape ! UnknownVariant");

@@ -6,6 +6,7 @@ use common::processor_time;
 use serde::Serialize;
 use serde::ser::{SerializeSeq, Serializer};
 use std::collections::BTreeMap;
+use std::fs;
 use std::time::Duration;
 
 mod common;
@@ -93,4 +94,35 @@ fn no_node_is_counted_twice() {
     has_nodes(r#"{"MAP":{"KEY":"U8","VALUE":"BOOL"}}"#, &BTreeMap::from([(1u8, true), (2, false)]), 5);
     has_nodes("Choice", &Choice::One(1), 3);
     has_nodes("Choice", &Choice::Two { a: 1, b: 2 }, 5);
+}
+
+/// Lists in one another, each twice in the next: 2^levels of them.
+struct Twice(u32);
+
+impl Serialize for Twice {
+    fn serialize<S: Serializer>(&self, serializer: S) -> Result<S::Ok, S::Error> {
+        let mut items = serializer.serialize_seq(None)?;
+        for _ in 0..if self.0 == 0 { 0 } else { 2 } {
+            items.serialize_element(&Twice(self.0 - 1))?;
+        }
+        items.end()
+    }
+}
+
+/// The greatest memory that this process has used, in MiB.
+fn peak() -> usize {
+    let status = fs::read_to_string("/proc/self/status").unwrap();
+    let peak = status.lines().find_map(|line| line.strip_prefix("VmHWM:")?.trim().strip_suffix(" kB")).unwrap();
+    peak.parse::<usize>().unwrap() >> 10
+}
+
+/// Without limits, too.
+#[test]
+fn shared_parts_cost_little_by_default() {
+    let registry = Registry::read(r#"{"T":{"NEWTYPESTRUCT":{"SEQ":{"TYPENAME":"T"}}}}"#).unwrap();
+    let start = processor_time();
+    let error = registry.encode("T", &Twice(40)).unwrap_err();
+    assert_eq!(refusal(&error), (ErrorKind::Text(TextFault::TooManyNodes), Some("")));
+    assert!(processor_time() - start < Duration::from_secs(30));
+    assert!(peak() < 400, "{} MiB", peak());
 }

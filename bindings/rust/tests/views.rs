@@ -45,6 +45,23 @@ fn views_keep_their_order() {
 }
 
 #[test]
+fn calls_are_compared() {
+    let table = concat!(env!("CARGO_MANIFEST_DIR"), "/../../tests/rows/explain_views.json");
+    let registry = Registry::read(std::fs::read_to_string(table).unwrap()).unwrap();
+    let views = Views::new().inside(".x", r#""U8""#).call(".args", "0x1::m::one");
+    let call = |address| [address, b"\x01m\x03one\x00\x01\x01\x07".as_slice()].concat();
+    let same = registry.explain_with("Aptos", call(b"\x00\x01".as_slice()), &views).unwrap();
+    assert_eq!(same.pieces.last().unwrap().name, ".args[0][bcs]");
+    assert_eq!((same.stop, same.expected, same.notes), (None, None, vec![".x: no byte string there".to_owned()]));
+    let other = registry.explain_with("Aptos", call(b"\xba\xba".as_slice()), &views).unwrap();
+    let both = "arguments of 0x1::m::one, found a call of 0xbaba::m::one";
+    assert_eq!(other.stop, Some(Stop { reason: Reason::OtherFunction, place: 9 }));
+    assert_eq!((other.expected.as_deref(), other.notes), (Some(both), vec![]));
+    let refused = registry.explain_with(r#"{"SEQ":"U16"}"#, [0], &Views::new().call(".", "0x1::m::one")).unwrap();
+    assert_eq!(refused.stop, Some(Stop { reason: Reason::BadPath, place: 0 }));
+}
+
+#[test]
 fn views_are_refused() {
     let unknown = ErrorKind::Format(RegistryFault::UnknownName);
     let shape = ErrorKind::Format(RegistryFault::BadShape);

@@ -114,6 +114,9 @@ static const struct {
     {"select hex(bcs_part(" REGISTRY ",'A',x'0701036F6E65','inner/1/0'))", "036F6E65"},
     {"select bcs_part_place(" REGISTRY ",'A',x'0701036F6E65','inner/1/0')", "2"},
     {"select bcs_part(" REGISTRY ",'A',x'0701036F6E65','inner/1/1')", "null"},
+    /* The part outlives the bytes that it comes from, which SQLite frees at the next row. */
+    {"select hex(max(bcs_part(" REGISTRY ",'A',bcs_encode(" REGISTRY ",'A','{\"x\":7,\"y\":[\"' || word || '\"]}'),'inner/1/0')))"
+     " from (select 'two' as word union all select 'one' union all select 'six')", "0374776F"},
     {"select hex(bcs_part_by_name(" REGISTRY ",'A',x'0701036F6E65','.y[0]'))", "036F6E65"},
     {"select bcs_part_by_name(" REGISTRY ",'A',x'0701036F6E65','.y[1]')", "null"},
     {"select hex(bcs_part_by_pointer(" REGISTRY ",'A',x'0701036F6E65','/y/0'))", "036F6E65"},

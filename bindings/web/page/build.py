@@ -30,7 +30,7 @@ WORKER += ["../format_calls", "../registry", "../support", "../modules", "../loa
 WORKER += ["names", "wrong_digits", "coding", "advice", "roots", "layout", "blank", "outline", "arguments"]
 WORKER += ["joined_registry", "worker"]
 SCRIPT = ["../hex", "../octets", "../support", "names", "wrong_digits", "coding", "reasons", "lights", "link", "pane"]
-SCRIPT += ["places", "questions", "digits", "tree"]
+SCRIPT += ["places", "questions", "digits", "tree", "kept"]
 SCRIPT += ["main"]
 
 # The title, the registry, the container, the side, and the file with the value; without a file the value is blank.

@@ -1,7 +1,7 @@
 // Bytes as the page shows them: hexadecimal digits or base64. Which of the two is chosen, and never guessed.
 import { bytesOfHex, hexOf } from '../hex.mjs';
 import { fromBase64, toBase64 } from '../octets.mjs';
-import { wrongBase64, wrongDigits } from './wrong_digits.mjs';
+import { isDump, wrongBase64, wrongDigits } from './wrong_digits.mjs';
 
 /** Bytes as a text. */
 export function coded(bytes, coding) {
@@ -13,15 +13,18 @@ export function coded(bytes, coding) {
  * if a character is wrong, its `place`.
  */
 export function decoded(text, coding) {
-  const signs = text.replace(/\s+/g, '');
-  const bytes = coding === 'base64' ? ofBase64(signs) : bytesOfHex(signs.replace(/^0x/i, ''));
+  const bytes = coding === 'base64' ? ofBase64(text) : ofDigits(text);
   if (bytes !== undefined) return { bytes };
   return { fault: coding === 'base64' ? wrongBase64(text) : wrongDigits(text) };
 }
 
-function ofBase64(signs) {
+function ofDigits(text) {
+  return isDump(text) ? undefined : bytesOfHex(text.replace(/\s+/g, '').replace(/^0x/i, ''));
+}
+
+function ofBase64(text) {
   try {
-    return fromBase64(signs);
+    return fromBase64(text.replace(/\s+/g, ''));
   } catch {
     return undefined;
   }

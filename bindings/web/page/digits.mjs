@@ -108,11 +108,11 @@ export class Digits {
   }
 
   #draw() {
-    const { pieces, stop, rest, covered } = this.#explained;
+    const { pieces, stop, length } = this.#explained;
     this.#spans = pieces.map(() => []);
-    const rows = new Rows(this.#box, this.#columns, pieces[0]?.place ?? 0, covered + 32);
+    const rows = new Rows(this.#box, this.#columns, pieces[0]?.place ?? 0, length);
     pieces.forEach((piece, i) => this.#drawPiece(rows, piece, i));
-    if (stop) this.#drawRest(rows, stop, rest, covered);
+    if (stop) this.#drawRest(rows, this.#explained);
     rows.end();
     this.#paint(true);
   }
@@ -137,10 +137,12 @@ export class Digits {
     for (const span of others) span.setAttribute('aria-hidden', 'true');
   }
 
-  #drawRest(rows, stop, rest, covered) {
+  #drawRest(rows, { stop, rest, covered, length }) {
     if (rest === '' && covered === stop.place) rows.put(stop.place, '··', ['damage']);
     rows.put(covered, rest.slice(0, 2), [stop.place === covered ? 'damage' : 'behind']);
     rows.put(covered + 1, rest.slice(2), ['behind']);
+    const end = covered + rest.length / 2;
+    if (end < length) rows.skipTo(end, length - end);
   }
 }
 

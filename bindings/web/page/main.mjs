@@ -3,6 +3,7 @@ import { hexOf } from '../hex.mjs';
 import { isSupported } from '../support.mjs';
 import { coded, decoded } from './coding.mjs';
 import { Digits } from './digits.mjs';
+import { Kept } from './kept.mjs';
 import { Lights } from './lights.mjs';
 import { fragmentOf, stateOf } from './link.mjs';
 import { counted, listedNames, shownName, shownNumber } from './names.mjs';
@@ -11,12 +12,14 @@ import { lineAndColumn, rangeAt, rangeOfLine } from './places.mjs';
 import { Questions } from './questions.mjs';
 import { expectedAt, sentenceOn, toldOfBytes, toldOfFormat, toldOfText } from './reasons.mjs';
 import { Tree } from './tree.mjs';
+import { isDump } from './wrong_digits.mjs';
 
 const OWN = 'own';
 const TYPING_PAUSE = 120;
 const MOST_OPENED = 1 << 28;
 const CLOSED = '';
 const BOTH_SIDES = ['text', 'bytes'];
+const COMPARED = ['first', 'second'];
 const BYTE_STRINGS = ['bytes', 'octets', 'text'];
 const NO_PIECES = { first: 0, pieces: [], rows: [], stop: undefined, rest: '', covered: 0, length: 0, isCut: false };
 
@@ -31,8 +34,9 @@ class Page {
   #tree = new Tree($('tree'), this.#lights);
   #side = 'text';
   #coding = 'hex';
-  // whether the reader has typed what that side holds, or opened it
-  #isOwn = false;
+  // the boxes whose texts the reader typed or opened
+  #own = new Set();
+  #kept = new Kept($('kept'));
   // whether the reader has typed the format: one that was chosen gives way to the root of a new registry
   #isFormatOwn = false;
   #part = '';
@@ -46,18 +50,25 @@ class Page {
 
   constructor() {
     this.panes = {
-      registry: new Pane($('registry'), $('registry-note'), () => this.#later('registry', () => this.#readOwnRegistry())),
-      modules: new Pane($('modules'), $('modules-note'), () => {}),
-      types: new Pane($('types'), $('types-note'), () => {}),
-      text: new Pane($('text'), $('text-note'), () => this.#changed('text')),
-      bytes: new Pane($('bytes'), $('bytes-note'), () => this.#changed('bytes')),
-      first: new Pane($('first'), $('first-note'), () => this.#later('compare', () => this.#compare())),
-      second: new Pane($('second'), $('second-note'), () => this.#later('compare', () => this.#compare())),
+      registry: this.#pane('registry', () => this.#later('registry', () => this.#readOwnRegistry())),
+      modules: this.#pane('modules', () => {}),
+      types: this.#pane('types', () => {}),
+      text: this.#pane('text', () => this.#changed('text')),
+      bytes: this.#pane('bytes', () => this.#changed('bytes')),
+      first: this.#pane('first', () => this.#later('compare', () => this.#compare())),
+      second: this.#pane('second', () => this.#later('compare', () => this.#compare())),
     };
     this.#lights.add({ light: ([from, , to]) => this.#tellLit(from, to) });
     this.#listExamples();
     this.#listen();
     this.#begin();
+  }
+
+  #pane(name, whenChanged) {
+    return new Pane($(name), $(`${name}-note`), () => {
+      whenChanged();
+      this.#own.add(name);
+    });
   }
 
   async #begin() {
@@ -73,6 +84,8 @@ class Page {
     $('inside').addEventListener('change', () => this.#openInside());
     $('normal').addEventListener('click', () => this.#fill('normal', { content: this.panes.text.content }));
     $('blank').addEventListener('click', () => this.#fill('blank', {}));
+    $('back').addEventListener('click', () => this.#bringBack());
+    $('more').addEventListener('click', () => this.#showMore());
     $('take').addEventListener('click', () => this.#takeForComparing());
     $('link').addEventListener('click', () => this.#link());
     $('coding').addEventListener('change', () => this.#recode($('coding').value));
@@ -119,24 +132,45 @@ class Page {
 
   async #takeExample(i) {
     const { registry, format, side, content } = this.#examples[i];
+    this.#keep('registry', ...BOTH_SIDES);
     $('example').value = String(i);
     await this.#show({ registry, format, side, content });
     if (content === '' && $('example').value === String(i)) await this.#fillBlank();
   }
 
-  /** Takes over a whole state: that of an example, or of a link. */
-  async #show({ registry, format, side, content, inside = {} }) {
+  /** Takes over a whole state: that of an example or of a link, or one that was kept. */
+  async #show({ registry, format, side, content, inside = {}, coding = 'hex' }) {
     this.#leave();
     this.#isFormatOwn = !format.startsWith('{"TYPENAME":');
-    this.#coding = $('coding').value = 'hex';
+    this.#coding = $('coding').value = coding;
     this.panes.registry.content = registry;
     this.#side = side;
-    this.#isOwn = false;
+    for (const name of ['registry', ...BOTH_SIDES]) this.#own.delete(name);
     this.#inside = inside;
     $('modules-verdict').textContent = '';
     this.panes[side].content = content;
     this.panes[this.#otherSide].content = '';
     await this.#readRegistry(format);
+  }
+
+  /** Keeps everything, before the page replaces the texts of these boxes, if the reader typed or opened one of them. */
+  #keep(...replaced) {
+    if (!replaced.some((name) => this.#own.has(name))) return;
+    const texts = Object.fromEntries(Object.entries(this.panes).map(([name, pane]) => [name, pane.content]));
+    const { format, coding } = this.#asked;
+    this.#kept.add({ texts, own: new Set(this.#own), format, coding, side: this.#side, inside: this.#inside });
+  }
+
+  /** Brings back what was kept last, and keeps what this replaces. */
+  async #bringBack() {
+    const { texts, own, ...state } = this.#kept.takeBack();
+    this.#keep(...Object.keys(texts).filter((name) => texts[name] !== this.panes[name].content));
+    $('example').value = OWN;
+    for (const name of ['modules', 'types', ...COMPARED]) this.panes[name].content = texts[name];
+    const shown = this.#show({ ...state, registry: texts.registry, content: texts[state.side] });
+    this.#own = own;
+    this.panes[state.side].area.focus();
+    await shown;
   }
 
   /** What was typed or asked before doesn't come any more. */
@@ -161,7 +195,9 @@ class Page {
     verdict.textContent = refusal ? toldOfRefusal(refusal) : shownName(answer.notes || 'a registry was made', 1000);
     this.panes.modules.mark(refusal?.kind === 'modules' ? rangeOf(this.panes.modules.content, refusal) : undefined);
     if (!answer) return;
+    this.#keep('registry');
     this.panes.registry.content = answer.text;
+    this.#own.add('registry');
     await this.#readOwnRegistry();
   }
 
@@ -174,7 +210,7 @@ class Page {
     this.#inside = {};
     const isOther = await this.#readRegistry(this.#format, true);
     if (!isOther) return;
-    const isKept = this.#isOwn && this.panes[this.#side].content.trim() !== '';
+    const isKept = this.#own.has(this.#side) && this.panes[this.#side].content.trim() !== '';
     await (isKept ? this.#answer() : this.#fillBlank());
   }
 
@@ -258,8 +294,9 @@ class Page {
 
   #changed(side) {
     $('example').value = OWN;
+    if (side !== this.#side) this.#keep(this.#side);
+    this.#own.delete(this.#side);
     this.#side = side;
-    this.#isOwn = true;
     this.#later('value', () => this.#answer());
   }
 
@@ -296,6 +333,15 @@ class Page {
     $('detail').textContent = 'Point at digits or at a row, or go there by the arrow keys.';
     $('opening').hidden = $('part').hidden = true;
     $('pieces-note').textContent = noteOn(explained);
+    $('more').hidden = !hasMore(explained);
+  }
+
+  /** Shows further bytes after a stop. */
+  async #showMore() {
+    const explained = this.#explained;
+    const told = await this.#ask('rest', { from: explained.covered + explained.rest.length / 2 });
+    if (told?.answer === undefined || explained !== this.#explained) return;
+    this.#showPieces({ ...explained, rest: explained.rest + told.answer.rest });
   }
 
   #fillOtherSide({ text, digits, length }) {
@@ -361,8 +407,8 @@ class Page {
 
   /** Fills in a blank value, unless the reader types meanwhile. */
   #fillBlank() {
-    this.#isOwn = false;
-    return this.#fill('blank', {}, () => this.#isOwn);
+    for (const side of BOTH_SIDES) this.#own.delete(side);
+    return this.#fill('blank', {}, () => BOTH_SIDES.some((side) => this.#own.has(side)));
   }
 
   async #fill(question, asked, isTyped = () => false) {
@@ -372,7 +418,8 @@ class Page {
     if (!answer) return;
     const { front, isCut } = typeof answer.text === 'string' ? { front: answer.text, isCut: false } : answer.text;
     if (isCut) return tellVerdict('bad', 'Too long:', ' it isn’t shown here.');
-    if (question === 'blank') this.#isOwn = false;
+    this.#keep(...BOTH_SIDES);
+    for (const side of BOTH_SIDES) this.#own.delete(side);
     this.panes.text.content = front;
     this.#side = 'text';
     await this.#answer();
@@ -381,6 +428,8 @@ class Page {
   // Comparing
 
   #takeForComparing() {
+    this.#keep('first');
+    this.#own.delete('first');
     this.panes.first.content = this.panes.text.content;
     this.#compare();
   }
@@ -428,20 +477,27 @@ class Page {
   }
 
   async #showState(state) {
+    this.#keep('registry', ...BOTH_SIDES, ...COMPARED);
     const told = ['registry', 'format', 'content'];
     const known = this.#examples.findIndex((example) => told.every((name) => example[name] === state[name]));
     $('example').value = known < 0 ? OWN : String(known);
     this.panes.first.content = state.first;
     this.panes.second.content = state.second;
+    for (const name of COMPARED) this.#own.delete(name);
     $('compare-box').open = state.first !== '' || state.second !== '';
     await this.#show({ ...state, side: state.side === 'bytes' ? 'bytes' : 'text' });
   }
 
   /** Of a damaged link. An example, or what was there before, would be taken for what the link has. */
   #showNothing() {
+    const emptied = ['registry', ...BOTH_SIDES, ...COMPARED];
+    this.#keep(...emptied);
     this.#leave();
     $('example').value = OWN;
-    for (const name of ['registry', 'text', 'bytes', 'first', 'second']) this.panes[name].content = '';
+    for (const name of emptied) {
+      this.panes[name].content = '';
+      this.#own.delete(name);
+    }
     for (const id of ['registry-verdict', 'modules-verdict', 'compare-verdict']) $(id).textContent = '';
     $('compare-box').open = false;
     $('container').replaceChildren();
@@ -488,6 +544,7 @@ class Page {
     if (file.size > MOST_OPENED) return tellVerdict('bad', 'No answer:', ' the file is above 256 MiB.');
     const { pane } = $('file').dataset;
     const bytes = new Uint8Array(await file.arrayBuffer());
+    this.#keep(...(BOTH_SIDES.includes(pane) ? BOTH_SIDES : [pane]));
     // (the page saves such files, and never guesses)
     const isBase64 = file.name.endsWith('.base64');
     if (pane === 'bytes') this.#coding = $('coding').value = isBase64 ? 'base64' : 'hex';
@@ -504,10 +561,10 @@ function markStale(side, isStale) {
   for (const button of document.querySelectorAll(`[data-copy=${side}], [data-save=${side}]`)) button.disabled = isStale;
 }
 
-/** A file holds digits, or the bytes as they are. */
+/** A file holds digits, or a dump, which is refused, or the bytes as they are. */
 function digitsIn(bytes) {
   const text = new TextDecoder('latin1').decode(bytes);
-  return /^(0x)?[0-9a-fA-F\s]*$/.test(text) ? text : hexOf(bytes);
+  return /^(0x)?[0-9a-fA-F\s]*$/.test(text) || isDump(text) ? text : hexOf(bytes);
 }
 
 function hasContainer(names, format) {
@@ -608,6 +665,11 @@ function byteStringOf(lit) {
 /** The innermost of the opened byte strings that a piece is in. */
 function openedAround(name, opened) {
   return opened.filter((own) => name.startsWith(`${own}[bcs]`) || name === own).sort((a, b) => b.length - a.length)[0];
+}
+
+/** Whether bytes after a stop aren't shown yet. */
+function hasMore({ stop, rest, covered, length }) {
+  return stop !== undefined && covered + rest.length / 2 < length;
 }
 
 function noteOn({ isCut, first, pieces, covered, length, stop }) {

@@ -17,6 +17,8 @@ const MOST_NODES = 4_000_000;
 const MOST_EXPLAINED = 128 << 10;
 const FRONT_EXPLAINED = 32 << 10;
 const MOST_PIECES = 1000;
+// The bytes after a stop that are shown, and as many again where the reader wants more.
+const MOST_REST = 16 << 10;
 const MOST_NAMES = 2000;
 const MOST_LAID_OUT = 200_000;
 
@@ -24,7 +26,7 @@ let bcs;
 let open = { text: undefined, registry: undefined, containers: undefined };
 let last = { text: '', bytes: new Uint8Array() };
 
-const ANSWERS = { start, registry, modules, value, blank, normal, compare, whole };
+const ANSWERS = { start, registry, modules, value, rest, blank, normal, compare, whole };
 
 self.onmessage = async ({ data: { id, question, ...asked } }) => {
   try {
@@ -126,11 +128,20 @@ function explained(registry, format, bytes, inside) {
     rows: outline.filter((row) => row.to >= first && row.from < first + MOST_PIECES),
     stop,
     trouble,
-    rest: stop ? hexOf(bytes.subarray(covered, covered + 64)) : '',
+    rest: stop ? restOf(bytes, covered) : '',
     covered,
     length: bytes.length,
     isCut: isFront || first > 0 || told.length > MOST_PIECES,
   };
+}
+
+function restOf(bytes, from) {
+  return hexOf(bytes.subarray(from, from + MOST_REST));
+}
+
+/** Further bytes of the last value. */
+function rest({ from }) {
+  return { rest: restOf(last.bytes, from) };
 }
 
 /**
@@ -139,13 +150,13 @@ function explained(registry, format, bytes, inside) {
  */
 function toldOf(registry, format, bytes, inside) {
   const plain = registry.explain(format, bytes);
-  const calls = callsIn(open.containers, plain);
+  const calls = callsIn(open.containers, plain, (asked) => registry.explain(format, bytes, { calls: asked }));
   const insides = new Map(Object.entries(inside));
   for (const [list, name] of Object.entries(calls)) argumentsOf(name).forEach((own, i) => insides.set(`${list}[${i}]`, own));
   if (insides.size === 0) return { told: plain, insides };
   const closed = (trouble) => ({ told: plain, insides: new Map(), trouble });
   try {
-    const told = registry.explain(format, bytes, { inside, calls });
+    const told = registry.explain(format, bytes, { inside, calls }).filter(({ note }) => note === undefined);
     const [end, plainEnd] = [told.at(-1), plain.at(-1)];
     if (end.refused !== undefined && end.place !== plainEnd.place) return closed({ reason: end.refused, ...end });
     return { told, insides };

@@ -15,11 +15,24 @@ const WORDS_FOR_SIGN = {
   '\\': '\\x isn’t part of the digits; remove it',
 };
 
+// An offset of six to eight digits, and a shorter word: how lines of od, hexdump and xxd begin.
+const DUMP = /^\s*([0-9a-f]{6,8}):?[ \t]+([0-9a-f]+)/i;
+
+/** Whether a text is a dump: its offsets are digits, too, and some dumps swap the bytes of each word. */
+export function isDump(text) {
+  const [, offset, word] = DUMP.exec(text) ?? [];
+  return offset !== undefined && word.length < offset.length;
+}
+
 /** What is wrong with digits: `{ words, place }`. If one is missing, no place is wrong. */
 export function wrongDigits(text) {
+  if (isDump(text)) {
+    const words = 'a dump, with an offset before the bytes of each line; paste plain digits (xxd -p -c0)';
+    return { words, place: text.search(/\S/) };
+  }
   const [prefix] = /^\s*(0\s*x)?/i.exec(text);
   const place = text.slice(prefix.length).search(/[^0-9a-f\s]/i) + prefix.length;
-  if (place < prefix.length) return { words: 'two hexadecimal digits stand for each byte. One is missing' };
+  if (place < prefix.length) return { words: 'a digit is missing; each byte has two' };
   const sign = signAt(text, place);
   const known = (text.trimStart()[0] === sign && WORDS_FOR_START[sign]) || WORDS_FOR_SIGN[sign];
   if (known) return { words: known, place };

@@ -4,7 +4,7 @@
     python3 bindings/web/tests/against_native.py COUNT DRIVER [WORD]... -- OTHER-DRIVER [WORD]...
 
 tests/rows/driver.py says what a driver reads and writes. The inputs are values of examples/ and rows of
-crates/test_calls with changes, which are the same in each run.
+crates/test_codec with changes, which are the same in each run.
 """
 
 from __future__ import annotations
@@ -43,7 +43,7 @@ def example(registry: str, container: str, name: str) -> Seed:
 def rows() -> list[Seed]:
     """The rows `json` whose answer contains the bytes."""
     seeds, registry = [], b"{}"
-    folder = ROOT / "crates/test_calls"
+    folder = ROOT / "crates/test_codec"
     lines = [(folder / name).read_text(encoding="utf-8").split("\n") for name in ("stdin", "stdout")]
     for row, told in zip(*lines):
         kind, *words = row.split("\t")

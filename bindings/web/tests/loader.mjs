@@ -410,6 +410,8 @@ test('registries that are closed, and those that are collected, give their memor
     const registry = small.registry(text);
     assert.equal(hexOf(registry.encode('S7', { a: 7 })), '07');
     registry.close();
+    const closing = small.registry(text);
+    assert.equal(hexOf(closing.encode('S7', { get a() { closing.close(); return 7; } })), '07');
   }
   if (globalThis.gc === undefined) return;
   for (let i = 0; i < 300; i++) {
@@ -478,12 +480,15 @@ test('pieces inside byte strings, and values of Move', () => {
     F: { STRUCT: [{ arg0: 'U8' }, { arg1: 'BOOL' }] }, 'F::arg0': { NEWTYPESTRUCT: 'U8' }, 'F::arg1': { NEWTYPESTRUCT: 'BOOL' },
   }));
   const [list, bytes] = [{ SEQ: 'BYTES' }, bytesOfHex('010407026162')];
-  const names = (views, given = bytes) => registry.explain(list, given, views).slice(0, -1).map(({ name }) => name);
+  const pieces = (views, given) => registry.explain(list, given, views).slice(0, -1).filter((piece) => !('note' in piece));
+  const names = (views, given = bytes) => pieces(views, given).map(({ name }) => name);
   const opened = ['.', '[0]', '[0][bcs].a', '[0][bcs].b', '[0][bcs].b'];
   for (const format of ['P', '{"TYPENAME":"P"}', { TYPENAME: 'P' }]) assert.deepEqual(names({ inside: { '[0]': format } }), opened);
   assert.deepEqual(names({ inside: { '[*]': 'P' }, calls: {}, addresses: [], u256s: new Set(), i256s: undefined }), opened);
   assert.deepEqual(names({}), names(undefined));
   assert.deepEqual(names({ calls: { '.': 'F' } }, bytesOfHex('0201050101')), ['.', '[0]', '[0][bcs]', '[1]', '[1][bcs]']);
+  const { name, note } = registry.explain(list, bytesOfHex('0201050101'), { calls: { '.': 'F' } }).at(-2);
+  assert.ok(name === '.' && /^not compared with the function that is called/.test(note), note);
   assert.match(registry.explainText(list, bytes, 'ways', { inside: { '[0]': 'P' } }), /\[0\]\[bcs\]\.a\n/);
   const shown = (format, views) => (({ kind, value }) => [kind, value])(registry.explain(format, Uint8Array.of(1, ...new Array(31).fill(0)), views)[0]);
   assert.deepEqual(shown('address'), ['address', `0x01${'00'.repeat(31)}`]);

@@ -89,7 +89,7 @@ test('typing on either side changes the other', async () => {
   await replace(page, 'bytes', '0x 08');
   await page.until(`${valueOf('text')} === '8'`);
   await replace(page, 'bytes', '0');
-  await page.until(`${verdict}.includes('One is missing')`);
+  await page.until(`${verdict}.includes('a digit is missing')`);
   assert.ok(await page.ask("document.getElementById('text-side').classList.contains('stale')"));
   await isQuiet(page);
 });
@@ -109,6 +109,9 @@ test('files are opened, of bytes also those as they are', async () => {
   await page.until(`${valueOf('coding')} === 'base64' && ${verdict}.includes('211 bytes')`);
   await openFile(page, 'bytes', read('aptos_transfer.hex'), 'value.hex');
   await page.until(`${valueOf('coding')} === 'hex' && ${verdict}.includes('211 bytes')`);
+  // (a dump is refused, and isn't taken for the bytes of its characters)
+  await openFile(page, 'bytes', '00000000  cc ed                                             |..|\n00000002\n', 'dump');
+  await page.until(`${verdict}.includes('No bytes at line 1, column 1: a dump, with an offset')`);
   await openFile(page, 'text', read('aptos_transfer_normal.json'));
   await page.until(`${valueOf('text')}.startsWith('{"chain_id"') && ${verdict}.includes('211 bytes')`);
   await isQuiet(page);
@@ -149,6 +152,29 @@ test('damage is shown at its byte, with what was expected', async () => {
     assert.match(await page.ask(verdict), told);
     assert.equal(await page.ask("document.querySelector('.damage').textContent"), damaged);
   }
+  await isQuiet(page);
+});
+
+const shownDigits = "Array.from(document.querySelectorAll('.piece, .damage, .behind'), (it) => it.textContent).join('').replaceAll(' ', '')";
+
+test('after a stop, all other bytes are shown, too', async () => {
+  const page = await opened();
+  await choose(page, 'example', 'Sui: damaged bytes');
+  await page.until(`${verdict}.includes('BadBool')`);
+  assert.equal(await page.ask(shownDigits), read('sui_stake_damaged.hex'));
+  assert.ok(await page.ask("document.getElementById('more').hidden"));
+  // Of very many, the page says how many it doesn't show, and shows them, too.
+  const long = `02${'ab'.repeat(40_000)}`;
+  await choose(page, 'container', 'another format');
+  await replace(page, 'format', '"BOOL"');
+  await fill(page, 'bytes', long);
+  await page.until(`${verdict}.includes('Refused at byte 0: BadBool')`);
+  for (const left of ['23,617', '7,233']) {
+    await page.until(`document.querySelector('.skipped')?.textContent === '${left} bytes more'`);
+    await page.ask("document.getElementById('more').click()");
+  }
+  await page.until("document.querySelector('.skipped') === null && document.getElementById('more').hidden");
+  assert.ok(await page.ask(`${shownDigits} === '${long}'`));
   await isQuiet(page);
 });
 
@@ -573,6 +599,73 @@ test('a new registry erases neither a value that was typed nor a format', async 
   await isQuiet(page);
 });
 
+const isKept = "!document.getElementById('kept').hidden";
+const bringBack = "document.getElementById('back').click()";
+
+test('one’s own text comes back by a click', async () => {
+  const page = await opened();
+  const isExample = `${valueOf('bytes')} === '${read('aptos_transfer.hex')}'`;
+  // (nobody misses an example that wasn't changed)
+  await choose(page, 'example', 'Sui: a stake');
+  await page.until(`${valueOf('bytes')} === '${read('sui_stake.hex')}'`);
+  await page.ask("document.getElementById('blank').click()");
+  await page.until(`${valueOf('bytes')} !== '${read('sui_stake.hex')}' && ${verdict}.includes('the one encoding')`);
+  assert.equal(await page.ask(isKept), false);
+  await fill(page, 'registry', REGISTRY);
+  await page.until(`${valueOf('bytes')} === '000000000000000000'`);
+  await fill(page, 'text', ' {"a": 7,\n"b": "6d696e65"}');
+  await page.until(`${valueOf('bytes')} === '0700000000000000046d696e65'`);
+  const own = await page.ask(`[${valueOf('registry')}, ${valueOf('text')}, ${valueOf('container')}]`);
+  const isOwn = `JSON.stringify([${valueOf('registry')}, ${valueOf('text')}, ${valueOf('container')}]) === ${JSON.stringify(JSON.stringify(own))}`;
+  for (const button of ['blank', 'normal']) {
+    await page.ask(`document.getElementById('${button}').click()`);
+    await page.until(`!(${isOwn}) && ${isKept}`);
+    await page.ask(bringBack);
+    await page.until(`${isOwn} && ${valueOf('bytes')} === '0700000000000000046d696e65' && !(${isKept})`);
+    assert.equal(await page.ask('document.activeElement.id'), 'text');
+  }
+  // An example also replaces the registry. What is typed after it doesn't put an end to the offer.
+  await choose(page, 'example', 'Aptos: a transfer');
+  await page.until(`${isExample} && ${isKept}`);
+  await replace(page, 'bytes', '00');
+  await page.until(`${verdict}.includes('EndOfInput')`);
+  await choose(page, 'example', 'Aptos: a transfer');
+  await page.until(isExample);
+  await page.ask(bringBack);
+  await page.until(`${valueOf('bytes')} === '00' && ${verdict}.includes('EndOfInput') && ${isKept}`);
+  // What a click brings back doesn't erase what was there, either.
+  await page.ask(bringBack);
+  await page.until(`${isOwn} && ${isKept}`);
+  await page.ask(bringBack);
+  await page.until(`${valueOf('bytes')} === '00' && ${verdict}.includes('EndOfInput') && ${isKept}`);
+  await isQuiet(page);
+});
+
+test('a link, a file and the other side don’t erase one’s own text', async () => {
+  const fragment = await fragmentOfExample('Sui: a stake', 'sui_stake.hex');
+  const page = await opened();
+  const isMine = `${valueOf('text')} === '[1' && ${valueOf('first')} === '[2'`;
+  for (const replaced of [
+    () => page.ask(`location.hash = ${JSON.stringify(fragment)}`),
+    () => page.ask("location.hash = '#2.'"),
+    () => openFile(page, 'text', read('aptos_transfer.json')),
+    () => openFile(page, 'bytes', read('aptos_transfer.hex')),
+    () => replace(page, 'bytes', read('aptos_transfer.hex')),
+    () => page.ask("document.getElementById('take').click()"),
+  ]) {
+    await choose(page, 'example', 'Aptos: a transfer');
+    await page.until(`${verdict}.includes('the one encoding')`);
+    await fill(page, 'text', '[1');
+    await fill(page, 'first', '[2');
+    await page.until(`${verdict}.includes('NotJson')`);
+    await replaced();
+    await page.until(`!(${isMine})`);
+    await page.ask(bringBack);
+    await page.until(`${isMine} && ${verdict}.includes('NotJson')`);
+  }
+  await isQuiet(page);
+});
+
 test('a registry that is broken for a while keeps the selection, and a good one selects its root', async () => {
   const page = await opened();
   const broken = `${verdict}.startsWith('Refused: NotJson. The registry isn’t valid JSON.')`;
@@ -617,7 +710,8 @@ const PASTED = [
   [`${'0a'.repeat(211)}zz`, /^No bytes at line 1, column 423: z isn’t a hexadecimal digit; if this is base64, choose that\.$/, 'z'],
   ['0a\n0a:ff', /^No bytes at line 2, column 3: there are no colons between digits/, ':'],
   ['\\x0a', /^No bytes at line 1, column 1: \\x isn’t part of the digits/, '\\'],
-  ['0a0', /^No bytes: two hexadecimal digits stand for each byte\. One is missing\.$/, undefined],
+  ['00000000  cc ed', /^No bytes at line 1, column 1: a dump, with an offset before the bytes of each line; paste plain digits/, '0'],
+  ['0a0', /^No bytes: a digit is missing; each byte has two\.$/, undefined],
 ];
 
 test('what isn’t bytes is marked at its character', async () => {

@@ -72,6 +72,7 @@ test('one wrong character in a link never gives another state', async () => {
   }
 });
 
+const DUMP = /^a dump, with an offset before the bytes of each line; paste plain digits \(xxd -p -c0\)$/;
 // A text that isn't bytes, how it is written, the place of the wrong character, and what is said of it.
 const NO_BYTES = [
   ['"0aff"', 'hex', 0, /^digits have no quotation marks; remove them$/],
@@ -89,7 +90,13 @@ const NO_BYTES = [
   ['0a\u202eff', 'hex', 2, /^\\u{202e} isn’t/],
   ['0a😀', 'hex', 2, /^😀 isn’t/],
   ['0a😀{', 'hex', 2, /^😀 isn’t/],
-  ['0x 0', 'hex', undefined, /One is missing$/],
+  ['0x 0', 'hex', undefined, /^a digit is missing; each byte has two$/],
+  ['000000 cc ed\n000002\n', 'hex', 0, DUMP],
+  ['0000000 edcc\n0000002\n', 'hex', 0, DUMP],
+  ['0000000 166714\n0000002\n', 'hex', 0, DUMP],
+  ['\n00000000  cc ed', 'hex', 1, DUMP],
+  ['00000000  CC ED  |..|\n00000002\n', 'hex', 0, DUMP],
+  ['00000010: cced  ..\n', 'hex', 0, DUMP],
   ['SGVs bG8', 'base64', undefined, /^the padding is missing or wrong/],
   ['abcdef', 'base64', undefined, /if these are hexadecimal digits, choose that$/],
   ['SGVsbG8-', 'base64', 7, /write \+ for -/],
@@ -105,9 +112,14 @@ test('what isn’t bytes has a wrong character, and words', () => {
     assert.deepEqual([bytes, fault.place], [undefined, place], text);
     assert.match(fault.words, words, text);
   }
-  for (const [text, coding] of [['0X 0a\nFF', 'hex'], ['', 'hex'], [' Cv8=\n', 'base64'], ['', 'base64']]) {
+  const fine = ['0X 0a\nFF', '', '0a ff', '0a\tFF'].map((text) => [text, 'hex']);
+  for (const [text, coding] of [...fine, [' Cv8=\n', 'base64'], ['', 'base64']]) {
     const { bytes, fault } = decoded(text, coding);
     assert.deepEqual([fault, coded(bytes, 'hex')], [undefined, text.trim() && '0aff'], text);
+  }
+  // Bytes by fields, and by lines of four: no offsets.
+  for (const text of ['00000001 0000000000000002', '00000001\n02', '00 00000001', '00000 00000001 0', '0x00000001 02']) {
+    assert.equal(coded(decoded(text, 'hex').bytes, 'hex'), text.replace(/^0x|\s/g, ''), text);
   }
 });
 
@@ -260,23 +272,21 @@ test('the outline ends where the engine’s stack does', () => {
   assert.ok(rows.length > 100 && rows.length < 20_000, String(rows.length));
 });
 
-test('the functions that a value calls are found in its pieces, where the registry has their arguments', () => {
-  const named = 'F::arg0';
-  const piece = (kind, name, more) => ({ kind, name, bytes: '', what: '', ...more });
-  const one = `${'0'.repeat(63)}1`;
-  const pieces = [
-    piece('octets', '.c.module.address', { bytes: one }), piece('text', '.c.module.name', { value: 'coin' }), piece('text', '.c.function', { value: 'pay' }),
-    piece('length', '.c.ty_args', { value: 2 }), piece('variant', '.c.ty_args[0]', { what: 'TypeTag::Vector' }), piece('variant', '.c.ty_args[0]::Vector', { what: 'TypeTag::U8' }),
-    piece('variant', '.c.ty_args[1]', { what: 'TypeTag::Struct' }), piece('octets', '.c.ty_args[1]::Struct.address', { bytes: 'ab'.repeat(32) }),
-    piece('text', '.c.ty_args[1]::Struct.module', { value: 'm' }), piece('text', '.c.ty_args[1]::Struct.name', { value: 'S' }),
-    piece('length', '.c.ty_args[1]::Struct.type_args', { value: 0 }), piece('length', '.c.args', { value: 1 }),
-  ];
-  const called = `0x1::coin::pay<vector<u8>, 0x${'ab'.repeat(32)}::m::S>`;
-  const containers = (...names) => new Map(names.map((name) => [name, 'UNITSTRUCT']));
-  assert.deepEqual(callsIn(containers(called, `${called}::arg0`), pieces), { '.c.args': called });
-  for (const others of [[], [called], [`${called}::arg0`], ['0x1::coin::pay', '0x1::coin::pay::arg0'], [called, named]]) {
-    assert.deepEqual(callsIn(containers(...others), pieces), {});
-  }
+test('the functions that a value calls are found by the library, where the registry has their arguments', () => {
+  const all = JSON.parse(readFileSync(new URL('../../../tests/rows/explain_views.json', import.meta.url), 'utf8'));
+  const calls = (digits, ...functions) => {
+    const isKept = (name) => !name.includes('::') || functions.some((called) => name === called || name === `${called}::arg0`);
+    const containers = new Map(Object.entries(all).filter(([name]) => isKept(name)));
+    const registry = bcs.registry(JSON.stringify(Object.fromEntries(containers)));
+    const explain = (views) => registry.explain('Aptos', bytesOfHex(digits), views);
+    return callsIn(containers, explain(), (asked) => explain({ calls: asked }));
+  };
+  const [vectors, none, of] = ['0001016d036f6e65010201010107', '0001016d036f6e6500010107', '0x1::m::one<vector<u8>>'];
+  const long = `0x${'0'.repeat(63)}1::m::one`;
+  assert.deepEqual(calls(vectors, '0x1::m::one', '0x1::m::one<u8>', of), { '.args': of });
+  assert.deepEqual(calls(none, long), { '.args': long });
+  for (const others of [[], ['0x1::m::one'], ['0x1::m::one<u8>'], ['0x1::m::f'], ['m::one']]) assert.deepEqual(calls(vectors, ...others), {});
+  assert.deepEqual(calls(none.replace('0001', 'baba'), '0x1::m::one', 'm::one'), {});
 });
 
 test('a registry of modules goes beside another one, if they agree', () => {

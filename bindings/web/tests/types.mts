@@ -1,6 +1,6 @@
 // What the declarations let through, and what they refuse: `tsc` reads this, and nothing runs it.
 import { BcsError, fromBase64, hex, isSupported, Limits, load, toBase64 } from '../bcs.mjs';
-import type { End, IntegerArray, Kind, MadeRegistry, Piece, Registry, Stop, Value, ValueInput } from '../bcs.mjs';
+import type { End, IntegerArray, Kind, MadeRegistry, Note, Piece, Registry, Stop, Value, ValueInput } from '../bcs.mjs';
 
 export async function calls(wasm: Uint8Array): Promise<void> {
   if (!isSupported()) return;
@@ -33,8 +33,9 @@ export async function calls(wasm: Uint8Array): Promise<void> {
   console.log(name, value, isEqual, length, place, registry.names.length);
 }
 
-function tell(piece: Piece | End | Stop): void {
+function tell(piece: Piece | Note | End | Stop): void {
   if ('end' in piece) console.log(piece.end);
+  else if ('note' in piece) console.log(piece.name, piece.note);
   else if ('refused' in piece) console.log(piece.refused, piece.want);
   else console.log(piece.kind, piece.value);
 }

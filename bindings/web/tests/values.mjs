@@ -276,6 +276,16 @@ const ROWS = [
     ...numbersAt('/v/0', [...LISTS, 'tuple', 'Pair', 'ids'], 'Array'),
     texts: at('/v/0', 'STR takes a string, not Array'), none: 'BadShape', mapU8: '010102', mapSTR: at('/v/0/0', 'STR takes a string, not number'),
   }],
+  ['[1, 2, 3]', [1, 2, 3], 'Array', {
+    ...eachColumn(['BYTES', 'octets', 'listI8'], '03010203'), listU16: '03010002000300',
+    ...eachColumn(['listI64', 'ids'], '03010000000000000002000000000000000300000000000000'),
+    ...eachColumn(['twoOctets', 'address', 'twoU16', 'tuple', 'Pair', 'none'], 'BadShape'), texts: at('/v/0', 'STR takes a string, not number'),
+    ...eachColumn(['mapSTR', 'mapU8'], at('/v/0', 'an entry of MAP takes an array, not number')),
+  }],
+  ['[[1, 2, 3]]', [[1, 2, 3]], 'Array', {
+    ...numbersAt('/v/0', [...LISTS, 'tuple', 'Pair', 'ids'], 'Array'),
+    texts: at('/v/0', 'STR takes a string, not Array'), none: 'BadShape', mapU8: 'BadShape', mapSTR: at('/v/0/0', 'STR takes a string, not number'),
+  }],
   ['a hole', sparse(2, 1), 'Array', {
     ...numbersAt('/v/1', [...LISTS, 'tuple', 'Pair', 'ids'], 'undefined'), none: 'BadShape', texts: at('/v/0', 'STR takes a string, not number'),
     ...eachColumn(['mapSTR', 'mapU8'], at('/v/0', 'an entry of MAP takes an array, not number')),
@@ -351,6 +361,7 @@ const ROWS = [
   ['{ Dot: undefined }', { Dot: undefined }, 'Object', { ...OTHER_MEMBERS, Shape: at('/v/Dot', 'UNIT takes null, not undefined') }],
   ['{ Circle: 7 }', { Circle: 7 }, 'Object', { ...OTHER_MEMBERS, Shape: '0107' }],
   ['{ Box: [1, 2] }', { Box: [1, 2] }, 'Object', { ...OTHER_MEMBERS, Shape: '020102' }],
+  ['{ Box: [1, 2, 3] }', { Box: [1, 2, 3] }, 'Object', { ...OTHER_MEMBERS, Shape: 'BadShape' }],
   ['{ Box: bytes }', { Box: Uint8Array.of(1, 2) }, 'Object', { ...OTHER_MEMBERS, Shape: at('/v/Box', 'Shape::Box takes an array, not Uint8Array') }],
   ['{ Named: .. }', { Named: { a: 1 } }, 'Object', { ...OTHER_MEMBERS, Shape: '0301' }],
   ['{ Named: Map }', { Named: new Map([['a', 1]]) }, 'Object', { ...OTHER_MEMBERS, Shape: at('/v/Named', 'Shape::Named takes an object, not Map') }],
@@ -537,6 +548,26 @@ test('a value that holds others many times ends at the limit on nodes, or at 512
   const row = { MAP: { KEY: 'U8', VALUE: { OPTION: { TUPLE: ['U8'] } } } };
   assert.equal(hexOf(shared.withLimits({ nodes: 5 }).encode(row, [[1, { some: [2] }]])), '01010102');
   assert.throws(() => shared.withLimits({ nodes: 4 }).encode(row, [[1, { some: [2] }]]), { reason: 'TooManyNodes' });
+});
+
+test('a value that holds others many times is counted before it is written, without limits too', () => {
+  const shared = bcs.registry('{"T":{"NEWTYPESTRUCT":{"SEQ":{"TYPENAME":"T"}}},"S":{"STRUCT":[{"a":{"OPTION":{"TYPENAME":"S"}}},{"b":{"OPTION":{"TYPENAME":"S"}}}]}}');
+  let [lists, fields, maps] = [[], { a: null, b: null }, []];
+  for (let i = 0; i < 40; i++) [lists, fields, maps] = [[lists, lists], { a: { some: fields }, b: { some: fields } }, [maps, [], maps]];
+  const [start, memory] = [process.cpuUsage(), process.memoryUsage().rss];
+  for (const [format, value] of [['T', lists], ['S', fields], ['T', maps], ['T', [[], lists]]]) {
+    for (const registry of [shared, shared.withLimits({ nodes: 2 ** 32 - 1 })]) {
+      assert.throws(() => registry.encode(format, value), { kind: 'value', reason: 'TooManyNodes' });
+    }
+  }
+  assert.ok(process.cpuUsage(start).user < 30_000_000, 'half a minute');
+  assert.ok(process.memoryUsage().rss - memory < 400_000_000, '400 MB');
+  // (bytes are no nodes by default, and no getter runs while the rest is counted)
+  let reads = 0;
+  const counted = Object.defineProperty([], 0, { get: () => ++reads, enumerable: true });
+  const many = [...new Array(150_000).fill([7]), counted];
+  assert.equal(shared.encode({ SEQ: { SEQ: 'U16' } }, many).length, 3 * 150_001 + 3);
+  assert.equal(reads, 1);
 });
 
 test('the numbers of arrays count as nodes, before they are written', () => {

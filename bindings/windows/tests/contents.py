@@ -59,7 +59,7 @@ def imports(file: pathlib.Path) -> list[str]:
 def listed_imports() -> list[str]:
     """The functions that imports/ lists, in the same form."""
     found = []
-    for name in "kernel32", "msvcrt":
+    for name in "advapi32", "kernel32", "msvcrt":
         lines = (HERE.parent / f"imports/{name}.def").read_text(encoding="utf-8").splitlines()
         words = [line.split() for line in lines]
         (dll,) = [line[1] for line in words if line[:1] == ["LIBRARY"]]

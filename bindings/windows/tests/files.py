@@ -12,6 +12,9 @@ import subprocess
 import sys
 import tempfile
 
+sys.path.insert(0, str(pathlib.Path(__file__).resolve().parents[3] / "tests"))
+from output_files import Room, names_are_unforeseeable  # noqa: E402
+
 REGISTRY = '{"S":{"STRUCT":[{"id":"U8"},{"owner":"BOOL"}]}}'
 # Beyond ASCII, with characters beyond 16 bits, with blanks and in folders.
 NO_FILE = (
@@ -21,6 +24,7 @@ NO_FILE = (
 NAMES = ["é.json", "漢字😀.json", "a b/c d.json", "é/ß.json", "%TEMP%.json", "it's.json", "(1)&^!.json", "-.json"]
 # Windows had a limit of 260 characters for a path.
 LONG = "n" * 100
+LONGEST = "n" * 255
 SEVEN_BYTES = '{"TUPLEARRAY":{"CONTENT":"U8","SIZE":7}}'
 LIST = '{"SEQ":"U8"}'
 # The length of a list of 200,000,000 elements, and of one of 20,000,000.
@@ -127,6 +131,48 @@ def ask_outputs(program: Program) -> None:
     program.gives(4, "", missing, *job, "-o", "no\\x")
     program.gives(4, "", "fault: write\nin the file .: Permission denied\n", *job, "-o", ".")
     program.gives(0, "", "", *job, "-o", "NUL")
+    # The new file's name would be too long.
+    for _ in range(2):
+        program.gives(0, "", "", *job, "-o", LONGEST)
+        if pathlib.Path(LONGEST).read_bytes() != b"\0":
+            fail("the longest name has another answer")
+
+
+def ask_descriptors(program: Program) -> None:
+    """The answer is held, so nothing is written if the status isn't 0."""
+    job = ["encode", "--quiet", "{}", LIST]
+    for name in "-", "/dev/stdout", "/dev/fd/1", "/proc/self/fd/1":
+        write("input", "[1,2]")
+        program.gives(0, "020102\n", "", *job, "-o", name)
+        write("input", "[256]")
+        program.gives(2, "", "refused: BadNumber\n", *job, "-o", name)
+    write("input", "[1,2]")
+    program.gives(0, "", "020102\n", *job, "-o", "/dev/stderr")
+    missing = "fault: write\nin the file /dev/fd/9: Bad file descriptor\n"
+    program.gives(4, "", missing, "encode", "{}", LIST, "-o", "/dev/fd/9")
+
+
+def ask_new_names(program: Program) -> None:
+    """Those of the new files beside FILE can't be foreseen."""
+    folder = pathlib.Path("new names").absolute()
+    folder.mkdir()
+    names_are_unforeseeable(Room([program.path], folder))
+
+
+def ask_rights(program: Program) -> None:
+    """Wine makes lists of rights from a file's mode. A file whose list is that of a new one is replaced, and any other
+    is written directly."""
+    job = ["encode", "--raw", "{}", LIST, "-o", "rights"]
+    write("input", "[7]")
+    program.gives(0, "", "", *job)
+    file = pathlib.Path("rights")
+    for mode, is_replaced in (file.stat().st_mode & 0o777, True), (0o600, False), (0o666, False):
+        file.chmod(mode)
+        number = file.stat().st_ino
+        program.gives(0, "", "", *job)
+        found = file.stat()
+        if (found.st_mode & 0o777, found.st_ino != number) != (mode, is_replaced):
+            fail(f"a file with mode {mode:o}: {found}")
 
 
 def ask_megabytes(program: Program) -> None:
@@ -176,7 +222,17 @@ def main() -> None:
         write("input", "")
         ask_names(program)
         ask_long_names(program, room)
-        for ask in ask_devices, ask_bytes, ask_outputs, ask_megabytes, ask_depth, ask_rest:
+        for ask in (
+            ask_devices,
+            ask_bytes,
+            ask_outputs,
+            ask_descriptors,
+            ask_new_names,
+            ask_rights,
+            ask_megabytes,
+            ask_depth,
+            ask_rest,
+        ):
             ask(program)
         os.chdir("/")
     print(f"{program.count} answers")

@@ -132,6 +132,39 @@ static void streams_are_missing(void) {
     }
 }
 
+/* Whether a file has this text and nothing else. */
+static bool file_has(const wchar_t *name, const char *wanted) {
+    char text[ROOM];
+    DWORD length = 0;
+    const HANDLE file = CreateFileW(name, GENERIC_READ, FILE_SHARE_READ, NULL, OPEN_EXISTING, 0, NULL);
+    CHECK(file != INVALID_HANDLE_VALUE && ReadFile(file, text, ROOM, &length, NULL));
+    CloseHandle(file);
+    return length == strlen(wanted) && memcmp(text, wanted, length) == 0;
+}
+
+/* The standard error has the number of a handle that isn't open, which the file of -o may get. The note isn't in the file. */
+static void numbers_of_streams(void) {
+    wchar_t name[MAX_PATH], words[2 * MAX_PATH];
+    char answer[ROOM];
+    CHECK(GetTempPathW(MAX_PATH - 10, name) > 0);
+    wcscat(name, L"bcs_answer");
+    swprintf(words, 2 * MAX_PATH, L"explain {} \\\"U8\\\" --inside .x=\\\"U8\\\" -o %ls", name);
+    sprintf(answer, "%-74s%-32s.\n", "     0  07", "U8 7");
+    for (uintptr_t number = 4; number <= 100; number += 4) {
+        const struct pipe in = make_pipe();
+        DWORD flags = 0, written;
+        CHECK(WriteFile(in.in, "07", 2, &written, NULL));
+        SetHandleInformation(in.in, HANDLE_FLAG_INHERIT, 0);
+        if (!GetHandleInformation((HANDLE)number, &flags) || (flags & HANDLE_FLAG_INHERIT) == 0) {
+            const HANDLE process = start_with(words, in.out, (HANDLE)number, (HANDLE)number);
+            CloseHandle(in.in);
+            CHECK(status_of(process) == 0 && file_has(name, answer));
+            CHECK(DeleteFileW(name));
+        }
+        CloseHandle(in.out);
+    }
+}
+
 static void devices(void) {
     answers(L"encode {} \\\"U8\\\" NUL", "7", 1, 2, "refused: NotJson\n", "at line 1, column 1: NotJson: the document is empty\n");
     answers(L"scan --raw {} \\\"UNIT\\\" NUL", "7", 1, 0, "ok 0\n", "");
@@ -232,6 +265,7 @@ int wmain(int count, wchar_t **words) {
     pipe_of_pieces();
     nobody_reads();
     streams_are_missing();
+    numbers_of_streams();
     devices();
     consoles(own);
     puts("arguments, bytes, pipes, missing streams, devices and a console");

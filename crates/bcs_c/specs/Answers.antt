@@ -34,6 +34,10 @@ stop_at reason place = record { status = status_number Refused; fault = fault_nu
 abbrev pub with_fault : Fault → Answer → Answer
 with_fault fault a = record a { fault = fault_number fault }
 
+-- the answer, with why something is refused at a place
+abbrev pub with_fault_at : Fault → ℕ → Answer → Answer
+with_fault_at fault place a = record a { fault = fault_number fault; place = place }
+
 -- the answer, with why and where the bytes stop being a value, if they do
 abbrev pub with_stop : Option declared.Stop → Answer → Answer
 with_stop None a = a

@@ -7,10 +7,11 @@ use Rattle.bcs_decode_spec.specs.declared.stop.Stop.{Stop}
 use Rattle.bcs_display_text.specs.declared.style.Form.{Form}
 use Rattle.bcs_display_text.specs.declared.style.Form.TheVariants.{Json, Paths, Tree, Ways}
 use Rattle.bcs_display_pieces.specs.EndsAt.{EndsAt}
-use Rattle.bcs_c.specs.Answers.{plain, refusal, with_stop}
+use Rattle.bcs_c.specs.Answers.{plain, refusal, with_fault_at, with_stop}
 use Rattle.bcs_c.specs.Output.{Puts}
 use Rattle.bcs_c.specs.Registries.{RefusesFor}
 use Rattle.bcs_c.specs.declared.answer.Answer.{Answer}
+use Rattle.bcs_c.specs.declared.fault.Fault.{Fault}
 use Rattle.bcs_c.specs.declared.fault.Fault.TheVariants.{BadPath}
 use Rattle.bcs_c.specs.declared.status.Status.TheVariants.{Format, Memory, Path}
 
@@ -25,10 +26,12 @@ pub data AnswersExplained (registry : Entries) (limits : Bounds) (s : Shape) (b 
   no_memory : a ≡ plain Memory → AnswersExplained registry limits s b old new a
 
 -- the call returns a text, and reports a stop, if there is one. If `P` holds, that is where the bytes stop being a value; otherwise
--- it may be that of a byte string in them. Or memory ran out
+-- it may be that of a byte string in them, or why a call in them is refused. Or memory ran out
 pub data AnswersPieces (P : Type 0) (registry : Entries) (limits : Bounds) (s : Shape) (b old new : List ℕ) (a : Answer) : Type 0 where
   put : (text : List ℕ) (x : Option Stop) (without : Answer) → (P → EndsAt registry limits s b x) → Puts text old new without → a ≡ with_stop x without
       → AnswersPieces P registry limits s b old new a
+  refused_call : (text : List ℕ) (fault : Fault) (place : ℕ) (without : Answer) → (P → ⊥) → Puts text old new without
+      → a ≡ with_fault_at fault place without → AnswersPieces P registry limits s b old new a
   no_memory : a ≡ plain Memory → AnswersPieces P registry limits s b old new a
 
 -- a line is no view, or names no part; or the registry refuses its format or doesn't have what it names; or memory ran out

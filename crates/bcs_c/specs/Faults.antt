@@ -15,7 +15,7 @@ use Rattle.bcs_move_types.specs.FaultNames.{move_refusal_name}
 use Rattle.bcs_move_types.specs.declared.refusal.MoveRefusalName.{MoveRefusalName}
 use Rattle.bcs_move_types.specs.declared.refusal.MoveRefusalName.TheVariants as move
 use Rattle.bcs_c.specs.declared.fault.Fault.{Fault}
-use Rattle.bcs_c.specs.declared.fault.Fault.TheVariants.{Registry, Growth, Text, Stop, ShownTooNested, BadPath, NoContent, ExampleUnknownVariant, ExampleNoValue, ExampleTooManyNodes, ExampleTooNested, Move}
+use Rattle.bcs_c.specs.declared.fault.Fault.TheVariants.{Registry, Growth, Text, Stop, ShownTooNested, BadPath, NoContent, OtherFunction, ExampleUnknownVariant, ExampleNoValue, ExampleTooManyNodes, ExampleTooNested, Move}
 
 abbrev pub registry_number : RegistryFault → ℕ
 registry_number registry.NotJson = 101
@@ -88,6 +88,7 @@ fault_number (Stop e) = reason_number e
 fault_number ShownTooNested = 501
 fault_number BadPath = 601
 fault_number NoContent = 602
+fault_number OtherFunction = 603
 fault_number ExampleUnknownVariant = 701
 fault_number ExampleNoValue = 702
 fault_number ExampleTooManyNodes = 703
@@ -103,6 +104,7 @@ fault_name (Stop e) = reason_name e
 fault_name ShownTooNested = codes "TooNested"
 fault_name BadPath = codes "BadPath"
 fault_name NoContent = codes "NoContent"
+fault_name OtherFunction = codes "OtherFunction"
 fault_name ExampleUnknownVariant = codes "UnknownVariant"
 fault_name ExampleNoValue = codes "NoValue"
 fault_name ExampleTooManyNodes = codes "TooManyNodes"

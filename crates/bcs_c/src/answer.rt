@@ -4,7 +4,7 @@ ghost use Rattle.bcs_registry_model.specs.declared.fault.RegistryFault.TheVarian
 ghost use Rattle.bcs_json_spec.specs.declared.json_fault.JsonFault.TheVariants as json_fault;
 ghost use Rattle.bcs_c.specs.declared.status.Status.TheVariants.{Memory, Refused};
 ghost use Rattle.bcs_c.specs.declared.fault.Fault.TheVariants.{Registry, Text};
-ghost use Rattle.bcs_c.specs.Answers.{placed, plain, refusal, sized, stop_at, with_fault, with_stop};
+ghost use Rattle.bcs_c.specs.Answers.{placed, plain, refusal, sized, stop_at, with_fault, with_fault_at, with_stop};
 
 use crate::fault::Fault;
 use crate::status::Status;
@@ -117,6 +117,17 @@ impl Answer {
     {
         Answer {
             fault: fault.number(),
+            ..self
+        }
+    }
+
+    /// The same answer, with the reason why something is refused at this place.
+    pub(crate) fn with_fault_at(self, fault: Fault, place: u64) -> Answer
+        ensures { result ≡ with_fault_at fault place self }
+    {
+        Answer {
+            fault: fault.number(),
+            place,
             ..self
         }
     }

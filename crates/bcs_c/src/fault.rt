@@ -24,6 +24,8 @@ pub(crate) enum Fault {
     BadPath,
     /// A part isn't a `BYTES`, a `STR`, or a list or an array of `U8`.
     NoContent,
+    /// A list has the arguments of another function.
+    OtherFunction,
     /// The format isn't the name of an enum with the requested variant.
     ExampleUnknownVariant,
     /// No value of the format is within the limits.
@@ -49,6 +51,7 @@ impl Fault {
             Fault::ShownTooNested => 501,
             Fault::BadPath => 601,
             Fault::NoContent => 602,
+            Fault::OtherFunction => 603,
             Fault::ExampleUnknownVariant => 701,
             Fault::ExampleNoValue => 702,
             Fault::ExampleTooManyNodes => 703,
@@ -69,6 +72,7 @@ impl Fault {
             Fault::ShownTooNested | Fault::ExampleTooNested => "TooNested",
             Fault::BadPath => "BadPath",
             Fault::NoContent => "NoContent",
+            Fault::OtherFunction => "OtherFunction",
             Fault::ExampleUnknownVariant => "UnknownVariant",
             Fault::ExampleNoValue => "NoValue",
             Fault::ExampleTooManyNodes => "TooManyNodes",

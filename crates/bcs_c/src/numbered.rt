@@ -39,6 +39,7 @@ pub(crate) fn fault_numbered(number: u32) -> Option<Fault>
         501 => Some(Fault::ShownTooNested),
         601 => Some(Fault::BadPath),
         602 => Some(Fault::NoContent),
+        603 => Some(Fault::OtherFunction),
         701 => Some(Fault::ExampleUnknownVariant),
         702 => Some(Fault::ExampleNoValue),
         703 => Some(Fault::ExampleTooManyNodes),

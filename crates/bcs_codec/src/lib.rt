@@ -11,7 +11,8 @@ pub use bcs_display_example::{
     example_value, example_with,
 };
 pub use bcs_display_pieces::{
-    Explanation, RefusedView, ViewTexts, Views, explain_text, stop_place,
+    CallFault, Explanation, RefusedCall, RefusedView, ViewTexts, Views, explain_text, put_notes,
+    stop_place,
 };
 pub use bcs_display_registry::{
     Change, Difference, RegistryForm, Sizes, container_sizes, difference_lines, differences,

@@ -35,6 +35,8 @@ pub fn scan(
         place: 0,
         nodes: limits.nodes(),
     };
-    value(registry, format, limits.depth(), &mut cursor)?;
-    Ok(cursor.place as usize)
+    match value(registry, format, limits.depth(), &mut cursor) {
+        Ok(()) => Ok(cursor.place as usize),
+        Err(stop) => Err(stop),
+    }
 }

@@ -5,6 +5,11 @@ use crate::wrong_text::WrongText;
 /// The message about `0x`, which people write before digits.
 pub const PREFIX: &str = "0x isn't part of the digits; remove it";
 
+// Without its spaces or colons, a dump would be other bytes: the offsets are digits, too, and some dumps swap the bytes of
+// each word.
+const DUMP: &str =
+    "a dump, with an offset before the bytes of each line; print the bytes as plain digits (xxd -p -c0)";
+
 /// What is wrong with hexadecimal digits in a JSON string. `None`: nothing.
 pub fn wrong_digits(text: &[u8]) -> Option<WrongText> {
     let wrong = wrong_place(text)?;
@@ -32,6 +37,7 @@ pub fn wrong_input_digits(text: &[u8]) -> Option<WrongText> {
     };
     let words = match words_for_start(text.first().copied()) {
         Some(words) => words,
+        None if is_dump(text) => DUMP,
         None => words_for_byte(text, byte),
     };
     Some(WrongText {
@@ -60,6 +66,27 @@ fn words_for_byte(text: &[u8], byte: u8) -> &'static str {
         0..=0x1f | 0x7f..=0xff => "not a hexadecimal digit; --raw reads bytes as they are",
         _ => words_for_character(text),
     }
+}
+
+// Whether a text begins like a dump of od, hexdump or xxd: with an offset of six to eight digits, and a shorter word.
+fn is_dump(text: &[u8]) -> bool {
+    let offset = digits_len(text);
+    let tail = match text.get(offset..).unwrap_or(b"") {
+        [b':', tail @ ..] => tail,
+        tail => tail,
+    };
+    let spaces = tail
+        .iter()
+        .position(|byte| !matches!(byte, b' ' | b'\t'))
+        .unwrap_or(0);
+    let word = digits_len(tail.get(spaces..).unwrap_or(b""));
+    matches!(offset, 6..=8) && spaces > 0 && word > 0 && word < offset
+}
+
+// The number of hexadecimal digits at the start of a text.
+fn digits_len(text: &[u8]) -> usize {
+    let end = text.iter().position(|byte| !byte.is_ascii_hexdigit());
+    end.unwrap_or(text.len())
 }
 
 fn words_for_character(text: &[u8]) -> &'static str {

@@ -102,7 +102,9 @@ pub(crate) fn words_for_name(byte: u8) -> &'static str {
         b'/' | b'#' => COMMENT,
         b',' => "a name is missing before the comma",
         b':' => "a name is missing before the colon",
-        b'0'..=b'9' => "a digit where a name belongs; a number has no comma between its digits",
+        b'0'..=b'9' => {
+            "a name belongs here, in double quotes; a number has no comma between its digits"
+        }
         0 => NUL,
         _ => "a name belongs here, in double quotes",
     }

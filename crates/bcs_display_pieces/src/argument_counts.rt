@@ -1,12 +1,12 @@
 //! A list that has another number of arguments than the function.
 
-use crate::ending::{InnerStop, refusal_with};
+use crate::ending::{InnerStop, Why, refusal_with};
 use crate::halt::Halt;
 use crate::meaning::put_quantity;
 use crate::views::CallView;
 use bcs_display_refusal::put_name;
 use bcs_display_text::columns::put_decimal;
-use bcs_explain::{Reason, Stop};
+use bcs_explain::Reason;
 use std::alloc::{AllocError, Global};
 
 /// What is expected at the length of such a list: `2 arguments of 0x1::coin::transfer`.
@@ -35,8 +35,9 @@ pub(crate) fn wrong_count(
         Reason::TrailingBytes
     };
     Ok(InnerStop {
-        stop: Stop { reason, place },
-        refusal: refusal_with(alloc, reason, halt, message)?,
+        why: Why::Stop(reason),
+        place,
+        refusal: refusal_with(alloc, reason.name(), halt, message)?,
         past: u64::MAX,
     })
 }

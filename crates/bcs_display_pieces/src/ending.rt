@@ -4,20 +4,40 @@ use crate::error_line::put_error;
 use crate::found::{Found, put_found};
 use crate::halt::Halt;
 use crate::objects::put_stop_object;
+use crate::refused_call::CallFault;
 use crate::variants::put_variants;
 use bcs_display_refusal::{Location, Refusal};
 use bcs_display_text::style::{Form, Style};
-use bcs_explain::{Reason, Stop};
+use bcs_explain::Reason;
 use bcs_registry::Registry;
 use std::alloc::{AllocError, Global};
 
 /// The message about a format without a value.
 const UNSUPPORTED: &str = "BCS has no F32, F64 or CHAR; this format can't have a value";
 
-/// A stop inside a byte string, or at a list that has another number of arguments than the function.
+/// Why an explanation ends.
+#[derive(Clone, Copy)]
+pub(crate) enum Why {
+    /// The bytes stop being a value.
+    Stop(Reason),
+    /// A call is refused.
+    Call(CallFault),
+}
+
+impl Why {
+    pub(crate) fn name(self) -> &'static str {
+        match self {
+            Why::Stop(reason) => reason.name(),
+            Why::Call(fault) => fault.name(),
+        }
+    }
+}
+
+/// A stop inside a byte string, or at a list that doesn't have the arguments of the function.
 #[derive(Drop)]
 pub(crate) struct InnerStop {
-    pub stop: Stop,
+    pub why: Why,
+    pub place: u64,
     pub refusal: Refusal,
     /// The byte offset after the byte string, or the greatest one.
     pub past: u64,
@@ -32,20 +52,20 @@ pub(crate) struct Ending {
     pub halt: Halt,
 }
 
-/// Appends the line or the object for a stop. The last piece ends at `end`.
+/// Appends the line or the object for a stop at this place. The last piece ends at `end`.
 pub(crate) fn put_stop(
     style: Style,
-    stop: Stop,
+    (why, place): (Why, u64),
     end: u64,
     halt: Halt,
     input: &[u8],
     out: &mut Vec<u8>,
 ) -> Result<(), AllocError> {
     match style.form {
-        Form::Json => put_stop_object(stop, halt, out),
+        Form::Json => put_stop_object(why, place, halt, out),
         Form::Ways | Form::Paths | Form::Tree => {
             let rest = input.get(end as usize..).unwrap_or(&[]);
-            put_error(style, end, rest, stop, &halt, out)
+            put_error(style, end, rest, (why, place), &halt, out)
         }
     }
 }
@@ -69,7 +89,7 @@ pub(crate) fn refusal_at(
             &mut message,
         )?;
     }
-    refusal_with(alloc, reason, halt, message)
+    refusal_with(alloc, reason.name(), halt, message)
 }
 
 fn put_reason(reason: Reason, halt: &Halt, message: &mut Vec<u8>) -> Result<(), AllocError> {
@@ -83,10 +103,10 @@ fn put_reason(reason: Reason, halt: &Halt, message: &mut Vec<u8>) -> Result<(), 
 /// The refusal with this message.
 pub(crate) fn refusal_with(
     alloc: Global,
-    reason: Reason,
+    name: &'static str,
     halt: &Halt,
     message: Vec<u8>,
 ) -> Result<Refusal, AllocError> {
     let way = Vec::from_slice(alloc, &halt.way)?;
-    Ok(Refusal::of(reason.name(), Location::Part(way), message))
+    Ok(Refusal::of(name, Location::Part(way), message))
 }

@@ -1,12 +1,12 @@
 //! The line for the bytes that don't decode, and the reason.
 
+use crate::ending::Why;
 use crate::halt::Halt;
 use crate::lines::{MEANING_WIDTH, PLACE_WIDTH, put_first_row};
 use crate::meaning::put_quantity;
 use bcs_display_text::colors::{end_painted, start_color};
 use bcs_display_text::columns::{put_blanks, put_decimal};
 use bcs_display_text::style::{Form, Style};
-use bcs_explain::Stop;
 use std::alloc::AllocError;
 
 // Bold red.
@@ -18,7 +18,7 @@ pub(crate) fn put_error(
     style: Style,
     place: u64,
     rest: &[u8],
-    stop: Stop,
+    stop: (Why, u64),
     halt: &Halt,
     out: &mut Vec<u8>,
 ) -> Result<(), AllocError> {
@@ -36,11 +36,11 @@ pub(crate) fn put_error(
     put_left_out(left.len(), out)
 }
 
-fn put_mark(stop: Stop, halt: &Halt, out: &mut Vec<u8>) -> Result<(), AllocError> {
+fn put_mark((why, place): (Why, u64), halt: &Halt, out: &mut Vec<u8>) -> Result<(), AllocError> {
     out.extend_from_slice(b"! ")?;
-    out.extend_from_slice(stop.reason.name().as_bytes())?;
+    out.extend_from_slice(why.name().as_bytes())?;
     out.extend_from_slice(b" at ")?;
-    put_decimal(u128::from(stop.place), out)?;
+    put_decimal(u128::from(place), out)?;
     out.extend_from_slice(b", ")?;
     out.extend_from_slice(&halt.expected)
 }

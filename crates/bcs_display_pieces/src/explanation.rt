@@ -6,16 +6,17 @@ ghost use Rattle.bcs_display_pieces.specs.EndsAt.{EndsAt};
 ghost use Rattle.bcs_display_pieces.specs.IsPlain.{IsPlain};
 
 use crate::above::Above;
-use crate::ending::put_stop;
+use crate::ending::{Ending, Why, put_stop};
+use crate::findings::Findings;
 use crate::halt::Halt;
 use crate::inside::{Inside, Output, put_walk};
+use crate::notes::notes_of;
 use crate::objects::put_end_object;
-use crate::stopping::stop_of;
-use crate::table::Table;
-use crate::unmatched::{not_found, unmatched};
+use crate::refused_call::RefusedCall;
 use crate::view_texts::LEVELS;
 use crate::views::Views;
 use crate::walk::{Scene, Walk};
+use crate::walking::walk_value;
 use bcs_display_refusal::Refusal;
 use bcs_display_text::style::{Form, Style};
 use bcs_explain::Stop;
@@ -33,9 +34,11 @@ pub struct Explanation {
     /// The refusal for a stop inside a byte string, or at a list of arguments. `None`: the stop is that of the whole
     /// input, or there is none.
     pub inner: Option<Refusal>,
-    /// For each byte string or list that a view names and the value doesn't have, a line for people. Empty if there is
-    /// a stop.
-    pub unmatched: Vec<Refusal>,
+    /// The call at which the pieces end, whatever the stop is.
+    pub call: Option<RefusedCall>,
+    /// A line for people for each view whose byte string or list the value doesn't have, or whose function wasn't compared.
+    /// Empty if there is a stop, or a call is refused.
+    pub notes: Vec<Refusal>,
 }
 
 /// Prints the pieces of the value that `bytes` encodes, one per line, and in place of byte strings that `views` names
@@ -55,6 +58,7 @@ pub fn explain_text(
     ensures outer { IfOk result (λ x. x.inner ≡ None → EndsAt registry.now limits.now (shape_of format.now) bytes.now x.stop) }
     ensures whole { IfOk result (λ x. IsPlain views.now → x.inner ≡ None) }
     ensures stopped { IfOk result (λ x. x.stop ≡ None → x.inner ≡ None) }
+    ensures uncalled { IfOk result (λ x. IsPlain views.now → x.call ≡ None) }
 {
     let scene = Scene {
         registry,
@@ -62,9 +66,7 @@ pub fn explain_text(
         style,
     };
     let above = Above::input(alloc);
-    let mut table = Table::new(alloc, scene, above, limits.depth(), limits.nodes())?;
-    let stop = stop_of(registry, format, limits, bytes, &mut table);
-    let walk = table.finish()?;
+    let (walk, stop) = walk_value(alloc, scene, above, format, limits, bytes)?;
     if views.is_plain() {
         return without_views(alloc, style, bytes, walk, stop);
     }
@@ -81,6 +83,7 @@ fn without_views(
 ) -> Result<Explanation, AllocError>
     ensures stop { IfOk result (λ x. x.stop ≡ stop) }
     ensures inner { IfOk result (λ x. x.inner ≡ None) }
+    ensures call { IfOk result (λ x. x.call ≡ None) }
 {
     let Walk {
         mut text,
@@ -93,7 +96,8 @@ fn without_views(
         text,
         stop,
         inner: None,
-        unmatched: Vec::new(alloc),
+        call: None,
+        notes: Vec::new(alloc),
     })
 }
 
@@ -110,42 +114,72 @@ fn with_views(
 {
     let mut out = Output {
         text: Vec::new(alloc),
-        found: not_found(alloc, scene.views)?,
+        findings: Findings::new(alloc, scene.views)?,
     };
     let end = walk.end;
     let halt = walk.halt.copy(alloc)?;
     match put_walk(alloc, scene, bytes, walk, LEVELS, &mut out)? {
-        Inside::Ended(ending) => {
-            let stop = ending.inner.stop;
-            let inside = bytes.get(..ending.inner.past as usize).unwrap_or(bytes);
-            put_stop(
-                scene.style,
-                stop,
-                ending.end,
-                ending.halt,
-                inside,
-                &mut out.text,
-            )?;
-            Ok(Explanation {
-                text: out.text,
-                stop: Some(stop),
-                inner: Some(ending.inner.refusal),
-                unmatched: Vec::new(alloc),
-            })
-        }
+        Inside::Ended(ending) => ended(alloc, scene.style, bytes, ending, stop, out.text),
         Inside::Whole(_) => {
             put_outcome(scene.style, bytes, stop, end, halt, &mut out.text)?;
-            let unmatched = match stop {
-                None => unmatched(alloc, scene.views, &out.found)?,
+            let notes = match stop {
+                None => notes_of(alloc, scene.views, &out.findings)?,
                 Some(_) => Vec::new(alloc),
             };
             Ok(Explanation {
                 text: out.text,
                 stop,
                 inner: None,
-                unmatched,
+                call: None,
+                notes,
             })
         }
+    }
+}
+
+// The explanation that ends before the whole input does. `stop` is that of the whole input.
+fn ended(
+    alloc: Global,
+    style: Style,
+    bytes: &[u8],
+    ending: Ending,
+    stop: Option<Stop>,
+    mut text: Vec<u8>,
+) -> Result<Explanation, AllocError>
+    ensures outer { IfOk result (λ x. x.inner ≡ None → x.stop ≡ stop) }
+    ensures stopped { IfOk result (λ x. x.stop ≡ None → x.inner ≡ None) }
+{
+    let Ending { inner, end, halt } = ending;
+    let inside = bytes.get(..inner.past as usize).unwrap_or(bytes);
+    put_stop(
+        style,
+        (inner.why, inner.place),
+        end,
+        halt,
+        inside,
+        &mut text,
+    )?;
+    let (place, refusal) = (inner.place, inner.refusal);
+    let notes = Vec::new(alloc);
+    match inner.why {
+        Why::Stop(reason) => Ok(Explanation {
+            text,
+            stop: Some(Stop { reason, place }),
+            inner: Some(refusal),
+            call: None,
+            notes,
+        }),
+        Why::Call(fault) => Ok(Explanation {
+            text,
+            stop,
+            inner: None,
+            call: Some(RefusedCall {
+                fault,
+                place,
+                refusal,
+            }),
+            notes,
+        }),
     }
 }
 
@@ -159,7 +193,10 @@ fn put_outcome(
     text: &mut Vec<u8>,
 ) -> Result<(), AllocError> {
     match (stop, style.form) {
-        (Some(stop), _) => put_stop(style, stop, end, halt, bytes, text),
+        (Some(stop), _) => {
+            let why = (Why::Stop(stop.reason), stop.place);
+            put_stop(style, why, end, halt, bytes, text)
+        }
         (None, Form::Json) => put_end_object(bytes.len(), text),
         (None, Form::Ways | Form::Paths | Form::Tree) => Ok(()),
     }

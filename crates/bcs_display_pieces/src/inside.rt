@@ -1,13 +1,16 @@
 //! Explains the byte strings that views name.
+ghost use Rattle.std.specs.Prelude.{IfSome};
+ghost use Rattle.bcs_registry_model.specs.View.{shape_of};
+ghost use Rattle.bcs_registry_model.specs.WellFormed.{Admits};
 
-use crate::ending::{Ending, InnerStop, refusal_at};
+use crate::ending::{Ending, InnerStop, Why, refusal_at};
+use crate::findings::Findings;
 use crate::formats::read_format;
 use crate::found::Found;
-use crate::stopping::stop_of;
-use crate::table::Table;
 use crate::walk::{Hole, Scene, Walk};
-use bcs_explain::{Reason, Stop};
-use bcs_registry::{Registry, RegistryFault};
+use crate::walking::walk_value;
+use bcs_explain::Stop;
+use bcs_registry::{Format, Registry};
 use bcs_value::Limits;
 use std::alloc::{AllocError, Global};
 
@@ -15,16 +18,7 @@ use std::alloc::{AllocError, Global};
 #[derive(Drop)]
 pub(crate) struct Output {
     pub text: Vec<u8>,
-    /// For each source of views, whether a byte string or a list was found for it.
-    pub found: Vec<bool>,
-}
-
-impl Output {
-    fn mark(&mut self, source: usize) {
-        if let Some(found) = self.found.get_mut(source) {
-            *found = true;
-        }
-    }
+    pub findings: Findings,
 }
 
 /// What the byte strings in a value are.
@@ -49,15 +43,13 @@ pub(crate) fn put_walk(
     let Walk {
         text,
         holes,
-        called,
+        findings,
         nodes: _,
         end,
         halt,
         inner,
     } = walk;
-    for source in &called {
-        out.mark(*source);
-    }
+    out.findings.add(&findings);
     let mut from: usize = 0;
     let mut used: u32 = 0;
     for hole in holes {
@@ -68,7 +60,7 @@ pub(crate) fn put_walk(
             continue;
         }
         let nodes = hole.nodes.saturating_sub(used);
-        let value = walk_of(alloc, scene, input, hole, nodes, out)?;
+        let value = walk_of(alloc, scene, input, hole, nodes)?;
         // Nodes without bytes after the last piece don't count.
         used = used.saturating_add(nodes.saturating_sub(value.nodes));
         match put_walk(alloc, scene, input, value, levels - 1, out)? {
@@ -95,25 +87,14 @@ fn walk_of(
     input: &[u8],
     hole: Hole,
     nodes: u32,
-    out: &mut Output,
 ) -> Result<Walk, AllocError> {
     let start = hole.above.start;
     let bytes = between(input, start as usize, hole.end as usize);
-    let mut table = Table::new(alloc, scene, hole.above, hole.depth, nodes)?;
-    let mut stop = None;
-    if let Some(view) = scene.views.inside(hole.view) {
-        out.mark(view.source);
-        let limits = limits_of(hole.depth, nodes);
-        stop = stop_in(
-            alloc,
-            scene.registry,
-            view.format.as_str(),
-            &limits,
-            bytes,
-            &mut table,
-        )?;
-    }
-    let mut walk = table.finish()?;
+    let limits = limits_of(hole.depth, nodes);
+    let Some(format) = format_of(alloc, scene, hole.view) else {
+        return Err(AllocError);
+    };
+    let (mut walk, stop) = walk_value(alloc, scene, hole.above, &format, &limits, bytes)?;
     if let (Some(stop), None) = (stop, &walk.inner) {
         let inner = inner_stop(alloc, scene.registry, &walk, stop, start, bytes)?;
         walk.inner = Some(inner);
@@ -121,23 +102,15 @@ fn walk_of(
     Ok(walk)
 }
 
-// The stop in the bytes of a byte string, if they aren't a value of the format.
-fn stop_in(
-    alloc: Global,
-    registry: &Registry,
-    format: &str,
-    limits: &Limits,
-    bytes: &[u8],
-    table: &mut Table<'_>,
-) -> Result<Option<Stop>, AllocError> {
-    match read_format(alloc, registry, format) {
-        Ok(format) => Ok(stop_of(registry, &format, limits, bytes, table)),
-        Err(RegistryFault::OutOfMemory) => Err(AllocError),
-        // This never happens: the registry admitted the format when the view was read.
-        Err(_) => Ok(Some(Stop {
-            reason: Reason::Unsupported,
-            place: 0,
-        })),
+// The format of the view with this index. `None` if memory ran out: the view exists, and the registry admitted its format
+// when it was read.
+fn format_of(alloc: Global, scene: Scene<'_>, view: usize) -> Option<Format>
+    ensures { IfSome result (λ format. Admits scene.entry.registry.now (shape_of format)) }
+{
+    let view = scene.views.inside(view)?;
+    match read_format(alloc, scene.registry, view.format.as_str()) {
+        Ok(format) => Some(format),
+        Err(_) => None,
     }
 }
 
@@ -152,11 +125,9 @@ fn inner_stop(
 ) -> Result<InnerStop, AllocError> {
     let found = Found::InByteString(bytes.get(stop.place as usize..).unwrap_or(b""));
     Ok(InnerStop {
-        stop: Stop {
-            reason: stop.reason,
-            // This never saturates: the input has fewer than 2^64 bytes.
-            place: start.saturating_add(stop.place),
-        },
+        why: Why::Stop(stop.reason),
+        // This never saturates: the input has fewer than 2^64 bytes.
+        place: start.saturating_add(stop.place),
         refusal: refusal_at(alloc, registry, stop.reason, &walk.halt, found)?,
         past: start.saturating_add(bytes.len() as u64),
     })

@@ -13,7 +13,7 @@ use bcs_registry_model::Kind;
 use std::alloc::AllocError;
 
 /// The number of bytes of such a value.
-const SIZE: usize = 32;
+pub(crate) const SIZE: usize = 32;
 
 #[derive(Clone, Copy, Debug, PartialEq, Eq)]
 pub(crate) enum MoveKind {
@@ -87,8 +87,8 @@ pub(crate) fn put_move_value(
     }
 }
 
-// Addresses up to 0xf have one digit.
-fn put_address(bytes: &[u8], out: &mut Vec<u8>) -> Result<(), AllocError> {
+/// Appends an address. Up to 0xf it has one digit.
+pub(crate) fn put_address(bytes: &[u8], out: &mut Vec<u8>) -> Result<(), AllocError> {
     out.extend_from_slice(b"0x")?;
     match short_digit(bytes) {
         Some(digit) => Ok(out.push(digit)?),

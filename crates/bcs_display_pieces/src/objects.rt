@@ -2,15 +2,18 @@
 //! which is the order in which they are printed.
 
 use crate::above::Above;
+use crate::ending::Why;
 use crate::halt::Halt;
 use crate::meaning::put_format;
 use crate::move_values::put_move_value;
 use crate::piece::Piece;
 use crate::steps::{put_field_path, put_path};
+use bcs_display_refusal::Refusal;
 use bcs_display_text::columns::{put_decimal, put_signed};
-use bcs_explain::{Meaning, Stop, Trail};
+use bcs_explain::{Meaning, Trail};
 use serde::Serialize;
 use std::alloc::{AllocError, Global};
+use std::str::from_utf8;
 
 #[derive(Drop, Serialize)]
 struct PieceObject<'a> {
@@ -47,6 +50,12 @@ struct StopObject<'a> {
     want: String,
 }
 
+#[derive(Drop, Serialize)]
+struct NoteObject<'a> {
+    name: &'a str,
+    note: &'a str,
+}
+
 pub(crate) fn put_piece_object(
     piece: &Piece<'_>,
     above: &Above,
@@ -71,13 +80,29 @@ pub(crate) fn put_end_object(end: usize, out: &mut Vec<u8>) -> Result<(), AllocE
 }
 
 /// Appends the object for the stop: the offset, the reason and what was expected.
-pub(crate) fn put_stop_object(stop: Stop, halt: Halt, out: &mut Vec<u8>) -> Result<(), AllocError> {
+pub(crate) fn put_stop_object(
+    why: Why,
+    place: u64,
+    halt: Halt,
+    out: &mut Vec<u8>,
+) -> Result<(), AllocError> {
     let object = StopObject {
         name: ascii_text(halt.way)?,
         path: path_text(halt.path)?,
-        place: stop.place,
-        refused: stop.reason.name(),
+        place,
+        refused: why.name(),
         want: ascii_text(halt.expected)?,
+    };
+    put_object(&object, out)
+}
+
+/// Appends the object for a note: what it is about, and its message.
+pub(crate) fn put_note_object(note: &Refusal, out: &mut Vec<u8>) -> Result<(), AllocError> {
+    let alloc = *out.allocator();
+    let place = note.place(alloc)?;
+    let object = NoteObject {
+        name: from_utf8(&place).unwrap_or(""),
+        note: from_utf8(&note.message).unwrap_or(""),
     };
     put_object(&object, out)
 }

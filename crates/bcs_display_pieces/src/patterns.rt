@@ -9,6 +9,14 @@ pub(crate) const INSIDE: &[u8] = b"[bcs]";
 
 /// Whether `pattern` matches the printed name of a part. `[*]` outside quotes matches `[0]`, `[1]` and so on.
 pub(crate) fn matches(pattern: &[u8], name: &[u8]) -> bool {
+    match after_match(pattern, name) {
+        Some(rest) => rest.is_empty(),
+        None => false,
+    }
+}
+
+/// What follows the part of a name that the pattern matches.
+pub(crate) fn after_match<'n>(pattern: &[u8], name: &'n [u8]) -> Option<&'n [u8]> {
     let mut quotes = Quotes::closed();
     let mut rest = name;
     let mut skipped: usize = 0;
@@ -23,16 +31,33 @@ pub(crate) fn matches(pattern: &[u8], name: &[u8]) -> bool {
         } else {
             after_byte(rest, *byte)
         };
-        let Some(behind) = behind else {
-            return false;
-        };
-        rest = behind;
+        rest = behind?;
         if is_any {
             skipped = ANY_ITEM.len() - 1;
         }
         quotes = quotes.after(*byte);
     }
-    rest.is_empty()
+    Some(rest)
+}
+
+/// The name of the struct whose field this is. `None`: it is no field.
+pub(crate) fn struct_of(name: &[u8]) -> Option<&[u8]> {
+    let mut quotes = Quotes::closed();
+    let mut end = None;
+    for (place, byte) in name.iter().enumerate() {
+        if !quotes.is_open() {
+            match byte {
+                b'.' => end = Some(place),
+                b'[' | b'?' | b':' => end = None,
+                _ => {}
+            }
+        }
+        quotes = quotes.after(*byte);
+    }
+    if name == b".".as_slice() {
+        return None;
+    }
+    name.get(..end?)
 }
 
 /// The number of steps into byte strings in a name.

@@ -6,8 +6,7 @@ use crate::meaning::put_quantity;
 use crate::patterns::INSIDE;
 use bcs_display_text::columns::{put_blanks, put_decimal, put_hex};
 use bcs_explain::{Step, Trail};
-use bcs_part_names::LONGEST_KEY;
-use bcs_part_names::labels::put_label;
+use bcs_part_labels::{LONGEST_KEY, put_label};
 use std::alloc::AllocError;
 
 #[derive(Clone, Copy)]

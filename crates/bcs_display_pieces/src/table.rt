@@ -3,10 +3,14 @@ ghost use Rattle.std.specs.Prelude.{⊤};
 
 use crate::above::Above;
 use crate::argument_counts::{expected_arguments, wrong_count};
+use crate::call_check::Checked;
+use crate::findings::Finding;
 use crate::halt::Halt;
 use crate::lines::put_lines;
 use crate::objects::put_piece_object;
+use crate::patterns::matches;
 use crate::piece::Piece;
+use crate::refused_call::RefusedList;
 use crate::steps::{count_containers, put_field_path};
 use crate::walk::{Hole, Scene, Walk};
 use bcs_display_text::style::Form;
@@ -21,6 +25,10 @@ pub(crate) struct Table<'e> {
     above: Above,
     /// The number of containers that may be open at once.
     depth: u32,
+    /// The list that is refused, if one is.
+    refused: Option<RefusedList>,
+    /// The lists of arguments that were found last, with the index of each source.
+    lists: Vec<(usize, Vec<u8>)>,
     walk: Walk,
     /// Whether an allocation failed.
     has_lost: bool,
@@ -31,13 +39,15 @@ impl<'e> Table<'e> {
         alloc: Global,
         scene: Scene<'e>,
         above: Above,
+        checked: Checked,
         depth: u32,
         nodes: u32,
     ) -> Result<Table<'e>, AllocError> {
+        let Checked { refused, findings } = checked;
         let walk = Walk {
             text: Vec::new(alloc),
             holes: Vec::new(alloc),
-            called: Vec::new(alloc),
+            findings,
             nodes,
             end: above.start,
             halt: Halt::at_end(alloc, &above)?,
@@ -48,6 +58,8 @@ impl<'e> Table<'e> {
             scene,
             above,
             depth,
+            refused,
+            lists: Vec::new(alloc),
             walk,
             has_lost: false,
         })
@@ -67,7 +79,7 @@ impl<'e> Table<'e> {
     ) -> Result<(), AllocError> {
         if self.scene.views.is_plain() {
             self.put(piece, trail)?;
-        } else {
+        } else if !self.ends_at_call(piece, trail)? {
             match piece.meaning {
                 Meaning::Text(_) | Meaning::Bytes(_) | Meaning::Octets => {
                     self.add_content(piece, trail, nodes)?;
@@ -120,7 +132,7 @@ impl<'e> Table<'e> {
         nodes: u32,
     ) -> Result<bool, AllocError> {
         let name = self.name_of(trail)?;
-        let Some(view) = self.scene.views.inside_at(&name) else {
+        let Some(view) = self.inside_at(&name) else {
             return Ok(false);
         };
         let hole = Hole {
@@ -134,6 +146,32 @@ impl<'e> Table<'e> {
         self.walk.holes.push(hole)?;
         self.walk.end = end;
         Ok(true)
+    }
+
+    // The index of the first view of the byte string with this name.
+    fn inside_at(&mut self, name: &[u8]) -> Option<usize> {
+        let mut first = None;
+        for (index, view) in self.scene.views.insides().iter().enumerate() {
+            if !matches(view.name.as_bytes(), name) {
+                continue;
+            }
+            if view.is_argument {
+                if first.is_none() && self.is_in_list(view.source, name) {
+                    first = Some(index);
+                }
+            } else {
+                self.walk.findings.mark(view.source, Finding::Found);
+                first = first.or(Some(index));
+            }
+        }
+        first
+    }
+
+    // Whether the name is that of an element of the list of arguments that this source has.
+    fn is_in_list(&self, source: usize, name: &[u8]) -> bool {
+        self.lists
+            .iter()
+            .any(|(of, list)| *of == source && name.starts_with(list))
     }
 
     // The length of a list, which may have the arguments of a function.
@@ -153,11 +191,45 @@ impl<'e> Table<'e> {
                 self.walk.inner = Some(inner);
                 return Ok(());
             }
-            if !self.walk.called.contains(&call.source) {
-                self.walk.called.push(call.source)?;
-            }
+            let source = call.source;
+            self.open_list(source, name)?;
         }
         self.put(piece, trail)
+    }
+
+    // The list of this name has the arguments of the function that this source names.
+    fn open_list(&mut self, source: usize, name: Vec<u8>) -> Result<(), AllocError> {
+        for call in self.scene.views.calls() {
+            if matches(call.name.as_bytes(), &name) {
+                self.walk.findings.mark(call.source, Finding::Found);
+            }
+        }
+        // (the steps of an element of the whole value follow nothing)
+        let list = if name.as_slice() == b".".as_slice() {
+            Vec::new(self.alloc)
+        } else {
+            name
+        };
+        self.lists.retain(|(of, _)| *of != source);
+        self.lists.push((source, list))?;
+        Ok(())
+    }
+
+    // Whether the explanation ends here, at a list that is refused.
+    fn ends_at_call(
+        &mut self,
+        piece: &Piece<'_>,
+        trail: &Trail<'_, '_, '_>,
+    ) -> Result<bool, AllocError> {
+        match &self.refused {
+            Some(refused) if refused.place == piece.place => {
+                let expected = Vec::from_slice(self.alloc, &refused.expected)?;
+                self.walk.halt = Halt::with(self.alloc, &self.above, trail, expected)?;
+                self.walk.inner = Some(refused.ending(self.alloc, &self.walk.halt)?);
+                Ok(true)
+            }
+            _ => Ok(false),
+        }
     }
 
     fn name_of(&self, trail: &Trail<'_, '_, '_>) -> Result<Vec<u8>, AllocError> {

@@ -26,6 +26,8 @@ pub(crate) struct Source {
 pub(crate) struct InsideView {
     /// The index of the source that asked for it.
     pub source: usize,
+    /// Whether it is an argument of a call.
+    pub is_argument: bool,
     pub name: String,
     /// A container's name, or JSON.
     pub format: String,
@@ -180,6 +182,7 @@ impl Views {
         let source = self.add_source(alloc, "--inside", name)?;
         self.insides.push(InsideView {
             source,
+            is_argument: false,
             name: String::from_str(alloc, name)?,
             format: String::from_str(alloc, format)?,
         })?;
@@ -222,6 +225,7 @@ impl Views {
         for number in &arguments.numbers {
             self.insides.push(InsideView {
                 source,
+                is_argument: true,
                 name: format!(in alloc; "{list}[{number}]")?,
                 format: format!(in alloc; "{function}::arg{number}")?,
             })?;
@@ -254,11 +258,8 @@ impl Views {
         self.insides.is_empty() && self.calls.is_empty()
     }
 
-    /// The index of the first view of the byte string with this printed name.
-    pub(crate) fn inside_at(&self, name: &[u8]) -> Option<usize> {
-        self.insides
-            .iter()
-            .position(|view| matches(view.name.as_bytes(), name))
+    pub(crate) fn insides(&self) -> &[InsideView] {
+        &self.insides
     }
 
     pub(crate) fn inside(&self, index: usize) -> Option<&InsideView> {
@@ -270,6 +271,10 @@ impl Views {
         self.calls
             .iter()
             .find(|view| matches(view.name.as_bytes(), name))
+    }
+
+    pub(crate) fn calls(&self) -> &[CallView] {
+        &self.calls
     }
 
     pub(crate) fn sources(&self) -> &[Source] {

@@ -2,6 +2,7 @@
 
 use crate::above::Above;
 use crate::ending::InnerStop;
+use crate::findings::Findings;
 use crate::halt::Halt;
 use crate::views::Views;
 use bcs_display_text::style::Style;
@@ -38,14 +39,13 @@ pub(crate) struct Walk {
     pub text: Vec<u8>,
     /// The byte strings that are explained, in order.
     pub holes: Vec<Hole>,
-    /// The sources of the calls whose lists were found.
-    pub called: Vec<usize>,
+    pub findings: Findings,
     /// The number of nodes that were left after the last piece.
     pub nodes: u32,
     /// The byte offset after the last piece.
     pub end: u64,
     /// What is printed about the stop.
     pub halt: Halt,
-    /// A stop that isn't that of the whole input. No piece follows.
+    /// An end that isn't that of the whole input. No piece follows.
     pub inner: Option<InnerStop>,
 }

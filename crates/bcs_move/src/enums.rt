@@ -60,12 +60,12 @@ fn names_in_order<'v>(
                 names.push(value.as_str().unwrap_or(""))?;
             }
         }
-        None if variants.len() == 1 => {
+        None | Some(Value::Null) if variants.len() == 1 => {
             for (name, _) in variants.iter() {
                 names.push(name.as_str())?;
             }
         }
-        None => {
+        None | Some(Value::Null) => {
             let message =
                 "there is no variantDeclarationOrder, without which the variants have no numbers: ask a newer node, or write the container by hand";
             return Err(refusal(alloc, MoveRefusalName::UnknownVariants, place, message));

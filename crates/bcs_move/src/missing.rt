@@ -56,6 +56,10 @@ fn missing_list(alloc: Global, maker: &Maker<'_, '_>) -> Result<String, AllocErr
         }
         put_missing(alloc, maker, module.as_str(), place.as_str(), &mut list)?;
     }
+    if let Some(pointer) = maker.modules.without_abi() {
+        let words = format!(in alloc; "; the module at {pointer} has no abi")?;
+        list.push_str(words.as_str())?;
+    }
     Ok(list)
 }
 

@@ -86,7 +86,7 @@ fn are_modules_of_sui(members: &Map<String, Value>) -> bool {
     !members.is_empty()
 }
 
-/// Adds a module, with `abi` around it or not.
+/// Adds a module, with `abi` around it or not. In an array, one without its `abi` is skipped, since it may not be needed.
 fn put_single<'m>(
     alloc: Global,
     value: &'m Value,
@@ -97,6 +97,9 @@ fn put_single<'m>(
         (None, None) => put_module(alloc, value, None, place, modules),
         (Some(module @ Value::Object(_)), _) => {
             put_module(alloc, module, None, &member(place, "abi"), modules)
+        }
+        (None | Some(Value::Null), _) if matches!(place, Place::Item(_, _)) => {
+            Ok(modules.skip(alloc, place)?)
         }
         (found, _) => Err(unexpected(alloc, "an object", found, &member(place, "abi"))),
     }

@@ -28,6 +28,8 @@ pub struct Modules<'m> {
     modules: BTreeMap<String, Module<'m>>,
     types: BTreeMap<String, Declaration<'m>>,
     functions: BTreeMap<String, Declaration<'m>>,
+    /// The JSON Pointer to the first module of Aptos that the node returned without its declarations.
+    without_abi: Option<String>,
 }
 
 impl<'m> Modules<'m> {
@@ -37,12 +39,29 @@ impl<'m> Modules<'m> {
             modules: BTreeMap::new(alloc),
             types: BTreeMap::new(alloc),
             functions: BTreeMap::new(alloc),
+            without_abi: None,
         }
     }
 
     /// The chain of all modules, if there are any.
     pub fn chain(&self) -> Option<Chain> {
         self.chain
+    }
+
+    /// The first module without declarations that was skipped, if there are any.
+    pub fn without_abi(&self) -> Option<&str> {
+        match &self.without_abi {
+            Some(pointer) => Some(pointer.as_str()),
+            None => None,
+        }
+    }
+
+    /// Skips a module without declarations.
+    pub(crate) fn skip(&mut self, alloc: Global, place: &Place<'_>) -> Result<(), AllocError> {
+        if self.without_abi.is_none() {
+            self.without_abi = Some(pointer_of(alloc, place)?);
+        }
+        Ok(())
     }
 
     /// Whether the module that declares this name is here.

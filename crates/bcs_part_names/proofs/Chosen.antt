@@ -11,7 +11,8 @@ use Rattle.bcs_registry_model.specs.View.{choice_of, payload_of}
 use Rattle.bcs_registry_model.specs.declared.named.Named.{Named}
 use Rattle.bcs_registry_model.specs.declared.variant_format.VariantFormat.{VariantFormat}
 use Rattle.bcs_registry_model.proofs.Lookup.{find-choice}
-use Rattle.bcs_part_names.specs.Labels.{has_label, is_chosen, label}
+use Rattle.bcs_part_labels.specs.Labels.{label}
+use Rattle.bcs_part_names.specs.Labels.{has_label, is_chosen}
 
 -- a variant that the look-up finds, and one that it doesn't
 pub chosen_found : (n : ℕ) (es : List (ℕ × Named VariantFormat)) (x : Bor (Named VariantFormat)) (o : Option (Bor (Named VariantFormat))) (text : List ℕ)

@@ -14,6 +14,7 @@ pub use Rattle.std.specs.Str.Parse.{AllDigits, digits_value}
 pub use Rattle.hex.proofs.HexLemmas.{decode_of-encode_lower}
 pub use Rattle.hex.specs.Hex.{decode_of, encode_lower, IsBytes}
 pub use Rattle.hex.specs.declared.error.FromHexError.{FromHexError}
-pub use Rattle.bcs_part_names.specs.Names.{bracketed, closed_len, closing, coloned, cut, exact_key, field, followed_by, head_step, in_brackets, entry_key, entry_value, inside, is_mark, item, key, key_of, label_len, labelled, name_steps, name_text, NameStep, number_of, numbered, plain_len, quoted_len, step_text, steps_by, steps_of, steps_text, then_steps, before_all, variant}
+pub use Rattle.bcs_part_labels.specs.Labels.{is_mark}
+pub use Rattle.bcs_part_names.specs.Names.{bracketed, closed_len, closing, coloned, cut, exact_key, field, followed_by, head_step, in_brackets, entry_key, entry_value, inside, item, key, key_of, label_len, labelled, name_steps, name_text, NameStep, number_of, numbered, plain_len, quoted_len, step_text, steps_by, steps_of, steps_text, then_steps, before_all, variant}
 unfoldable pub use Rattle.bcs_part_names.specs.Names.{steps_within}
 pub use Rattle.bcs_part_names.specs.NameSteps.{all_named, named}

@@ -2,7 +2,7 @@
 use Rattle.std.specs.Prelude.{◌≡◌, ◌≢◌, ◌<◌, ◌^◌, ℕ, List, [], Some, length}
 use Rattle.std.specs.List.{All}
 use Rattle.hex.specs.Hex.{IsBytes}
-use Rattle.bcs_part_names.specs.Labels.{label as label_of}
+use Rattle.bcs_part_labels.specs.Labels.{label as label_of}
 use Rattle.bcs_part_names.specs.Names.{NameStep, entry_key, entry_value, field, inside, item, key, label_len, name_steps, name_text, variant}
 
 -- the text is a whole label

@@ -5,6 +5,7 @@ use Rattle.std.specs.Str.{bytes_eq}
 use Rattle.std.specs.Str.Parse.{digits_value}
 use Rattle.hex.specs.Hex.{decode_of, encode_lower}
 use Rattle.hex.specs.declared.error.FromHexError.{FromHexError}
+use Rattle.bcs_part_labels.specs.Labels.{is_mark}
 
 -- a step of a name. For a field or a variant, it has the label: the text that is printed for its name
 pub data NameStep : Type 0 where
@@ -41,10 +42,6 @@ name_text [] = codes "."
 name_text (s ∷ steps) = steps_text (s ∷ steps)
 
 -- ---- reading
-
--- a step begins with `.`, `:`, `?` or `[`
-abbrev pub is_mark : ℕ → Bool
-is_mark c = c == 46 || c == 58 || c == 63 || c == 91
 
 -- how many bytes there are before the first mark
 abbrev pub plain_len : List ℕ → ℕ

@@ -9,14 +9,11 @@ use crate::printing::put_step;
 use crate::reading::read_name;
 use bcs_decode_parts::inside::Inside;
 use bcs_decode_parts::{PathFault, PathStep};
+use bcs_part_labels::LONGEST_KEY;
 use bcs_registry::{Format, Named, Registry, VariantFormat};
 use bcs_value::Limits;
 use std::alloc::{AllocError, Global};
 use std::collections::BTreeMap;
-
-/// The number of bytes of the longest key that a name has. Every piece below an entry repeats its key, so for a longer
-/// one, the name has the number of the entry.
-pub const LONGEST_KEY: usize = 32;
 
 /// Returns where the name leads, if the bytes begin with a value of the format. A text that isn't a name leads nowhere.
 pub fn path_of_name<'r, 'a>(

@@ -7,7 +7,6 @@ mod contents;
 mod entries;
 mod finding;
 pub mod following;
-pub mod labels;
 pub mod laws;
 mod led;
 mod lexing;
@@ -17,7 +16,7 @@ mod pointers;
 mod printing;
 mod reading;
 
-pub use by_name::{LONGEST_KEY, path_of_name};
+pub use by_name::path_of_name;
 pub use by_pointer::path_of_pointer;
 pub use contents::{NoContent, content_of_scanned};
 pub use led::{DeadEnd, Led};

@@ -12,7 +12,7 @@ module _ {F S O T E : Type 0} (remaining : F → Option (List ℕ)) (content : S
   fails_status : (quiet : Bool) (name bytes : List ℕ) (file file' : T) (outcome : Outcome) → FailsToStore stage received quiet name bytes file file' outcome → outcome.status ≡ 4
   fails_status quiet name bytes file file' outcome (unopened keeps (Refused cause) is) = is.fault.status
   fails_status quiet name bytes file file' outcome (unopened keeps OutOfMemory is) = is.fault.status
-  fails_status quiet name bytes file file' outcome (unstored part is) = is.fault.status
+  fails_status quiet name bytes file file' outcome (unstored part cause is) = is.fault.status
 
   pub delivered_status : (job : Job) (quiet : Bool) (name : List ℕ) (input input' : S) (empty held : HeldOutput) (run : Outcome) (file file' : T) (errors errors' : E) (status : ℕ)
       → Performs content has_stopped allowance (λ sink. Some (held_bytes sink)) ran_out remaining job input input' empty held run

@@ -3,6 +3,7 @@ use Rattle.std.specs.Prelude.{◌≡◌, ◌≢◌, ◌⊎◌, ◌++◌, ℕ, Li
 use Rattle.std.specs.declared.alloc.Global.{Global}
 use Rattle.bcs_io.specs.Taking as sink
 use Rattle.bcs_tool_command_line.specs.FaultPlaces.{ReportsPlace, cause_text, file_text}
+use Rattle.bcs_tool_command_line.specs.declared.file_cause.FileCause.{FileCause}
 use Rattle.bcs_tool_command_line.specs.declared.job.Job.{Job}
 use Rattle.bcs_tool_command_line.specs.declared.work.Outcome.{Outcome}
 use Rattle.bcs_tool.specs.Endings.{Performs, PrintsReport}
@@ -18,7 +19,7 @@ pub record HasFailed (text : List ℕ) (outcome : Outcome) : Type 0 where
   pub status : outcome.status ≡ 4
   pub note : outcome.note.now ≡ text
 
--- the file of `--output` wasn't written, and why it couldn't be opened
+-- the file of `--output` wasn't written, and why
 pub record IsUnwritten (quiet : Bool) (name : List ℕ) (cause : List ℕ) (outcome : Outcome) : Type 0 where
   pub fault : HasFailed (codes "fault: write") outcome
   pub place : ReportsPlace quiet (file_text name ++ cause) outcome.place.items
@@ -38,7 +39,8 @@ module _ {T : Type 0} (stage : T → Stage) (received : T → Option (List ℕ))
   pub data FailsToStore (quiet : Bool) (name bytes : List ℕ) (old new : T) (outcome : Outcome) : Type 0 where
     unopened : Keeps stage received old new → (why : OpenFailed) → IsUnopenedFile quiet name why outcome
         → FailsToStore quiet name bytes old new outcome
-    unstored : IsUnstored stage received name bytes old new → IsUnwritten quiet name [] outcome → FailsToStore quiet name bytes old new outcome
+    unstored : IsUnstored stage received name bytes old new → (cause : FileCause) → IsUnwritten quiet name (cause_text cause) outcome
+        → FailsToStore quiet name bytes old new outcome
 
 module _ {E : Type 0} (told : E → Option (List ℕ)) (has_failed : E → Bool) where
   -- the answer was written to standard error, followed by the report; or only a prefix of the answer was written

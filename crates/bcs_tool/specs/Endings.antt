@@ -9,7 +9,7 @@ use Rattle.bcs_io.specs.declared.read_source.ReadSource.{ReadSource}
 use Rattle.bcs_tool_answers.specs.Answers.{line_of}
 use Rattle.bcs_tool_command_line.specs.FaultPlaces.{ReportsPlace, file_place, file_text, origin_text}
 use Rattle.bcs_tool_command_line.specs.Files.{IsFaultOfFiles, IsWorkOf, NamesForWork, NamesNoFile, file_fault_of, file_note}
-use Rattle.bcs_tool_command_line.specs.declared.open_cause.OpenCause.{OpenCause}
+use Rattle.bcs_tool_command_line.specs.declared.file_cause.FileCause.{FileCause}
 use Rattle.bcs_tool_command_line.specs.declared.origin.Origin.TheVariants.{StandardInput}
 use Rattle.bcs_io.specs.declared.taking.TakeFault.TheVariants as taking
 use Rattle.bcs_tool_command_line.specs.declared.unread_file.UnreadFile.{UnreadFile}
@@ -80,7 +80,7 @@ pub record IsUnread (quiet : Bool) (name : List ℕ) (unread : UnreadFile) (outc
 
 -- it couldn't be opened
 abbrev pub IsUnopened : Bool → List ℕ → Outcome → Type 0
-IsUnopened quiet name outcome = (cause : OpenCause) × IsUnread quiet name (OpenFailed cause) outcome
+IsUnopened quiet name outcome = (cause : FileCause) × IsUnread quiet name (OpenFailed cause) outcome
 
 module _ {S O F : Type 0} (content : S → Option (List ℕ)) (has_stopped : S → Bool) (allowance : S → ℕ)
     (taken : O → Option (List ℕ)) (is_failed : O → Bool) (remaining : F → Option (List ℕ)) where

@@ -10,7 +10,7 @@ pub data Stage : Type 0 where
   beside : (is_synced : Bool) → (name : List ℕ) → Stage
   -- FILE is the new file, which was on the disk before or not
   replaced : (is_synced : Bool) → (name : List ℕ) → Stage
-  -- FILE can't be replaced. It was emptied and is itself open for writing
+  -- FILE can't be replaced. It is itself open for writing; it was emptied, unless its name is that of a descriptor
   emptied : (name : List ℕ) → Stage
 
 -- the stage after a write: what was written isn't on the disk yet

@@ -10,8 +10,8 @@ pub use bcs_display_text::style::{Form, Paint, Style};
 pub use bcs_io::{ByteSink, ByteSource, ReadSource, TakeFault, WriteSink, put_all, take_all};
 pub use bcs_tool_answers::laws;
 pub use bcs_tool_command_line::{
-    Coding, Color, Command, Display, FileFault, FileRefusal, Job, JobOptions, LineFault, Misuse,
-    Notation, OpenCause, Origin, Outcome, UnreadFile, Work,
+    Coding, Color, Command, Display, FileCause, FileFault, FileRefusal, Job, JobOptions, LineFault,
+    Misuse, Notation, Origin, Outcome, UnreadFile, Work,
 };
 pub use console::command_line::line;
 pub use console::entry::{args_of, program, start};

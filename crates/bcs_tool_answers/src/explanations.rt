@@ -12,7 +12,9 @@ use crate::places::{place_in_input, place_of_line, reports_place};
 use crate::stop_answers::answer_stop;
 use crate::validating::Asked;
 use bcs_decode::Stop;
-use bcs_display_pieces::{Explanation, RefusedView, ViewTexts, Views, explain_text};
+use bcs_display_pieces::{
+    Explanation, RefusedCall, RefusedView, ViewTexts, Views, explain_text, put_notes,
+};
 use bcs_display_refusal::Refusal;
 use bcs_display_text::style::Form;
 use bcs_tool_command_line::{Command, Work};
@@ -110,6 +112,9 @@ fn answer_pieces(
     } = asked;
     let style = work.options.display.style();
     let explained = explain_text(alloc, registry, format, &work.limits, style, views, bytes)?;
+    if explained.call.is_some() {
+        return answer_refused_call(alloc, work, explained);
+    }
     match &explained.inner {
         None => answer_ended(alloc, work, asked, bytes, explained),
         Some(_) => answer_unopened(alloc, work, explained),
@@ -132,11 +137,11 @@ fn answer_ended(
     let Explanation {
         text,
         stop,
-        unmatched,
+        notes,
         ..
     } = explained;
     match stop {
-        None => with_notes(alloc, work, text, unmatched),
+        None => with_notes(alloc, work, text, notes),
         Some(stop) => {
             if work.options.json_refusals {
                 answer_stop(alloc, work, asked, bytes, stop)
@@ -183,36 +188,68 @@ fn answer_inner_stop(
     }
 }
 
-// The pieces, and which byte strings weren't there.
+// The pieces up to a call that is refused, which standard error describes.
+fn answer_refused_call(
+    alloc: Global,
+    work: &Work,
+    explained: Explanation,
+) -> Result<Answer, AllocError>
+    ensures { IfOk result (λ a. (a.status ≡ 2) × MayReport work.now a.place.items) }
+{
+    let Explanation { text, call, .. } = explained;
+    let Some(call) = call else {
+        return with_pieces(alloc, work, 2, text);
+    };
+    let RefusedCall {
+        fault,
+        place,
+        refusal,
+    } = call;
+    let line = format!(in alloc; "{} at {place}", fault.name())?;
+    let last = refused(alloc, line.as_str())?;
+    let report = place_of_view(alloc, work, refusal);
+    if work.options.json_refusals {
+        Ok(placed(last, report))
+    } else {
+        let text = with_last_line(work, text, last)?;
+        Ok(placed(with_pieces(alloc, work, 2, text)?, report))
+    }
+}
+
+// The pieces, and notes about the options. With `--lines`, these follow the pieces of their line.
 fn with_notes(
     alloc: Global,
     work: &Work,
-    text: Vec<u8>,
-    unmatched: Vec<Refusal>,
+    mut text: Vec<u8>,
+    notes: Vec<Refusal>,
 ) -> Result<Answer, AllocError>
     ensures { IfOk result (λ a. (a.status ≡ 0) × MayReport work.now a.place.items) }
 {
-    let place = place_of_unmatched(alloc, work, unmatched);
+    if work.options.lines && !work.options.quiet {
+        put_notes(work.options.display.form, &notes, &mut text)?;
+        return with_pieces(alloc, work, 0, text);
+    }
+    let place = place_of_notes(alloc, work, notes);
     Ok(placed(with_pieces(alloc, work, 0, text)?, place))
 }
 
-// Which byte strings weren't there. Empty for a quiet job, for a line of an input, or if an allocation fails.
-fn place_of_unmatched(alloc: Global, work: &Work, unmatched: Vec<Refusal>) -> Vec<u8>
+// The line for the notes. Empty for a quiet job, or if an allocation fails.
+fn place_of_notes(alloc: Global, work: &Work, notes: Vec<Refusal>) -> Vec<u8>
     ensures { MayReport work.now result.items }
 {
-    if work.options.quiet || work.options.lines {
+    if work.options.quiet {
         return Vec::new(alloc);
     }
-    place_of_line(alloc, lines_of(alloc, &unmatched).ok())
+    place_of_line(alloc, lines_of(alloc, &notes).ok())
 }
 
-fn lines_of(alloc: Global, unmatched: &[Refusal]) -> Result<Vec<u8>, AllocError> {
+fn lines_of(alloc: Global, notes: &[Refusal]) -> Result<Vec<u8>, AllocError> {
     let mut lines = Vec::new(alloc);
-    for refusal in unmatched {
+    for note in notes {
         if !lines.is_empty() {
             lines.extend_from_slice(b"; ")?;
         }
-        lines.extend_from_slice(refusal.line(alloc)?.as_slice())?;
+        lines.extend_from_slice(note.line(alloc)?.as_slice())?;
     }
     Ok(lines)
 }
@@ -230,14 +267,13 @@ fn with_pieces(alloc: Global, work: &Work, status: u8, text: Vec<u8>) -> Result<
 }
 
 // The pieces, followed by the line of the stop. In JSON, an object among the pieces already reports it.
-fn damaged(
-    alloc: Global,
-    work: &Work,
-    mut text: Vec<u8>,
-    stop: Stop,
-) -> Result<Vec<u8>, AllocError> {
+fn damaged(alloc: Global, work: &Work, text: Vec<u8>, stop: Stop) -> Result<Vec<u8>, AllocError> {
+    with_last_line(work, text, stopped(alloc, stop)?)
+}
+
+fn with_last_line(work: &Work, mut text: Vec<u8>, last: Answer) -> Result<Vec<u8>, AllocError> {
     if work.options.display.form != Form::Json {
-        text.extend_from_slice(stopped(alloc, stop)?.output.as_slice())?;
+        text.extend_from_slice(last.output.as_slice())?;
     }
     Ok(text)
 }

@@ -3,7 +3,7 @@ ghost use Rattle.bcs_tool_answers.specs.Places.{MayReport};
 
 use crate::places::{place_in_input, place_of, reports_place};
 use crate::validating::Asked;
-use bcs_display_pieces::{nowhere_on_name, nowhere_on_path, nowhere_on_pointer};
+use bcs_display_dead_ends::{nowhere_on_name, nowhere_on_path, nowhere_on_pointer};
 use bcs_display_refusal::{Location, Refusal};
 use bcs_part_names::DeadEnd;
 use bcs_tool_command_line::{Notation, Work};

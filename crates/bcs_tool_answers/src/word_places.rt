@@ -3,9 +3,9 @@ ghost use Rattle.bcs_tool_answers.specs.Places.{MayReport};
 
 use crate::job_fault::JobFault;
 use crate::places::place_of;
+use bcs_display_dead_ends::{wrong_name, wrong_pointer};
 use bcs_display_errors::{path_refusal, variant_refusal};
 use bcs_display_example::{ExampleOptionsFault, ExampleTextFault};
-use bcs_display_pieces::{wrong_name, wrong_pointer};
 use bcs_display_refusal::Refusal;
 use bcs_display_registry_errors::{
     container_refusal, format_refusal, growth_refusal, registry_refusal,

@@ -1,10 +1,10 @@
 -- Where a fault stands, in a line: `in the file registry.json: No such file or directory`.
-use Rattle.std.specs.Prelude.{◌≡◌, ◌⊎◌, ◌++◌, ℕ, List, [], Bool, false, codes}
+use Rattle.std.specs.Prelude.{◌≡◌, ◌⊎◌, ◌++◌, ◌==◌, if◌then◌else◌, ℕ, ℤ, unsigned_abs, List, [], Bool, false, Option, None, Some, codes}
 use Rattle.std.specs.declared.io.ErrorKind.{ErrorKind}
 use Rattle.std.specs.declared.io.ErrorKind.TheVariants as kind
 use Rattle.bcs_display_text.specs.Escaped.{escaped}
-use Rattle.bcs_tool_command_line.specs.declared.open_cause.OpenCause.{OpenCause}
-use Rattle.bcs_tool_command_line.specs.declared.open_cause.OpenCause.TheVariants.{Missing, Forbidden, NoFolder, Loop, LongName, BadName, Other}
+use Rattle.bcs_tool_command_line.specs.declared.file_cause.FileCause.{FileCause}
+use Rattle.bcs_tool_command_line.specs.declared.file_cause.FileCause.TheVariants.{Missing, Forbidden, NotPermitted, NoFolder, Loop, LongName, BadName, Busy, Full, NoDevice, NoDescriptor, Other}
 use Rattle.bcs_tool_command_line.specs.declared.origin.Origin.{Origin}
 use Rattle.bcs_tool_command_line.specs.declared.origin.Origin.TheVariants.{File, StandardInput}
 use Rattle.bcs_io.specs.declared.taking.TakeFault.{TakeFault}
@@ -12,29 +12,45 @@ use Rattle.bcs_io.specs.declared.taking.TakeFault.TheVariants.{Read, TooLarge, O
 use Rattle.bcs_tool_command_line.specs.declared.unread_file.UnreadFile.{UnreadFile}
 use Rattle.bcs_tool_command_line.specs.declared.unread_file.UnreadFile.TheVariants.{OpenFailed, ReadFailed}
 
--- ---- why a file was not opened
+-- ---- why a file was not opened or written
 
-abbrev pub cause_of : ErrorKind → OpenCause
+abbrev pub cause_of : ErrorKind → FileCause
 cause_of kind.NotFound = Missing
 cause_of kind.PermissionDenied = Forbidden
 cause_of kind.NotADirectory = NoFolder
 cause_of kind.FilesystemLoop = Loop
 cause_of kind.InvalidFilename = LongName
 cause_of kind.InvalidInput = BadName
+cause_of kind.ResourceBusy = Busy
+cause_of kind.StorageFull = Full
 cause_of _ = Other
 
+-- the number of an error of the system; 0 of any other
+abbrev pub number_of : Option ℤ → ℕ
+number_of None = 0
+number_of (Some number) = unsigned_abs number
+
+-- of an error with this number: EPERM, ENXIO and EBADF have no kind of their own
+abbrev pub cause_at : ℕ → ErrorKind → FileCause
+cause_at number kind = if number == 1 then NotPermitted else (if number == 6 then NoDevice else (if number == 9 then NoDescriptor else cause_of kind))
+
 -- behind the file's name; nothing of what has no word here
-abbrev pub cause_text : OpenCause → List ℕ
+abbrev pub cause_text : FileCause → List ℕ
 cause_text Missing = codes ": No such file or directory"
 cause_text Forbidden = codes ": Permission denied"
+cause_text NotPermitted = codes ": Operation not permitted"
 cause_text NoFolder = codes ": Not a directory"
 cause_text Loop = codes ": Too many levels of symbolic links"
 cause_text LongName = codes ": File name too long"
 cause_text BadName = codes ": Invalid argument"
+cause_text Busy = codes ": Device or resource busy"
+cause_text Full = codes ": No space left on device"
+cause_text NoDevice = codes ": No such device or address"
+cause_text NoDescriptor = codes ": Bad file descriptor"
 cause_text Other = []
 
 -- behind that, where a reader may have given the content in place of a name
-abbrev pub advice_text : OpenCause → List ℕ
+abbrev pub advice_text : FileCause → List ℕ
 advice_text Missing = codes "; a value itself goes to standard input, a registry itself starts with {, and modules with { or ["
 advice_text _ = []
 

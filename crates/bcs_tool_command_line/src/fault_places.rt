@@ -2,7 +2,7 @@
 ghost use Rattle.std.specs.Prelude.{◌≡◌, ◌++◌, IfOk};
 ghost use Rattle.bcs_tool_command_line.specs.FaultPlaces.{ReportsPlace, advice_text, cause_text, file_place, file_text, origin_text, output_text, take_place};
 
-use crate::open_cause::OpenCause;
+use crate::file_cause::FileCause;
 use crate::origin::Origin;
 use crate::unread_file::UnreadFile;
 use bcs_display_text::escaping::put_escaped;
@@ -23,9 +23,9 @@ pub fn place_of_file(alloc: Global, quiet: bool, unread: UnreadFile, name: &str)
     }
 }
 
-/// The file of this name, which couldn't be written, and why it couldn't be opened. It is empty for a quiet job, or if no
+/// The file of this name, which couldn't be written, and why. It is empty for a quiet job, or if no
 /// memory is left for it.
-pub fn place_of_output(alloc: Global, quiet: bool, cause: OpenCause, name: &str) -> Vec<u8>
+pub fn place_of_output(alloc: Global, quiet: bool, cause: FileCause, name: &str) -> Vec<u8>
     ensures { ReportsPlace quiet (file_text name.now ++ cause_text cause) result.items }
 {
     if quiet {
@@ -69,7 +69,7 @@ fn unread_line(alloc: Global, unread: UnreadFile, name: &str) -> Result<Vec<u8>,
 }
 
 // The file, why the system couldn't open it, and what to do.
-fn unopened_line(alloc: Global, name: &str, cause: OpenCause) -> Result<Vec<u8>, AllocError>
+fn unopened_line(alloc: Global, name: &str, cause: FileCause) -> Result<Vec<u8>, AllocError>
     ensures { IfOk result (λ line. line.items ≡ (file_text name.now ++ cause_text cause) ++ advice_text cause) }
 {
     let mut line = caused_line(alloc, name, cause)?;
@@ -78,7 +78,7 @@ fn unopened_line(alloc: Global, name: &str, cause: OpenCause) -> Result<Vec<u8>,
 }
 
 // The file, and why the system couldn't open it.
-fn caused_line(alloc: Global, name: &str, cause: OpenCause) -> Result<Vec<u8>, AllocError>
+fn caused_line(alloc: Global, name: &str, cause: FileCause) -> Result<Vec<u8>, AllocError>
     ensures { IfOk result (λ line. line.items ≡ file_text name.now ++ cause_text cause) }
 {
     let mut line = file_line(alloc, name)?;

@@ -108,8 +108,8 @@ pub const NODES: &str = "Limits how many nodes a value may have. At most 4294967
 pub const QUIET: &str = "Leaves out the line on standard error that says where a refusal occurred";
 
 pub const OUTPUT: &str =
-    "Writes the answer to this file instead of standard output. If the status isn't 0, the file stays as \
-    it is, and the answer goes to standard error";
+    "Writes the answer to this file (- is standard output, ./- a file of that name). If the status isn't 0, \
+    the file stays as it is, and the answer goes to standard error";
 
 // ---- the options of `explain`
 

@@ -1,7 +1,7 @@
 //! Why a named file couldn't be read, and why it couldn't be opened.
 ghost use Rattle.std.specs.Prelude.{◌≡◌};
 
-use crate::open_cause::OpenCause;
+use crate::file_cause::FileCause;
 use bcs_io::TakeFault;
 use thiserror::Error;
 
@@ -10,7 +10,7 @@ use thiserror::Error;
 pub enum UnreadFile {
     /// The file could not be opened.
     #[error("Open")]
-    OpenFailed(OpenCause),
+    OpenFailed(FileCause),
     /// Its content couldn't be read.
     #[error(transparent)]
     ReadFailed(TakeFault),

@@ -307,8 +307,10 @@ public final class Registry implements AutoCloseable {
     }
 
     /**
-     * The same with views. Bytes in a byte string that aren't exactly one value are damage, at their place in the data. A view that
-     * can't be one is refused with the kind PATH, and one with a format or a container that the registry lacks with FORMAT.
+     * The same with views. Bytes in a byte string that aren't exactly one value are damage, at their place in the data. So is a list
+     * that isn't one of byte strings (BadPath), or whose function isn't the one that is called (OtherFunction); the last line has both
+     * names. A line of the text, or in JSON an object before the last one, notes each name that matches nothing, and each function that
+     * wasn't compared. A view that can't be one is refused with the kind PATH, and one with a format or a container that the registry lacks with FORMAT.
      */
     public Explanation explain(String format, byte[] data, Form form, Views views) throws BcsException {
         Objects.requireNonNull(data, "data");

@@ -10,7 +10,10 @@ import java.util.Arrays;
  */
 final class Session implements AutoCloseable {
     private static final Limits ANY = Limits.STANDARD;
+    private static final long MOST_OF_VALUE = 1 << 24;
     private static final byte[] NOTHING = new byte[0];
+    /** What is added to a form of explanations with views: notes about these. */
+    private static final int WITH_NOTES = 4;
 
     private final Shared shared;
     private final long handle;
@@ -40,6 +43,11 @@ final class Session implements AutoCloseable {
     /** The question of a call that reads this many bytes. */
     Question question(String format, int length) {
         return Question.of(format, limits != null ? limits : new Limits(ANY.depth(), nodesFor(length)));
+    }
+
+    /** How many nodes a value of Java may have. By default they are few, since few objects have any number if they are shared. */
+    long nodesOfValue() {
+        return limits != null ? limits.nodes() : MOST_OF_VALUE;
     }
 
     private long nodesFor(int length) {
@@ -100,7 +108,7 @@ final class Session implements AutoCloseable {
     Answer explain(Question question, byte[] data, Form form, Views views) throws BcsException {
         byte[] lines = Question.utf8(views.lines());
         try {
-            return ask(Call.EXPLAIN_WITH, question, data, lines, form.ordinal(), Answer.guess(data, 64));
+            return ask(Call.EXPLAIN_WITH, question, data, lines, form.ordinal() + WITH_NOTES, Answer.guess(data, 64));
         } catch (BcsException e) {
             boolean isOfView = e.kind() == Kind.PATH || e.kind() == Kind.FORMAT && e.message() == null;
             throw isOfView ? ofViews(e, question, views) : e;

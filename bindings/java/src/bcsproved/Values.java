@@ -15,7 +15,7 @@ final class Values {
         Question question = session.question(format);
         Codec.Root root = session.codec().root(session, format);
         byte[] json = refusing(() -> {
-            JsonWriter w = new JsonWriter(root.codec(), question.limits().nodes());
+            JsonWriter w = new JsonWriter(root.codec(), session.nodesOfValue());
             root.codec().encoder(root.node(), Object.class).write(w, value);
             return w.written();
         });

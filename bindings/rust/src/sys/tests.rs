@@ -141,6 +141,7 @@ fn numbers_are_those_of_the_header() {
             ("PATHS", sys::PATHS),
             ("TREE", sys::TREE),
             ("JSON", sys::JSON),
+            ("NOTES", sys::NOTES),
             // This crate always asks for the whole refusal.
             ("WHERE", 0),
             ("WANTED", 1),
@@ -150,7 +151,6 @@ fn numbers_are_those_of_the_header() {
             ("NAME", sys::NAME),
             ("POINTER", sys::POINTER),
             ("FAULT_NONE", 0),
-            ("PATH_BAD_PATH", 601),
             ("PATH_NO_CONTENT", sys::NO_CONTENT),
             ("SHOWN_TOO_NESTED", sys::SHOWN_TOO_NESTED),
         ]
@@ -161,7 +161,10 @@ fn numbers_are_those_of_the_header() {
     here.extend(names_with("TEXT", TextFault::ALL.iter().map(|it| (it.name(), *it as u32))));
     here.extend(names_with("EXAMPLE", ExampleFault::ALL.iter().map(|it| (it.name(), *it as u32))));
     here.extend(names_with("MOVE", ModulesFault::ALL.iter().map(|it| (it.name(), *it as u32))));
-    here.extend(names_with("STOP", Reason::ALL.iter().map(|it| (it.name(), *it as u32))));
+    let (stops, calls): (Vec<_>, Vec<_>) =
+        Reason::ALL.iter().map(|it| (it.name(), *it as u32)).partition(|it| it.1 < 500);
+    here.extend(names_with("STOP", stops.into_iter()));
+    here.extend(names_with("PATH", calls.into_iter()));
     assert_eq!(here, header_constants());
 }
 
@@ -183,7 +186,6 @@ fn names_with(family: &str, faults: impl Iterator<Item = (&'static str, u32)>) -
 fn name_here(number: u32) -> Option<&'static str> {
     match number {
         sys::SHOWN_TOO_NESTED => Some("TooNested"),
-        601 => Some("BadPath"),
         sys::NO_CONTENT => Some("NoContent"),
         _ => RegistryFault::of(number)
             .map(RegistryFault::name)
@@ -210,6 +212,6 @@ fn names_are_those_of_the_library() {
             None => assert_eq!(answer.status, sys::NO, "{number}"),
         }
     }
-    // 6 of registries, 4 of growth, 13 of texts, 14 of bytes, 4 of examples, 14 of modules, that of a shown text, and two of paths.
-    assert_eq!(named, 58);
+    // 6 of registries, 4 of growth, 13 of texts, 14 of bytes, 4 of examples, 14 of modules, that of a shown text, and three of paths.
+    assert_eq!(named, 59);
 }

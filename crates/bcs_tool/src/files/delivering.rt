@@ -9,8 +9,8 @@ use crate::files::held_output::HeldOutput;
 use crate::files::output_file::{OpenFailed, OutputFile};
 use crate::files::storing::write_and_commit;
 use crate::jobs::running::failed;
-use bcs_io::{ByteSink, SinkFailed, put_all};
-use bcs_tool_command_line::{OpenCause, Outcome, place_of_output};
+use bcs_io::{ByteSink, put_all};
+use bcs_tool_command_line::{FileCause, Outcome, place_of_output};
 use std::alloc::Global;
 
 /// A run whose answer is held.
@@ -71,7 +71,7 @@ fn write_file<T: OutputFile>(
     }
     match write_and_commit(bytes, file) {
         Ok(()) => Ok(()),
-        Err(SinkFailed) => Err(unwritten(alloc, quiet, name, OpenCause::Other)),
+        Err(cause) => Err(unwritten(alloc, quiet, name, cause)),
     }
 }
 
@@ -85,8 +85,8 @@ fn unopened(alloc: Global, quiet: bool, name: &str, why: OpenFailed) -> Outcome
     }
 }
 
-// The outcome of a job whose file wasn't written. If the file could be opened, the cause has no text.
-fn unwritten(alloc: Global, quiet: bool, name: &str, cause: OpenCause) -> Outcome
+// The outcome of a job whose file wasn't written.
+fn unwritten(alloc: Global, quiet: bool, name: &str, cause: FileCause) -> Outcome
     ensures { IsUnwritten quiet name.now (cause_text cause) result }
 {
     let place = place_of_output(alloc, quiet, cause, name);

@@ -2,14 +2,13 @@
 ghost use Rattle.std.specs.Prelude.{ℕ, List, Option};
 ghost use Rattle.bcs_tool.specs.OutputFile.{Opens, Replaces, Stage, Syncs, Writes};
 
-use bcs_io::SinkFailed;
-use bcs_tool_command_line::OpenCause;
+use bcs_tool_command_line::FileCause;
 
 /// Why FILE couldn't be opened.
 #[derive(Clone, Copy, Debug, Drop, PartialEq, Eq)]
 pub enum OpenFailed {
     /// The system doesn't open it, for this cause.
-    Refused(OpenCause),
+    Refused(FileCause),
     OutOfMemory,
 }
 
@@ -27,14 +26,14 @@ pub trait OutputFile {
         ensures { Opens stage received name.now self.old self.new result };
 
     /// Writes all of `bytes`.
-    fn write(&mut self, bytes: &[u8]) -> Result<(), SinkFailed>
+    fn write(&mut self, bytes: &[u8]) -> Result<(), FileCause>
         ensures { Writes stage received bytes.now self.old self.new result };
 
     /// Waits until the new file is on the disk.
-    fn sync(&mut self) -> Result<(), SinkFailed>
+    fn sync(&mut self) -> Result<(), FileCause>
         ensures { Syncs stage received self.old self.new result };
 
     /// Gives the new file the name that it was opened for.
-    fn replace(&mut self) -> Result<(), SinkFailed>
+    fn replace(&mut self) -> Result<(), FileCause>
         ensures { Replaces stage received self.old self.new result };
 }

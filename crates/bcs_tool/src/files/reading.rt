@@ -9,7 +9,7 @@ use crate::files::input_files::InputFiles;
 use bcs_io::{ByteSource, ReadSource, TakeFault, take_all};
 use bcs_tool_command_line::limits::SIZE_LIMIT;
 use bcs_tool_command_line::{
-    Command, FileFault, FileRefusal, Job, JobOptions, OpenCause, UnreadFile, Work,
+    Command, FileCause, FileFault, FileRefusal, Job, JobOptions, UnreadFile, Work,
 };
 use std::alloc::{AllocError, Global};
 
@@ -50,10 +50,10 @@ fn unread_file<R: InputFiles + AllocGlobal>(rt: &R, name: &str, fault: FileFault
 }
 
 // Why a file of this name, which couldn't be opened before, can't be opened now. It is only shown to people.
-fn open_cause<R: InputFiles + AllocGlobal>(rt: &R, name: &str) -> OpenCause {
+fn open_cause<R: InputFiles + AllocGlobal>(rt: &R, name: &str) -> FileCause {
     match rt.open(name) {
-        Ok(_) => OpenCause::Other,
-        Err(error) => OpenCause::of(error.kind()),
+        Ok(_) => FileCause::Other,
+        Err(error) => FileCause::of(&error),
     }
 }
 

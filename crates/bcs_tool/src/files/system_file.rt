@@ -2,11 +2,11 @@
 ghost use Rattle.std.specs.Prelude.{IfOk};
 ghost use Rattle.bcs_tool.specs.SystemFile.{IsFresh};
 
+use crate::files::descriptor_names::descriptor_of;
 use crate::files::new_file::{NewFile, new_file};
 use crate::files::output_file::{OpenFailed, OutputFile};
-use bcs_io::SinkFailed;
-use bcs_tool_command_line::OpenCause;
-use std::fs::File;
+use bcs_tool_command_line::FileCause;
+use std::fs::{File, OpenOptions};
 use std::io::{ErrorKind, Write};
 use std::path::PathBuf;
 use std::{fs, io};
@@ -36,7 +36,7 @@ pub enum Progress {
     Beside(bool),
     /// The new file has taken its name.
     Replaced(bool),
-    /// It can't be replaced, so it was emptied and is itself open.
+    /// It can't be replaced, so it is itself open. It was emptied, unless its name is that of a descriptor.
     Emptied,
 }
 
@@ -62,35 +62,33 @@ impl OutputFile for SystemFile<'_> {
 
     fn open(&mut self, name: &str) -> Result<(), OpenFailed> {
         if self.opened.is_some() {
-            return Err(OpenFailed::Refused(OpenCause::Other));
+            return Err(OpenFailed::Refused(FileCause::Other));
         }
         match opened_file(self.rt, name) {
             Ok(file) => {
                 self.opened = Some(file);
                 Ok(())
             }
-            Err(error) => Err(match error.kind() {
-                ErrorKind::OutOfMemory => OpenFailed::OutOfMemory,
-                kind => OpenFailed::Refused(OpenCause::of(kind)),
-            }),
+            Err(error) if error.kind() == ErrorKind::OutOfMemory => Err(OpenFailed::OutOfMemory),
+            Err(error) => Err(OpenFailed::Refused(FileCause::of(&error))),
         }
     }
 
-    fn write(&mut self, bytes: &[u8]) -> Result<(), SinkFailed> {
+    fn write(&mut self, bytes: &[u8]) -> Result<(), FileCause> {
         match &mut self.opened {
             Some(file) => file.write(self.rt, bytes),
-            None => Err(SinkFailed),
+            None => Err(FileCause::Other),
         }
     }
 
-    fn sync(&mut self) -> Result<(), SinkFailed> {
+    fn sync(&mut self) -> Result<(), FileCause> {
         match &mut self.opened {
             Some(file) => file.sync(self.rt),
             None => Ok(()),
         }
     }
 
-    fn replace(&mut self) -> Result<(), SinkFailed> {
+    fn replace(&mut self) -> Result<(), FileCause> {
         match &mut self.opened {
             Some(file) => file.replace(self.rt),
             None => Ok(()),
@@ -104,11 +102,11 @@ impl OpenedFile {
     ghost use Rattle.bcs_tool.specs.SystemFile.{opened_stage};
 
     // Writes all of `bytes`. If that fails, it removes the new file.
-    fn write(&mut self, rt: &HostRuntime, bytes: &[u8]) -> Result<(), SinkFailed>
+    fn write(&mut self, rt: &HostRuntime, bytes: &[u8]) -> Result<(), FileCause>
         ensures { opened_stage self.new ≡ unsynced (opened_stage self.old) }
     {
         match self.progress {
-            Progress::Replaced(_) => return Err(SinkFailed),
+            Progress::Replaced(_) => return Err(FileCause::Other),
             Progress::Beside(_) => self.progress = Progress::Beside(false),
             Progress::Emptied => {}
         }
@@ -117,7 +115,7 @@ impl OpenedFile {
     }
 
     // Waits until the new file is on the disk. If that fails, it removes it.
-    fn sync(&mut self, rt: &HostRuntime) -> Result<(), SinkFailed>
+    fn sync(&mut self, rt: &HostRuntime) -> Result<(), FileCause>
         ensures done { OnOk result (opened_stage self.new ≡ synced (opened_stage self.old)) }
         ensures kept { OnErr result (opened_stage self.new ≡ opened_stage self.old) }
     {
@@ -131,7 +129,7 @@ impl OpenedFile {
     }
 
     // Gives the new file its name. If that fails, it removes it.
-    fn replace(&mut self, rt: &HostRuntime) -> Result<(), SinkFailed>
+    fn replace(&mut self, rt: &HostRuntime) -> Result<(), FileCause>
         ensures done { OnOk result (opened_stage self.new ≡ renamed (opened_stage self.old)) }
         ensures kept { OnErr result (opened_stage self.new ≡ opened_stage self.old) }
     {
@@ -145,21 +143,25 @@ impl OpenedFile {
     }
 
     // What a call returned. If it failed, the new file is of no use.
-    fn done(&self, rt: &HostRuntime, ended: io::Result<()>) -> Result<(), SinkFailed> {
-        if ended.is_ok() {
+    fn done(&self, rt: &HostRuntime, ended: io::Result<()>) -> Result<(), FileCause> {
+        let Err(error) = ended else {
             return Ok(());
-        }
+        };
         if let Progress::Beside(_) = self.progress {
             let _ = fs::remove_file(rt, self.from.as_path());
         }
-        Err(SinkFailed)
+        Err(FileCause::of(&error))
     }
 }
 
-// Opens a new file beside the file of this name; or that file itself, if it can't be replaced.
+// Opens what a descriptor's name stands for; or a new file beside the file of this name; or that file itself, if it can't be
+// replaced.
 fn opened_file(rt: &HostRuntime, name: &str) -> io::Result<OpenedFile>
     ensures { IfOk result (IsFresh name.now) }
 {
+    if let Some(number) = descriptor_of(name) {
+        return opened_descriptor(rt, name, number);
+    }
     let name = String::from_str(rt.alloc(), name)?;
     match new_file(rt, name.as_str())? {
         Some(NewFile { file, from, to }) => Ok(OpenedFile {
@@ -177,4 +179,20 @@ fn opened_file(rt: &HostRuntime, name: &str) -> io::Result<OpenedFile>
             progress: Progress::Emptied,
         }),
     }
+}
+
+// Opens a descriptor's open file once more. Each host does so for the name `/dev/fd/N`, if it is opened for writing only.
+fn opened_descriptor(rt: &HostRuntime, name: &str, number: &str) -> io::Result<OpenedFile>
+    ensures { IfOk result (IsFresh name.now) }
+{
+    let path = format!(in rt.alloc(); "/dev/fd/{number}")?;
+    let mut options = OpenOptions::new();
+    options.write(true);
+    Ok(OpenedFile {
+        name: String::from_str(rt.alloc(), name)?,
+        file: options.open(rt, path.as_str())?,
+        from: PathBuf::new(rt.alloc()),
+        to: PathBuf::new(rt.alloc()),
+        progress: Progress::Emptied,
+    })
 }

@@ -8,7 +8,7 @@ use crate::files::reading::read_work;
 use crate::jobs::running::{failed, run_from};
 use bcs_io::{ByteSink, ByteSource, ReadSource, TakeFault};
 use bcs_tool_command_line::{
-    FileFault, Job, OpenCause, Origin, Outcome, UnreadFile, place_of_file,
+    FileCause, FileFault, Job, Origin, Outcome, UnreadFile, place_of_file,
 };
 use std::alloc::Global;
 use std::io::BufReader;
@@ -52,7 +52,7 @@ fn open_input<R: InputFiles + AllocGlobal>(
     rt: &R,
     name: &str,
 ) -> Result<BufReader<R::File>, UnreadFile>
-    ensures { IfErr result (λ e. ((cause : OpenCause) × (e ≡ UnreadFile.OpenFailed cause))
+    ensures { IfErr result (λ e. ((cause : FileCause) × (e ≡ UnreadFile.OpenFailed cause))
         ⊎ (e ≡ UnreadFile.ReadFailed TakeFault.OutOfMemory)) }
 {
     match rt.open(name) {
@@ -60,7 +60,7 @@ fn open_input<R: InputFiles + AllocGlobal>(
             Ok(reader) => Ok(reader),
             Err(_) => Err(UnreadFile::ReadFailed(TakeFault::OutOfMemory)),
         },
-        Err(error) => Err(UnreadFile::OpenFailed(OpenCause::of(error.kind()))),
+        Err(error) => Err(UnreadFile::OpenFailed(FileCause::of(&error))),
     }
 }
 

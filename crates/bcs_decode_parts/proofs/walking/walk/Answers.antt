@@ -1,4 +1,4 @@
-use Rattle.bcs_decode_parts.proofs.Prelude.{◌+◌, List, [], Some, None, get_or, drop, map, length, refl, sym, ap, subst, arith, drop_all, Item, Step, content_of, step_of}
+use Rattle.bcs_decode_parts.proofs.Prelude.{◌+◌, List, [], Some, None, get_or, drop, map, length, refl, rules, sym, ap, subst, arith, drop_all, Item, Step, content_of, step_of}
 use Rattle.bcs_decode_parts.specs.declared.part.Part.{Part}
 use Rattle.bcs_decode_parts.proofs.Paths.{WalksIn, steps_next, walk_ends, walk_on, walk_arrives, walk_stuck, gives_from_front}
 use Rattle.bcs_decode_parts.proofs.walking.walk.Goals as goal
@@ -54,8 +54,9 @@ returns c = λ t after h.
     let l = c.loop-step in
     let none = ap (map step_of) (drop_all l.step-index path (omega arith)) in
     let q : Part = record { bytes = c.bytes_before.result; place = length c.bytes_before-2.result.now } in
-    gives_from_front r a.bytes.now _ (Some q)
+    let known = gives_from_front r a.bytes.now _ (Some q)
     (l.invariant.whole (Some q)
     (subst (λ (p : List Step). WalksIn r a.bytes.now l.at.ahead (content_of l.at.here) p (Some q)) (sym none)
-    (walk_arrives r a.bytes.now l.at.ahead (content_of l.at.here) c.in_ok-behind.behind.now c.bytes_before.result.now c.bytes_before-2.result.now q c.in_ok-behind.ensures c.bytes_before.ensures c.bytes_before-2.ensures refl refl))
-    [] t after refl h))
+    (walk_arrives r a.bytes.now l.at.ahead (content_of l.at.here) c.in_ok-behind.behind.now c.bytes_before.result.now c.bytes_before-2.result.now q c.in_ok-behind.ensures (search rules) c.bytes_before-2.ensures refl refl))
+    [] t after refl h) in
+    search (rules, known))

@@ -1,12 +1,15 @@
-use Rattle.bcs_json.proofs.Prelude.{subst, sym, Decides, ◌≡◌, err_from_is_err_and, bytes_eq-Decides, shape_of}
+use Rattle.bcs_json.proofs.Prelude.{err_from_is_err_and, bytes_eq-Decides, rules, shape_of}
+use Rattle.std.specs.Str.{bytes_eq}
 use Rattle.bcs_json.proofs.Outcomes.{compares}
 use Rattle.bcs_json.proofs.comparing.compare.Goals as goal
 
 pub returns-clause-compares : goal.returns-clause-compares
 returns-clause-compares c =
-    compares c.args.registry.now c.args.limits.now (shape_of c.args.format.now) c.args.first.now c.args.second.now c.in_ok-one.one.items c.in_ok-other.other.items c.eq.result
-    c.in_ok-one.ensures.bytes c.in_ok-other.ensures.bytes
-    (subst (λ answer. Decides answer (c.in_ok-one.one.items ≡ c.in_ok-other.other.items)) (sym c.eq.ensures) (bytes_eq-Decides c.in_ok-one.one.items c.in_ok-other.other.items))
+    let one = c.in_ok-one.one.items in
+    let other = c.in_ok-other.other.items in
+    let known = compares c.args.registry.now c.args.limits.now (shape_of c.args.format.now) c.args.first.now c.args.second.now one other (bytes_eq one other)
+    c.in_ok-one.ensures.bytes c.in_ok-other.ensures.bytes (bytes_eq-Decides one other) in
+    search (rules, known)
 
 pub returns-in_err-one-clause-memory : goal.returns-in_err-one-clause-memory
 returns-in_err-one-clause-memory c =

@@ -16,9 +16,9 @@ pub returns-else-eq-clause-refused : goal.returns-else-eq-clause-refused
 returns-else-eq-clause-refused c =
     let refusal = c.in-Err.refusal in
     let json = view c.in_ok-json.json in
-    let other : refusal.fault ≢ OutOfMemory = search rules in (
-      told_fault c.args.registry.now c.args.limits.now (shape_of c.args.format.now) c.args.text.now json c.in_ok-json.ensures.read (Err refusal.fault)
-          (subst (λ n. Reports {X = Value} tree_of (Err refusal.fault) (read_data c.args.registry.now n (of (shape_of c.args.format.now)) json)) c.depth.ensures.is c.in-Err.ensures.reports),
-      told_steps c.args.registry.now c.args.limits.now (shape_of c.args.format.now) c.args.text.now json c.in_ok-json.ensures.read c.depth.result c.depth.ensures.is refusal
-          c.in-Err.ensures.reports c.in-Err.ensures.placed other c.outward-steps.result c.outward-steps.ensures,
-    )
+    let other : refusal.fault ≢ OutOfMemory = search rules in
+    let fault = told_fault c.args.registry.now c.args.limits.now (shape_of c.args.format.now) c.args.text.now json c.in_ok-json.ensures.read (Err refusal.fault)
+    (subst (λ n. Reports {X = Value} tree_of (Err refusal.fault) (read_data c.args.registry.now n (of (shape_of c.args.format.now)) json)) c.depth.ensures.is c.in-Err.ensures.reports) in
+    let steps = told_steps c.args.registry.now c.args.limits.now (shape_of c.args.format.now) c.args.text.now json c.in_ok-json.ensures.read c.depth.result c.depth.ensures.is refusal
+    c.in-Err.ensures.reports c.in-Err.ensures.placed other c.outward-steps.result c.outward-steps.ensures in
+    search (rules, fault, steps)

@@ -1,4 +1,4 @@
-use Rattle.bcs_num.proofs.Prelude.{◌∙◌, w8, w16, w32, w64, w128}
+use Rattle.bcs_num.proofs.Prelude.{◌∙◌, rules, w8, w16, w32, w64, w128}
 use Rattle.bcs_num.proofs.LeReading.{put_is, byte_low_first}
 use Rattle.bcs_num.proofs.little_endian.put_le.Goals as goal
 
@@ -6,7 +6,7 @@ pub returns-in-W1 : goal.returns-in-W1
 returns-in-W1 c = rw c.in-W1.is (put_is w8 c.args.n _ _ _ _ c.put_front.ensures.len (c.to_le_bytes.ensures ∙ byte_low_first c.args.n (rw c.in-W1.is at c.requires)) c.put_front.ensures.after)
 
 pub returns-in-W2 : goal.returns-in-W2
-returns-in-W2 c = rw c.in-W2.is (put_is w16 c.args.n _ _ _ _ c.put_front-in-W2.ensures.len c.to_le_bytes-in-W2.ensures c.put_front-in-W2.ensures.after)
+returns-in-W2 c = rw c.in-W2.is (put_is w16 c.args.n _ _ _ _ c.put_front-in-W2.ensures.len (search rules) c.put_front-in-W2.ensures.after)
 
 pub returns-in-W4 : goal.returns-in-W4
 returns-in-W4 c = rw c.in-W4.is (put_is w32 c.args.n _ _ _ _ c.put_front-in-W4.ensures.len c.to_le_bytes-in-W4.ensures c.put_front-in-W4.ensures.after)

@@ -16,7 +16,8 @@ loop-left-preserved c =
 pub returns-clause-bytes : goal.returns-clause-bytes
 returns-clause-bytes c =
     let here = room_few c.loop-left.i c.loop-left.left c.loop-left.invariant.fits in
-    put_last c.loop-left.out c.loop-left.i c.loop-left.left _ (omega arith) c.loop-left-test.false c.loop-left.invariant.written
+    let known = put_last c.loop-left.out c.loop-left.i c.loop-left.left _ (omega arith) c.loop-left-test.false c.loop-left.invariant.written in
+    search (rules, known)
 
 pub returns-clause-len : goal.returns-clause-len
 returns-clause-len c =

@@ -1,4 +1,4 @@
-use Rattle.bcs_num.proofs.Prelude.{◌≡◌, ◌<◌, ◌+◌, ◌*◌, ◌&&◌, ◌==◌, nat_lt, false, Ok, Err, get_or, arith, ◌∙◌, sym, ap, ℕ, refl, nat_tests, drop_all, All-from_get_or, LongForm, NumberTooLarge}
+use Rattle.bcs_num.proofs.Prelude.{◌≡◌, ◌<◌, ◌+◌, ◌*◌, ◌&&◌, ◌==◌, nat_lt, false, Ok, Err, get_or, arith, rules, ◌∙◌, sym, ap, ℕ, refl, nat_tests, drop_all, All-from_get_or, LongForm, NumberTooLarge}
 use Rattle.bcs_num.proofs.UlebReading.{verdict, decided, at_large, at_zero_last, at_last}
 use Rattle.bcs_num.proofs.uleb.take_uleb.Goals as goal
 use Rattle.bcs_num.proofs.uleb.take_uleb.Goals.{else-i-eq4-via-then-i-eq4+else-byte-gt15, else-i-eq4-via-else-i-eq4, else-byte-eq0-via-then-byte-eq0+else-i-gt0, else-byte-eq0-via-else-byte-eq0}
@@ -10,15 +10,37 @@ returns c =
 
 pub returns-then-byte-gt15 : goal.returns-then-byte-gt15
 returns-then-byte-gt15 c =
-    verdict c.args.bytes.now _ (All-from_get_or (λ b. b < 256) c.args.bytes.now 0 (λ i _. (c.type_inv.bytes i).fits))
+    let known = verdict c.args.bytes.now _ (All-from_get_or (λ b. b < 256) c.args.bytes.now 0 (λ i _. (c.type_inv.bytes i).fits))
     (decided c.args.bytes.now c.loop-i.i c.loop-i.low c.loop-i.worth (Err NumberTooLarge) c.loop-i-test.true c.loop-i.invariant.whole
-    (at_large c.loop-i.i _ _ c.if-i-eq4.true c.if-byte-gt15.true))
+    (at_large c.loop-i.i _ _ c.if-i-eq4.true c.if-byte-gt15.true)) in
+    search (rules, known)
 
-pub returns-then-i-gt0 : goal.returns-then-i-gt0
-returns-then-i-gt0 c =
-    verdict c.args.bytes.now _ (All-from_get_or (λ b. b < 256) c.args.bytes.now 0 (λ i _. (c.type_inv.bytes i).fits))
+pub returns-then-i-gt0-clause-found : goal.returns-then-i-gt0-clause-found
+returns-then-i-gt0-clause-found c = search rules
+
+pub returns-then-i-gt0-clause-ended : goal.returns-then-i-gt0-clause-ended
+returns-then-i-gt0-clause-ended c = search rules
+
+pub returns-then-i-gt0-clause-only : goal.returns-then-i-gt0-clause-only
+returns-then-i-gt0-clause-only c =
+    let known = verdict c.args.bytes.now _ (All-from_get_or (λ b. b < 256) c.args.bytes.now 0 (λ i _. (c.type_inv.bytes i).fits))
     (decided c.args.bytes.now c.loop-i.i c.loop-i.low c.loop-i.worth (Err LongForm) c.loop-i-test.true c.loop-i.invariant.whole
-    (at_zero_last c.loop-i.i _ _ c.if-byte-eq0.true c.if-i-gt0.true))
+    (at_zero_last c.loop-i.i _ _ c.if-byte-eq0.true c.if-i-gt0.true)) in
+    search (rules, known.only)
+
+pub returns-then-i-gt0-clause-long : goal.returns-then-i-gt0-clause-long
+returns-then-i-gt0-clause-long c =
+    let known = verdict c.args.bytes.now _ (All-from_get_or (λ b. b < 256) c.args.bytes.now 0 (λ i _. (c.type_inv.bytes i).fits))
+    (decided c.args.bytes.now c.loop-i.i c.loop-i.low c.loop-i.worth (Err LongForm) c.loop-i-test.true c.loop-i.invariant.whole
+    (at_zero_last c.loop-i.i _ _ c.if-byte-eq0.true c.if-i-gt0.true)) in
+    search (rules, known.long)
+
+pub returns-then-i-gt0-clause-large : goal.returns-then-i-gt0-clause-large
+returns-then-i-gt0-clause-large c =
+    let known = verdict c.args.bytes.now _ (All-from_get_or (λ b. b < 256) c.args.bytes.now 0 (λ i _. (c.type_inv.bytes i).fits))
+    (decided c.args.bytes.now c.loop-i.i c.loop-i.low c.loop-i.worth (Err LongForm) c.loop-i-test.true c.loop-i.invariant.whole
+    (at_zero_last c.loop-i.i _ _ c.if-byte-eq0.true c.if-i-gt0.true)) in
+    search (rules, known.large)
 
 pub returns-then-byte-lt128 : goal.returns-then-byte-lt128
 returns-then-byte-lt128 c =

@@ -1,4 +1,4 @@
-use Rattle.std.proofs.Common.{map, None, refl, Some}
+use Rattle.std.proofs.Common.{map, None, refl, rules, Some}
 use Rattle.bcs_registry_model.specs.Container.{of}
 use Rattle.bcs_registry_model.specs.View.{shape_of}
 use Rattle.bcs_decode_parts.specs.Parts.{part_at}
@@ -27,7 +27,7 @@ returns-in-Some-sized_content c = λ n t good.
     let x = c.in-Some-sized_content in
     gives_found r b (part_at r path (of s) t) at x.size x.rest _ c.bytes_before.result.now
     (leads_from r c.args.limits.now s b n t start.result path (Some at) good start.ensures.bytes start.ensures.here start.ensures.depth start.ensures.nodes c.in-Some.ensures)
-    x.ensures c.first_bytes.ensures c.bytes_before.ensures refl)
+    x.ensures c.first_bytes.ensures (search rules) refl)
 
 pub returns-in-None : goal.returns-in-None
 returns-in-None c = λ n t good.

@@ -3,9 +3,10 @@ use Rattle.bcs_registry.proofs.registry.Registry.container.Goals as goal
 
 pub returns-clause-found : goal.returns-clause-found
 returns-clause-found c =
-    map-copied container_of c.get.result ∙ ap (option_map container_of) c.get.ensures.value
+    let known = map-copied container_of c.get.result ∙ ap (option_map container_of) c.get.ensures.value
     ∙ sym (find-container c.args.name.now c.self.inside.containers.entries)
-    ∙ ap (container_at c.args.name.now) c.self.view_is
+    ∙ ap (container_at c.args.name.now) c.self.view_is in
+    search (rules, known)
 
 pub returns-clause-well_formed : goal.returns-clause-well_formed
 returns-clause-well_formed c = search rules

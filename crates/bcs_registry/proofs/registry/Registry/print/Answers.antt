@@ -8,7 +8,7 @@ pub returns-clause-text : goal.returns-clause-text
 returns-clause-text c =
     let entries = entries_of c.self.inside.containers.entries in
     let built = view c.in_ok-registry_value.field-0 in
-    let is : built ≡ shown_registry entries = c.in_ok-registry_value.ensures in
+    let is : built ≡ shown_registry entries = search rules in
     let plain : has_float built ≡ false = ap has_float is ∙ no_float-shown entries in
     IfOk-weaker c.to_string.result _ _ (λ s h. h plain ∙ ap compact_text (is ∙ ap shown_registry c.self.view_is)) c.to_string.ensures.text
 
@@ -16,7 +16,7 @@ pub returns-clause-reads_back : goal.returns-clause-reads_back
 returns-clause-reads_back c =
     let entries = entries_of c.self.inside.containers.entries in
     let built = view c.in_ok-registry_value.field-0 in
-    let writes : IsRegistryText built entries = record { is = c.in_ok-registry_value.ensures; orderly = c.self.invariant.1 } in
+    let writes : IsRegistryText built entries = record { is = search rules; orderly = c.self.invariant.1 } in
     let shallow : depth built ≤ max_depth = subst (λ d. depth d ≤ max_depth) (sym writes.is) (depth-shown entries c.self.invariant.0) in
     IfOk-weaker c.to_string.result _ _
     (λ s h. (built, (IsUtf8-string_bytes s, h shallow), subst (IsRegistryText built) c.self.view_is writes)) c.to_string.ensures.reads_back

@@ -26,4 +26,4 @@ returns-in-Err-write_and_commit-clause-fault g c =
       n = part.n;
       appended = part.appended;
       last = unstored_stage _ _ _ c.in_default.ensures.opened part.next;
-    }) c.unwritten.ensures
+    }) c.in-Err-write_and_commit.cause c.unwritten.ensures

@@ -1,0 +1,58 @@
+//! What was found for the texts that ask for views.
+
+use crate::views::Views;
+use std::alloc::{AllocError, Global};
+
+/// What was found for a text.
+#[derive(Clone, Copy)]
+pub(crate) enum Finding {
+    /// The value has no such byte string or list.
+    Missing,
+    Found,
+    /// The list is there, but FUNCTION wasn't compared with the function that is called.
+    Uncompared(Uncompared),
+}
+
+/// Why FUNCTION wasn't compared.
+#[derive(Clone, Copy)]
+pub(crate) enum Uncompared {
+    /// It isn't the name of a function.
+    NoName,
+    /// What names the function that is called isn't beside the list.
+    NoMembers,
+}
+
+/// The same for each text.
+#[derive(Drop)]
+pub(crate) struct Findings {
+    findings: Vec<Finding>,
+}
+
+impl Findings {
+    pub(crate) fn new(alloc: Global, views: &Views) -> Result<Findings, AllocError> {
+        let mut findings = Vec::new(alloc);
+        for _ in views.sources() {
+            findings.push(Finding::Missing)?;
+        }
+        Ok(Findings { findings })
+    }
+
+    /// Of all that was found for a text, what wasn't compared counts.
+    pub(crate) fn mark(&mut self, source: usize, found: Finding) {
+        match (self.findings.get_mut(source), found) {
+            (_, Finding::Missing) | (None, _) | (Some(Finding::Uncompared(_)), _) => {}
+            (Some(finding), _) => *finding = found,
+        }
+    }
+
+    /// Adds what was found in another value.
+    pub(crate) fn add(&mut self, other: &Findings) {
+        for (source, found) in other.findings.iter().enumerate() {
+            self.mark(source, *found);
+        }
+    }
+
+    pub(crate) fn all(&self) -> &[Finding] {
+        &self.findings
+    }
+}

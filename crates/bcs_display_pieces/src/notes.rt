@@ -1,0 +1,82 @@
+//! Notes about views: on byte strings that a value doesn't have, and on calls that weren't compared.
+
+use crate::findings::{Finding, Findings, Uncompared};
+use crate::objects::put_note_object;
+use crate::views::{Source, Views};
+use bcs_display_refusal::{Location, Refusal};
+use bcs_display_text::style::Form;
+use std::alloc::{AllocError, Global};
+
+const NO_NAME: &str =
+    "not compared with the function that is called: FUNCTION isn't ADDRESS::MODULE::NAME, with or without <TYPES>";
+
+const NO_MEMBERS: &str =
+    "not compared with the function that is called: it isn't beside the list, in module.address, module.name, function and ty_args";
+
+/// A note for each view that needs one: `at --inside, .data: no byte string there`.
+pub(crate) fn notes_of(
+    alloc: Global,
+    views: &Views,
+    findings: &Findings,
+) -> Result<Vec<Refusal>, AllocError> {
+    let mut notes = Vec::new(alloc);
+    for (source, finding) in views.sources().iter().zip(findings.all()) {
+        match finding {
+            Finding::Found => {}
+            Finding::Missing if source.argument == "--call" => notes.push(note(
+                alloc,
+                source,
+                "no list there",
+            )?)?,
+            Finding::Missing => notes.push(note(alloc, source, "no byte string there")?)?,
+            Finding::Uncompared(Uncompared::NoName) => notes.push(note(alloc, source, NO_NAME)?)?,
+            Finding::Uncompared(Uncompared::NoMembers) => notes.push(note(
+                alloc, source, NO_MEMBERS,
+            )?)?,
+        }
+    }
+    Ok(notes)
+}
+
+// Nothing is refused.
+fn note(alloc: Global, source: &Source, message: &str) -> Result<Refusal, AllocError> {
+    Ok(Refusal {
+        input: None,
+        argument: Some(source.argument),
+        location: Location::Name(String::from_str(alloc, source.name.as_str())?),
+        fault: None,
+        message: Vec::from_slice(alloc, message.as_bytes())?,
+    })
+}
+
+/// Adds notes to the pieces of a value, each on a line: `note: at --inside, .data: no byte string there`. In JSON they are
+/// objects before the last one.
+pub fn put_notes(form: Form, notes: &[Refusal], text: &mut Vec<u8>) -> Result<(), AllocError> {
+    let alloc = *text.allocator();
+    let start = match form {
+        Form::Json => last_line(text),
+        Form::Ways | Form::Paths | Form::Tree => text.len(),
+    };
+    let end = Vec::from_slice(alloc, text.get(start..).unwrap_or(b""))?;
+    text.truncate(start);
+    for note in notes {
+        match form {
+            Form::Json => put_note_object(note, text)?,
+            Form::Ways | Form::Paths | Form::Tree => {
+                text.extend_from_slice(b"note: ")?;
+                text.extend_from_slice(note.line(alloc)?.as_slice())?;
+                text.push(b'\n')?;
+            }
+        }
+    }
+    text.extend_from_slice(&end)
+}
+
+// Where the last line of a text begins, which ends with a line feed.
+fn last_line(text: &[u8]) -> usize {
+    let lines = text.strip_suffix(b"\n").unwrap_or(text);
+    match lines.iter().rposition(|byte| *byte == b'\n') {
+        Some(end) => end.saturating_add(1),
+        None => 0,
+    }
+}
