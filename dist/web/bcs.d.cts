@@ -98,8 +98,9 @@ export interface Limits {
   /** How many containers may be open at once: at most 500, which is the default. */
   depth?: number;
   /**
-   * How many nodes a value may have. By default the nodes of bytes are limited to 16 for each byte of the input and 65,536 more,
-   * fewer if the registry has a name of more than 64 bytes, and those of values and their JSON to 4294967295.
+   * How many nodes a value may have. By default, bytes may have 16 for each byte of the input and 65,536 more, fewer if the
+   * registry has a name of more than 64 bytes. A value of JavaScript may have 16777216, not counting the bytes of lists of `U8`, so
+   * a longer list of other numbers needs a limit. A JSON text may have 4294967295.
    */
   nodes?: number;
 }
@@ -174,7 +175,19 @@ export interface End {
   end: number;
 }
 
-/** What follows the pieces if the bytes stop being a value. */
+/**
+ * What is to be said about a view, before the end: that the value has no such byte string or list, or that the function wasn't compared
+ * with the one that is called.
+ */
+export interface Note {
+  note: string;
+  name: string;
+}
+
+/**
+ * What follows the pieces if the bytes stop being a value, or if a list isn't one of byte strings (`BadPath`) or another function is
+ * called (`OtherFunction`: `want` has both names).
+ */
 export interface Stop {
   refused: string;
   place: number;
@@ -262,8 +275,8 @@ export interface Registry<T extends Types = AnyTypes> {
   contentByName(format: Format<T>, bytes: Bytes, name: Text): { place: number; bytes: Uint8Array } | undefined;
   /** The same by a JSON Pointer into the value's JSON, such as `/payload/EntryFunction/args/0`. */
   contentByPointer(format: Format<T>, bytes: Bytes, pointer: Text): { place: number; bytes: Uint8Array } | undefined;
-  /** The pieces of the input, and behind them their end, or where they stop being a value. */
-  explain(format: Format<T>, bytes: Bytes, views?: Views<T>): (Piece | End | Stop)[];
+  /** The pieces of the input, and behind them notes about the views and the end, or where they stop being a value. */
+  explain(format: Format<T>, bytes: Bytes, views?: Views<T>): (Piece | Note | End | Stop)[];
   /** The same as lines, as the program `bcs explain` prints them. */
   explainText(format: Format<T>, bytes: Bytes, form?: 'ways' | 'paths' | 'tree' | 'json', views?: Views<T>): string;
 }
@@ -274,7 +287,7 @@ export interface Views<T extends Types = AnyTypes> {
   inside?: { readonly [name: string]: Format<T> };
   /**
    * By the name of a list of byte strings the function of Move whose arguments they are. Those are the containers
-   * `0x1::coin::transfer<..>::arg0` and so on that `registryOfModules` makes.
+   * `0x1::coin::transfer<..>::arg0` and so on that `registryOfModules` makes. If the value calls another function, none of them is shown.
    */
   calls?: { readonly [name: string]: string };
   /** Containers whose values are shown as Move's. Those called `address`, `u256` and `i256` are so without it. */

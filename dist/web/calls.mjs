@@ -4,6 +4,8 @@ import { Interruption, interruptionOf } from './interruptions.mjs';
 
 const STATUSES = ['done', 'short', 'registry', 'format', 'limits', 'refused', 'memory', 'no', 'path', 'newer', 'closed'];
 export const FORMS = ['ways', 'paths', 'tree', 'json'];
+/** What is added to a form of `explain`: notes about the views follow the pieces. */
+const WITH_NOTES = 4;
 const NOTATIONS = ['steps', 'name', 'pointer'];
 const ANSWER_SIZE = 24;
 const SLICE_SIZE = 16;
@@ -241,7 +243,7 @@ export class Calls {
 
   /** `views` has a line for each view. */
   explain(ask, form, views, bytes) {
-    return this.#on('explain_with', ask, [FORMS.indexOf(form), views, bytes], Math.min(64 * bytes.length + 256, FIRST_PIECES));
+    return this.#on('explain_with', ask, [FORMS.indexOf(form) + WITH_NOTES, views, bytes], Math.min(64 * bytes.length + 256, FIRST_PIECES));
   }
 
   /** Where a text is refused, and what was expected there, with a NUL between them. */

@@ -35,7 +35,7 @@ export class FormatCalls {
   jsonOf(value) {
     if (this.#format.shape === undefined) this.check();
     const { shapes } = this.#holder;
-    const json = jsonOfValue(shapes, this.#holder.shapeOf(this.#format), value, this.#limits.nodes ?? ALL_NODES);
+    const json = jsonOfValue(shapes, this.#holder.shapeOf(this.#format), value, this.#limits.nodes);
     return typeof json === 'string' ? bytesForCall(json) : json;
   }
 

@@ -1,5 +1,6 @@
 // The thread that runs the proved program `bcs`, bcs_program.wasm. What it imports are functions of the system;
 // bindings/hosts/README.md has their contracts.
+import { randomFillSync } from 'node:crypto';
 import {
   closeSync, constants, fchmodSync, fchownSync, fstatSync, fsyncSync, lstatSync, openSync, readFileSync, readlinkSync, readSync,
   renameSync, statSync, unlinkSync, writeSync,
@@ -11,17 +12,19 @@ import { failed } from './program.mjs';
 // The most that one call reads or writes, since Node refuses more than 2 GiB.
 const MOST_BYTES = 1 << 30;
 const LONGEST_PAUSE = 50;
-const STANDARD_OUTPUT = '/proc/self/fd/1';
+const OWN_PROCESS = '/proc/self';
+const STANDARD_OUTPUT = `${OWN_PROCESS}/fd/1`;
 // Linux's flags for `open`, and for `statx`.
 const [WRITES_ONLY, CREATES, CREATES_ONLY, EMPTIES] = [0x1, 0x40, 0x80, 0x200];
 const [OF_LINK, OF_DESCRIPTOR] = [0x100, 0x1000];
 // Linux's number for a link's kind and mode.
 const LINK = 0o120777;
+const FOLDER = 0o040555;
 
 // The numbers that the program knows errors by. They are Linux's, on every system.
 const ERRORS = {
-  EPERM: 1, ENOENT: 2, EINTR: 4, EIO: 5, EBADF: 9, EAGAIN: 11, ENOMEM: 12, EACCES: 13, EEXIST: 17, ENOTDIR: 20, EISDIR: 21, EINVAL: 22,
-  EMFILE: 24, EFBIG: 27, ENOSPC: 28, ESPIPE: 29, EROFS: 30, EPIPE: 32, ENAMETOOLONG: 36, ELOOP: 40,
+  EPERM: 1, ENOENT: 2, EINTR: 4, EIO: 5, ENXIO: 6, EBADF: 9, EAGAIN: 11, ENOMEM: 12, EACCES: 13, EBUSY: 16, EEXIST: 17, ENOTDIR: 20,
+  EISDIR: 21, EINVAL: 22, EMFILE: 24, EFBIG: 27, ENOSPC: 28, ESPIPE: 29, EROFS: 30, EPIPE: 32, ENAMETOOLONG: 36, ELOOP: 40,
 };
 
 function run(words) {
@@ -55,8 +58,9 @@ class Host {
   functions() {
     return {
       open: (path, flags, more) =>
-        this.#tried(-1, () => openSync(this.#textAt(path), flagsOf(flags), flags & CREATES ? this.#view(more).getUint32(0, true) : 0)),
-      close: (file) => this.#tried(-1, () => closeSync(file) ?? 0),
+        this.#tried(-1, () => opened(this.#textAt(path), flags, flags & CREATES ? this.#view(more).getUint32(0, true) : 0)),
+      // (the standard streams stay open: `open` returns them under their own numbers)
+      close: (file) => (file <= 2 ? 0 : this.#tried(-1, () => closeSync(file) ?? 0)),
       read: (file, at, room) => this.#tried(-1n, () => BigInt(read(file, this.#bytes(at, room)))),
       write: (file, at, length) => this.#tried(-1n, () => BigInt(patiently(() => writeSync(file, this.#bytes(at, length))))),
       readlink: (path, at, room) =>
@@ -68,6 +72,7 @@ class Host {
       fchown: (file, owner, group) => this.#tried(-1, () => fchownSync(file, owner >>> 0, group >>> 0) ?? 0),
       rename: (from, to) => this.#tried(-1, () => renameSync(this.#textAt(from), this.#textAt(to)) ?? 0),
       unlink: (path) => this.#tried(-1, () => unlinkSync(this.#textAt(path)) ?? 0),
+      getentropy: (at, length) => (randomFillSync(this.#bytes(at, length)), 0),
       // (the program is linked with these and doesn't call them)
       ftruncate: () => this.#fails('EINVAL', -1),
       fdatasync: () => this.#fails('EINVAL', -1),
@@ -136,6 +141,14 @@ class Host {
   }
 }
 
+/** The descriptor of a file. If /dev/fd/N is opened to write, it is N: the system would open a file anew, and write over its start. */
+function opened(path, flags, mode) {
+  const named = /^\/dev\/fd\/([0-9]+)$/.exec(path);
+  if (named === null || (flags & WRITES_ONLY) === 0) return openSync(path, flagsOf(flags), mode);
+  fstatSync(Number(named[1]));
+  return Number(named[1]);
+}
+
 /** How Node opens a file with these flags of Linux: to read it, or else to write it from its start. */
 function flagsOf(flags) {
   const { O_RDONLY, O_WRONLY, O_CREAT, O_EXCL, O_TRUNC, O_NOCTTY = 0 } = constants;
@@ -146,9 +159,15 @@ function flagsOf(flags) {
 /** What Node knows of a file. Only on Linux does a link's mode say whether it is an ordinary one; on Windows none is. */
 function statsOf(file, path, flags) {
   if ((flags & OF_DESCRIPTOR) !== 0) return fstatSync(file, { bigint: true });
+  if (process.platform !== 'linux' && path.toString() === OWN_PROCESS) return ownProcess();
   const stats = ((flags & OF_LINK) !== 0 ? lstatSync : statSync)(path, { bigint: true });
   if (stats.isSymbolicLink() && !['linux', 'win32'].includes(process.platform)) stats.mode = BigInt(LINK);
   return stats;
+}
+
+/** The folder of a process belongs to its user, and tells who that is. */
+function ownProcess() {
+  return { mode: FOLDER, nlink: 1, uid: process.geteuid?.() ?? 0, gid: 0, ino: 0n, size: 0n, dev: 0n };
 }
 
 /** On Linux a link says which file the standard output is. The program puts colours where that is a terminal. */
@@ -169,13 +188,16 @@ function read(file, room) {
 
 const never = new Int32Array(new SharedArrayBuffer(4));
 
-/** Makes a call on a stream again until it would no longer block, as it may where another process set it so. */
+/**
+ * Makes a call on a stream again after a signal interrupted it, and until it would no longer block, as it may where another process
+ * set it so.
+ */
 function patiently(call) {
   for (let pause = 1; ; pause = Math.min(2 * pause, LONGEST_PAUSE)) {
     try {
       return call();
     } catch (error) {
-      if (error.code !== 'EAGAIN') throw error;
+      if (error.code !== 'EAGAIN' && error.code !== 'EINTR') throw error;
     }
     Atomics.wait(never, 0, 0, pause);
   }

@@ -174,7 +174,8 @@ export class Registry {
 
   /**
    * The pieces of the input, and behind them `{ end }`, or `{ refused, place, .. }` where they stop being a value. The views say
-   * which byte strings are explained, too, and which containers are values of Move.
+   * which byte strings are explained, too, and which containers are values of Move; a `{ note, name }` comes before the end for each
+   * view that found nothing, and each function that wasn't compared.
    */
   explain(format, bytes, views) {
     const lines = this.explainText(format, bytes, 'json', views).split('\n');

@@ -13,6 +13,11 @@ const MOST_OPEN = 500;
 const MOST_COUNTED = 1_000_000;
 // (about the longest string of V8, so that what is encoded can be decoded)
 const MOST_JSON = 1 << 29;
+// Nodes of a value by default, and after how many of them the rest are counted before more is written.
+const MOST_NODES_OF_VALUE = 1 << 24;
+const UNCOUNTED = 100_000;
+// Counting ends after so many parts, since a larger value may as well be written.
+const MOST_LOOKED_AT = 20_000;
 const MOST_SHOWN = 80;
 const BITS_SHOWN = 512;
 // JSON has such a string as it is.
@@ -36,11 +41,53 @@ const TAKES = {
 };
 
 /**
- * The JSON of a value of this shape with at most `nodes` nodes, as a string or in UTF-8. Rejects a value of a wrong type; the
+ * The JSON of a value of this shape with at most `nodes` nodes, as a string or in UTF-8. Without a number it may have 16,777,216,
+ * and the bytes of lists of `U8` are none. Rejects a value of a wrong type; the
  * proved call finds all other faults.
  */
 export function jsonOfValue(shapes, shape, value, nodes) {
   return new Writer(shapes, nodes).whole(shape, value);
+}
+
+/**
+ * Counts the parts of a value that hold no others, each of which is a node at least, but for the items of an array, which may be
+ * bytes. A part that is shared is looked at once.
+ */
+class Leaves {
+  #left = MOST_LOOKED_AT;
+  #known = new Map();
+
+  /** A number that isn't above theirs. Reads no property that has a getter, so none of the caller's code runs. */
+  count(value, levels = MOST_NESTED) {
+    if (typeof value !== 'object' || value === null || levels === 0) return 1;
+    const known = this.#known.get(value);
+    if (known !== undefined) return known;
+    // (it may hold itself, and is rejected for that later)
+    this.#known.set(value, 1);
+    let [count, items] = [0, 0];
+    for (const part of partsOf(value)) {
+      if (this.#left-- <= 0) break;
+      if (Array.isArray(value) && typeof part !== 'object') items = 1;
+      else count += this.count(part, levels - 1);
+    }
+    count = Math.max(1, count + items);
+    this.#known.set(value, count);
+    return count;
+  }
+}
+
+function* partsOf(value) {
+  if (isMap(value)) {
+    for (const entry of entriesOf(value)) yield* entry;
+  } else if (Array.isArray(value)) {
+    for (let i = 0; ; i++) {
+      const held = Object.getOwnPropertyDescriptor(value, i);
+      if (held === undefined) return;
+      yield held.value;
+    }
+  } else if (hasMembers(value)) {
+    for (const name of Object.keys(value)) yield Object.getOwnPropertyDescriptor(value, name)?.value;
+  }
 }
 
 /**
@@ -51,16 +98,22 @@ export function jsonOfValue(shapes, shape, value, nodes) {
 class Writer {
   #shapes;
   #nodes;
+  #countsOctets;
+  #uncounted;
+  #whole;
   #out = new JsonOutput();
   #path = [];
   #open = 0;
 
   constructor(shapes, nodes) {
     this.#shapes = shapes;
-    this.#nodes = nodes;
+    this.#nodes = nodes ?? MOST_NODES_OF_VALUE;
+    this.#countsOctets = nodes !== undefined;
+    this.#uncounted = this.#nodes - UNCOUNTED;
   }
 
   whole(shape, value) {
+    this.#whole = value;
     this.#value(shape, value);
     return this.#out.whole();
   }
@@ -226,7 +279,15 @@ class Writer {
   #count(nodes = 1) {
     this.#nodes -= nodes;
     if (this.#nodes < 0) throw this.#error('TooManyNodes', 'the value has more nodes than the limits allow');
+    if (this.#nodes < this.#uncounted) this.#countLeaves();
     if (this.#out.length > MOST_JSON) throw this.#error('TooLong', 'the JSON of the value is above 512 MiB');
+  }
+
+  /** Counts ahead, once, so that nothing more is written of a value that has too many. */
+  #countLeaves() {
+    const most = this.#uncounted + UNCOUNTED;
+    this.#uncounted = 0;
+    if (new Leaves().count(this.#whole) > most) this.#count(most + 1);
   }
 
   #text(shape, value) {
@@ -259,7 +320,7 @@ class Writer {
   /** Bytes, or a list of integers from 0 to 255. A string is neither, so that bytes never depend on what it looks like. */
   #bytes(shape, value) {
     const bytes = this.#copied(copyOfBytes, shape, value) ?? this.#octets(shape, value);
-    if (shape.name !== 'BYTES') this.#count(bytes.length);
+    if (this.#countsOctets && shape.name !== 'BYTES') this.#count(bytes.length);
     this.#out.putHex(bytes);
   }
 
