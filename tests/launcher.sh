@@ -1,5 +1,5 @@
 #!/bin/sh
-# Tests ./bcs in a copy of the sources.
+# Tests ./bcs in a copy of the sources, and that ./test and ./install find their own files.
 set -eu
 unset CDPATH
 cd "$(dirname "$0")/.."
@@ -132,28 +132,74 @@ test_where() {
     finds_itself bin sh ../bcs
     finds_itself . sh bcs
     test_path
+    test_others
     rm $own
 }
 
-# is_lost COMMAND..: in the folder elsewhere, with this script as its input, the command runs no program, and says what to do.
+# is_lost SCRIPT COMMAND..: in the folder elsewhere, with the script as its input, the command runs nothing, and says what to do.
 is_lost() (
+    local script="../$1"
+    shift
     cd elsewhere
-    ! "$@" -s -- check <../bcs >output 2>errors || fail "$* runs something"
+    ! "$@" -s -- --help <"$script" >output 2>errors || fail "$* runs something"
     { [ ! -s output ] && grep -q 'run it by its path' errors; } || fail "$* prints $(cat output errors)"
 )
 
 # test_path: without a path, the script finds its own program through PATH, and runs none of the current folder.
 test_path() {
-    local with_both="PATH=$room:$room/linked:$PATH"
+    local script with_both="PATH=$room:$room/linked:$PATH"
     mkdir -p elsewhere/dist/x86_64-linux linked
     program elsewhere/$taken hostile
     ln -s ../bcs linked/name
     finds_itself elsewhere env "$with_both" bcs
     finds_itself elsewhere env "$with_both" bash bcs
     finds_itself elsewhere env "$with_both" bash name
-    is_lost bash
-    echo "# another" >elsewhere/bash
-    is_lost bash
+    for script in bcs test install; do
+        is_lost $script bash
+        echo "# another" >elsewhere/bash
+        is_lost $script bash
+        rm elsewhere/bash
+    done
+}
+
+# tests_itself FOLDER COMMAND..: in that folder, the command runs the tests beside the script.
+tests_itself() (
+    cd "$1"
+    shift
+    "$@" --help 2>&1 | grep -q SHA256SUMS || fail "$* --help"
+)
+
+# installs_itself FOLDER COMMAND..: in that folder, the command looks for the library beside the script. (There is none.)
+installs_itself() (
+    cd "$1"
+    shift
+    ! "$@" --library --prefix "$room/prefix" 2>"$room/errors" || fail "$* installs something"
+    grep -qx "install: there is no library to install: $room/dist/x86_64-linux/libbcs.so" "$room/errors" || {
+        cat "$room/errors"
+        fail "$*"
+    }
+)
+
+# is_sent_away COMMAND..: in the folder elsewhere, the command runs nothing, and says what to do.
+is_sent_away() (
+    cd elsewhere
+    ! "$@" --help >output 2>errors || fail "$* runs something"
+    { [ ! -s output ] && grep -q 'run it by its path' errors; } || fail "$* prints $(cat output errors)"
+)
+
+# test_others: ./test and ./install use their own files, and none of the current folder.
+test_others() {
+    mkdir elsewhere/tests
+    echo 'print("hostile")' >elsewhere/tests/test_command.py
+    echo hostile >elsewhere/dist/x86_64-linux/libbcs.so
+    mv dist/x86_64-linux/libbcs.so aside
+    tests_itself . sh test
+    tests_itself elsewhere sh ../test
+    installs_itself . sh install
+    installs_itself elsewhere sh ../install
+    is_sent_away env "PATH=$room:$PATH" bash test
+    is_sent_away env "PATH=$room:$PATH" bash install
+    mv aside dist/x86_64-linux/libbcs.so
 }
 
 # test_build: ./bcs --build, with the script that plays the building.
