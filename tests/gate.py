@@ -2,9 +2,9 @@
 """The merge gate: everything that has to hold before a change lands. It needs the toolchain's command rt, and Debian.
 
 First come the checks that take seconds: git tracks nothing that only a build may make, scripts are formatted and have
-no warning, what the documents name is there, and docs/DECISIONS.md lists what the public API has beyond the specified
-one. Then `rt ci` proves every crate and its tests, tries the must-fail edits, and builds the programs. The steps after
-it test what was built.
+no warning, what the documents name is there, each part of the tree is within its limit, and tools/further_api.txt
+lists what the public API has beyond the specified one. Then `rt ci` proves every crate and its tests, tries the
+must-fail edits, and builds the programs. The steps after it test what was built.
 
 All steps run, side by side except for `rt ci`, and a failure keeps only those from running that need the failed one;
 these count as failed. A table at the end has the processor minutes of each step. The last line is the closing line of
@@ -126,6 +126,7 @@ QUICK = [
     Step("the gate's own tests", ["tests/gate_test.py"]),
     Step("names in documents", ["tests/document_names.py"]),
     Step("links in documents", ["tests/document_links.py"]),
+    Step("budgets", python("tests/budgets.py")),
     Step("public items", ["tools/api.py", "--check"]),
 ]
 PROVED = "rt ci"

@@ -17,6 +17,7 @@ import unittest
 import unittest.mock
 from collections.abc import Callable
 
+import budgets
 import gate as the_gate
 from gate_steps import Gate, Running, Step
 from harness import Failed
@@ -244,6 +245,44 @@ class Whole(unittest.TestCase):
             failed, lines = self.gate(rt, Step("over", ["true"], (the_gate.PROVED,)), FAILS, PASSES)
             self.assertEqual(failed, ["quick", the_gate.PROVED, "fails", "over"])
             self.assertEqual(lines[-1], closing)
+
+
+class Budgets(unittest.TestCase):
+    """Over a repository with one line in a/, three in b/, and one of which git doesn't know."""
+
+    def check(self, *rows: str) -> tuple[int, str]:
+        top, printed = pathlib.Path(tempfile.mkdtemp(dir=os.environ["ROOM"])), io.StringIO()
+        for name, text in {"a/of": "a\n", "b/of": "one two\n\n\n", "b/more": "\n", "rows": "\n".join(rows)}.items():
+            (top / name).parent.mkdir(exist_ok=True)
+            (top / name).write_text(text, encoding="ascii")
+        harness_run("git", "init", "-q", folder=top)
+        harness_run("git", "add", "a/of", "b/of", folder=top)
+        with contextlib.redirect_stdout(printed):
+            return budgets.check(top, top / "rows"), printed.getvalue()
+
+    def test_rows(self) -> None:
+        for row, status, text in [
+            ("of b: lines 3 3 b", 0, "of b: 3 lines, limit 3, goal 3\n"),
+            ("of b: lines 2 3 b", 0, "of b: 3 lines, limit 3, goal 2\n"),
+            ("of b: lines 2 4 b", 0, "of b: 3 lines, limit 4, goal 2; lower the limit\n"),
+            ("of b: lines 1 2 b", 1, "FAILED: of b: 1 lines above its limit\n"),
+            ("both: lines 0 3 a b", 1, "FAILED: both: 1 lines above its limit\n"),
+            ("without a: lines 3 3 . :!a", 0, "without a: 3 lines, limit 3, goal 3\n"),
+            ("files: lines 4 4 */of", 0, "files: 4 lines, limit 4, goal 4\n"),
+            ("bytes: bytes 9 9 b", 1, "FAILED: bytes: 1 bytes above its limit\n"),
+            ("words: words 2 2 b", 0, "words: 2 words, limit 2, goal 2\n"),
+            ("nothing: lines 9 9 c", 1, "FAILED: nothing: it has no lines: c\n"),
+        ]:
+            with self.subTest(row):
+                ended, printed = self.check("# a comment", "of a: lines 1 1 a", row)
+                self.assertEqual(ended, status)
+                self.assertIn(text, printed)
+
+    def test_no_rows_fail(self) -> None:
+        self.assertEqual(self.check("# a comment")[0], 1)
+        for row in ["of a: lines 1 a", "of a: pages 1 1 a", "of a: lines 2 1 a", "of a: lines 1 1", ""]:
+            with self.subTest(row), self.assertRaises(Failed):
+                self.check("of a: lines 1 1 a", row, "of b: lines 3 3 b")
 
 
 def main() -> None:
