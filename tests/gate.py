@@ -7,8 +7,9 @@ lists what the public API has beyond the specified one. Then `rt ci` proves ever
 must-fail edits, and builds the programs. The steps after it test what was built.
 
 All steps run, side by side except for `rt ci`, and a failure keeps only those from running that need the failed one;
-these count as failed. A table at the end has the processor minutes of each step. The last line is the closing line of
-`rt ci`, `N passed, M failed`, with the failed steps in M.
+these count as failed. A table at the end has the minutes of each step. The line after it compares their sum with the
+budget of a run from nothing, but no time fails the gate. The last line is the closing line of `rt ci`, `N passed, M
+failed`, with the failed steps in M.
 """
 
 from __future__ import annotations
@@ -43,6 +44,8 @@ LINTERS = {
 HUGE_PAGES = pathlib.Path("/sys/kernel/mm/transparent_hugepage/enabled")
 # What a check takes at most, with huge pages.
 BYTES_OF_CHECK = 5_000_000_000
+# The budget of processor minutes for a run from nothing.
+MINUTES = 200
 
 
 @contextlib.contextmanager
@@ -169,6 +172,19 @@ def closing_line(log: str, failed: list[str]) -> str:
     return f"{passed} passed, {wrong} failed"
 
 
+def budget_line(log: str, minutes: float) -> str:
+    """Whether the processor minutes are within the budget, if all proofs were made in this run. `rt ci` says so if it
+    passes: it keeps what earlier runs on this machine have proved, also in other folders."""
+    whole, processors = "every proof and must-fail edit was done in this run", len(os.sched_getaffinity(0))
+    found = re.findall(rf"^rt: ok;.*; ({whole}|done in this run: \d+ of .*)$", log, flags=re.M)
+    spent = f"{minutes:.1f} processor minutes on {processors} processors"
+    if found == [whole]:
+        outcome = "within" if minutes <= MINUTES else "above"
+        return f"from nothing, {spent}: {outcome} the budget of {MINUTES}"
+    reason = found[0] if found else "rt ci hasn't passed"
+    return f"{spent}, and not compared with the budget of {MINUTES} from nothing: {reason}"
+
+
 def run_all(gate: Gate, log: pathlib.Path) -> None:
     gate.attempt("the linters", lambda: install(LINTERS))
     gate.run(QUICK, gate_steps.lanes())
@@ -192,6 +208,7 @@ def main() -> int:
         finally:
             gate.keep_seconds()
             gate.print_table()
+        print(f"gate: {budget_line(log.read_text(encoding='utf-8'), gate.minutes())}")
         print(closing_line(log.read_text(encoding="utf-8"), gate.failed()))
     return 1 if gate.failed() else 0
 

@@ -159,6 +159,10 @@ class Gate:
             missing = ", ".join(name for name in step.after if name not in passed)
             self.add(Ended(step.name, f"not run, since this didn't pass: {missing}"))
 
+    def minutes(self) -> float:
+        """The processor minutes of all steps."""
+        return sum(ended.processor_seconds for ended in self.ended) / 60
+
     def keep_seconds(self) -> None:
         taken = {ended.name: round(ended.seconds, 1) for ended in self.ended if not ended.fault}
         self.file.parent.mkdir(exist_ok=True)
@@ -169,10 +173,10 @@ class Gate:
         print("gate: processor minutes, minutes by the clock, and the step:")
         for ended in sorted(self.ended, key=lambda ended: (bool(ended.fault), -ended.processor_seconds)):
             print(ended.row())
-        spent, clock = sum(ended.processor_seconds for ended in self.ended), time.monotonic() - self.began
+        spent, clock = self.minutes(), (time.monotonic() - self.began) / 60
         failed = self.failed()
         count = f"{len(self.ended) - len(failed)} steps passed, {len(failed)} failed"
-        print(f"gate: {spent / 60:7.1f} {clock / 60:7.1f}  in all: {count}", flush=True)
+        print(f"gate: {spent:7.1f} {clock:7.1f}  in all: {count}", flush=True)
 
 
 def gate() -> Gate:

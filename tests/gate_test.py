@@ -204,6 +204,33 @@ class Closing(unittest.TestCase):
                 self.assertEqual(the_gate.closing_line(printed, failed), closing)
 
 
+class Budget(unittest.TestCase):
+    def test_rows(self) -> None:
+        whole = "rt: ok; must-fail edits: 9 refused; every proof and must-fail edit was done in this run\n"
+        share = (
+            "done in this run: 3 of the 90 proofs (of crates and of their tests); the others are kept from earlier runs"
+        )
+        spent, not_compared = (
+            "processor minutes on 4 processors",
+            "and not compared with the budget of 200 from nothing",
+        )
+        rows: list[tuple[str, float, str]] = [
+            (
+                f"rt: a proved\n{whole}9 passed, 0 failed\n",
+                184.4,
+                f"from nothing, 184.4 {spent}: within the budget of 200",
+            ),
+            (whole, 200, f"from nothing, 200.0 {spent}: within the budget of 200"),
+            (whole, 200.1, f"from nothing, 200.1 {spent}: above the budget of 200"),
+            (f"rt: ok; handles allowed: none; {share}\n", 30, f"30.0 {spent}, {not_compared}: {share}"),
+            ("rt: a proved\n0 passed, 1 failed\n", 0.04, f"0.0 {spent}, {not_compared}: rt ci hasn't passed"),
+            ("", 300, f"300.0 {spent}, {not_compared}: rt ci hasn't passed"),
+        ]
+        for log, minutes, line in rows:
+            with self.subTest(line), unittest.mock.patch.object(os, "sched_getaffinity", lambda _: {0, 1, 2, 5}):
+                self.assertEqual(the_gate.budget_line(log, minutes), line)
+
+
 class Whole(unittest.TestCase):
     """The gate with a stand-in for `rt` and for the steps."""
 
