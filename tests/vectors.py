@@ -2,9 +2,10 @@
 """tests/vectors.py [FOLDER]: whether the lines of `python3 -m bcs_proved.vectors` find bugs. FOLDER has libbcs.so and
 libbcs.a; by default it is the one in dist/ for this machine.
 
-Bugs are planted in three small codecs, and registries are changed in one place: a line has to show each of them. The
-programs of docs/VECTORS.md pass with the lines, and fail with wrong ones. Prints a line for each part, with its
-processor seconds. Without cargo the program in Rust isn't tried; with CI=true in the environment that is a failure.
+Bugs are planted in a small codec and its reader of JSON, and registries are changed in one place: a line has to show
+each of them. The programs of docs/VECTORS.md pass with the lines, and fail with wrong ones. Prints a line for each
+part, with its processor seconds. Without cargo the program in Rust isn't tried; with CI=true in the environment that is
+a failure.
 """
 
 from __future__ import annotations
@@ -25,7 +26,7 @@ import vectors_consumers as consumers
 from harness import ROOT, Failed, clean_up_on_sigterm, processor_seconds, run
 
 # Processor seconds for the planted bugs and the changed registries, and for the lines of a registry of 400 containers.
-MOST_SECONDS, MOST_SECONDS_OF_400 = 400, 15
+MOST_SECONDS, MOST_SECONDS_OF_400 = 250, 15
 LEAST_CHANGES = 700
 NEEDED = {
     "node": "nodejs",
@@ -91,11 +92,11 @@ class Test:
     def plant(self) -> str:
         folder, registry = self.room / "bugs", REGISTRIES["every_format"]
         lines, texts = bugs.Lines(registry, self.files["every_format"]), bugs.Lines(registry, self.texts)
-        told = [
-            bugs.require_all_shown(codec, texts if codec is bugs.JSON else lines, folder / codec.bugs)
-            for codec in (bugs.PYTHON, bugs.JAVASCRIPT, bugs.GO, bugs.JSON)
+        shown = [
+            bugs.require_all_shown(codec, of, folder / codec.bugs)
+            for codec, of in ((bugs.CODEC, lines), (bugs.READER, texts))
         ]
-        return ", ".join(told)
+        return ", ".join(shown)
 
     def change_registries(self) -> str:
         # (it loads the module, so the library has to be known first)

@@ -1,4 +1,5 @@
-"""The part of tests/vectors.py that plants bugs in the codecs of tests/codecs. The lines have to show each of them."""
+"""The part of tests/vectors.py that plants bugs in the codec and the reader of tests/codecs. The lines have to show
+each of them."""
 
 from __future__ import annotations
 
@@ -8,10 +9,9 @@ import pathlib
 import resource
 import shutil
 import subprocess
-from collections.abc import Callable
 from typing import NamedTuple
 
-from harness import ROOT, Failed, Word, run
+from harness import ROOT, Failed
 
 CODECS = ROOT / "tests/codecs"
 # A codec with a bug may never come to an end, or take all memory.
@@ -70,57 +70,27 @@ class Lines(NamedTuple):
 def limit_resources() -> None:
     resource.setrlimit(resource.RLIMIT_CPU, (MOST_SECONDS, MOST_SECONDS))
     resource.setrlimit(resource.RLIMIT_CORE, (0, 0))
-
-
-def limit_memory_too() -> None:
-    limit_resources()
     resource.setrlimit(resource.RLIMIT_AS, (MOST_BYTES, MOST_BYTES))
 
 
-def wrong_lines(command: list[Word], lines: Lines) -> list[int] | None:
-    """The numbers of the lines that a codec gets wrong; None if it didn't come to an end."""
-    # (Node reserves more addresses than it uses)
-    limit = limit_resources if command[0] == "node" else limit_memory_too
-    ended = subprocess.run(list(map(str, command)), capture_output=True, text=True, preexec_fn=limit)
+def wrong_lines(folder: pathlib.Path, lines: Lines) -> list[int] | None:
+    """The numbers of the lines that the codec in a folder gets wrong; None if it didn't come to an end."""
+    command = ["python3", "-B", str(CODECS / "check.py"), str(lines.registry), str(lines.file), str(folder)]
+    ended = subprocess.run(command, capture_output=True, text=True, preexec_fn=limit_resources)
     printed = ended.stdout.splitlines()
     if printed[:1] != ["started"]:
-        raise Failed(f"{command} doesn't start: {ended.stdout}{ended.stderr}")
+        raise Failed(f"{folder} doesn't start: {ended.stdout}{ended.stderr}")
     if ended.returncode == 0 and printed[-1] != f"checked {lines.length()}":
-        raise Failed(f"{command} has checked other lines than the {lines.length()} of {lines.file}: {printed[-1]}")
+        raise Failed(f"{folder} has checked other lines than the {lines.length()} of {lines.file}: {printed[-1]}")
     return [int(number) for number in printed[1:-1]] if ended.returncode == 0 else None
 
 
-def python(folder: pathlib.Path, lines: Lines) -> list[Word]:
-    return ["python3", "-B", CODECS / "check.py", lines.registry, lines.file, folder]
-
-
-def node(folder: pathlib.Path, lines: Lines) -> list[Word]:
-    return ["node", "--max-old-space-size=1000", CODECS / "check.mjs", lines.registry, lines.file, folder]
-
-
-def go(folder: pathlib.Path, lines: Lines) -> list[Word]:
-    return [folder.parent / "check", lines.registry, lines.file, folder.name]
-
-
-def build_go(room: pathlib.Path) -> None:
-    """One program with the codec of each folder."""
-    names = sorted(folder.name for folder in room.iterdir())
-    imports = "".join(f'import "check/{name}"\n' for name in names)
-    entries = "".join(f'\tcodecs["{name}"] = codec{{{name}.Decode, {name}.Encode}}\n' for name in names)
-    (room / "codecs.go").write_text(f"package main\n\n{imports}\nfunc init() {{\n{entries}}}\n", encoding="utf-8")
-    (room / "go.mod").write_text("module check\n\ngo 1.18\n", encoding="utf-8")
-    shutil.copy(CODECS / "check.go", room)
-    run("go", "build", "-o", "check", ".", folder=room, variables={"GOFLAGS": "-mod=mod", "GOPROXY": "off"})
-
-
 class Codec(NamedTuple):
-    """A codec's file, the file with its bugs, its other files, and how it is asked."""
+    """The file that gets the bugs, the file that lists them, and the file beside it."""
 
     source: str
     bugs: str
-    others: tuple[str, ...]
-    command: Callable[[pathlib.Path, Lines], list[Word]]
-    build: Callable[[pathlib.Path], None] = lambda room: None
+    other: str
 
 
 def require_all_shown(codec: Codec, lines: Lines, room: pathlib.Path) -> str:
@@ -130,18 +100,13 @@ def require_all_shown(codec: Codec, lines: Lines, room: pathlib.Path) -> str:
     folders = {f"bug{number}": (bug.name, planted(source, bug)) for number, bug in enumerate(bugs)}
     for name, (_, text) in {"none": ("", source), **folders}.items():
         (room / name).mkdir(parents=True)
-        # (in Go each package has its own name)
-        (room / name / codec.source).write_text(text.replace("package codec\n", f"package {name}\n"), encoding="utf-8")
-        for other in codec.others:
-            shutil.copy(CODECS / other, room / name)
-    codec.build(room)
-    wrong = wrong_lines(codec.command(room / "none", lines), lines)
+        (room / name / codec.source).write_text(text, encoding="utf-8")
+        shutil.copy(CODECS / codec.other, room / name)
+    wrong = wrong_lines(room / "none", lines)
     if wrong != []:
         raise Failed(f"{codec.source} is wrong in the lines {wrong}")
     with concurrent.futures.ThreadPoolExecutor(len(os.sched_getaffinity(0))) as pool:
-        found = dict(
-            zip(folders, pool.map(lambda name: wrong_lines(codec.command(room / name, lines), lines), folders))
-        )
+        found = dict(zip(folders, pool.map(lambda name: wrong_lines(room / name, lines), folders)))
     for name, (bug, _) in folders.items():
         numbers = found[name]
         if numbers is not None and not 0 < len(numbers) < lines.length() // 2:
@@ -149,7 +114,5 @@ def require_all_shown(codec: Codec, lines: Lines, room: pathlib.Path) -> str:
     return f"{codec.source}: {len(bugs)} bugs"
 
 
-PYTHON = Codec("codec.py", "python.bugs", ("json_reader.py",), python)
-JSON = Codec("json_reader.py", "json.bugs", ("codec.py",), python)
-JAVASCRIPT = Codec("codec.mjs", "javascript.bugs", (), node)
-GO = Codec("codec.go", "go.bugs", (), go, build_go)
+CODEC = Codec("codec.py", "codec.bugs", "json_reader.py")
+READER = Codec("json_reader.py", "json.bugs", "codec.py")

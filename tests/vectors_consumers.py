@@ -1,5 +1,6 @@
-"""The part of tests/vectors.py that runs the consumers in examples/vectors: each in its language, over a codec of that
-language. They have to pass with the right lines, and to fail if one line is wrong."""
+"""The part of tests/vectors.py that runs the consumers in examples/vectors: those in Python over codec.py, and the
+others over the libraries of this repository. They have to pass with the right lines, and to fail if one line is wrong.
+"""
 
 from __future__ import annotations
 
@@ -29,6 +30,16 @@ bcs-proved = {{ path = "{crate}" }}
 
 [dev-dependencies]
 serde_json = "1"
+"""
+
+GO_MODULE = """\
+module codec
+
+go 1.19
+
+require fodrascu.example/bcsproved v0.0.0
+
+replace fodrascu.example/bcsproved => {module}
 """
 
 
@@ -68,26 +79,30 @@ def all_of(libraries: pathlib.Path) -> list[Consumer]:
                 "types.mjs": SDK / "types.mjs",
                 "types.d.mts": SDK / "types.d.mts",
                 "node.d.ts": SDK / "node.d.ts",
-                "codec.mjs": CODECS / "codec.mjs",
                 "registry.json": REGISTRY,
             },
             "vectors.test.mts",
             "vectors.jsonl",
-            ["node", "--stack-size=4000", "vectors.test.mjs"],
+            ["node", "vectors.test.mjs"],
+            {"BCS_WEB": str(libraries.parent / "web")},
             compiler=[*tsc, "node.d.ts", "vectors.test.mts"],
         ),
         Consumer(
             "go",
             {
-                "go.mod": "module codec\n\ngo 1.18\n",
-                "codec.go": CODECS / "codec.go",
+                "go.mod": GO_MODULE.format(module=ROOT / "bindings/go"),
                 "types.go": SDK / "types.go",
                 "registry.json": REGISTRY,
             },
             "vectors_test.go",
             "testdata/vectors.jsonl",
-            ["go", "test", "-count=1", "."],
-            {"GOFLAGS": "-mod=mod", "GOPROXY": "off"},
+            ["go", "test", "-count=1", "-tags", "bcs_c", "."],
+            {
+                "GOFLAGS": "-mod=mod",
+                "GOPROXY": "off",
+                "CGO_CFLAGS": f"-I{ROOT}/bindings/c/include",
+                "CGO_LDFLAGS": f"{libraries}/libbcs.a",
+            },
         ),
         Consumer(
             "rust",

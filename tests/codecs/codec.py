@@ -1,5 +1,5 @@
 """A codec driven by a registry, as a project might write one: bytes to values and back. A value is what json makes of
-its JSON. tests/vectors.py plants bugs in it, which are listed in python.bugs."""
+its JSON. tests/vectors.py plants bugs in it, which are listed in codec.bugs."""
 
 from __future__ import annotations
 

@@ -1,11 +1,21 @@
-// The same for TypeScript, over codec.mjs.
+// The same for TypeScript, over the module of this repository.
 import { readFileSync } from 'node:fs';
-import { Types } from './codec.mjs';
 
-const registry = JSON.parse(readFileSync('registry.json', 'utf8'));
-const made = new Types(registry);
+const { load } = await import(`${process.env.BCS_WEB}/bcs.mjs`);
+const text = readFileSync('registry.json', 'utf8');
+const registry = (await load()).registry(text);
+
+const parse = (name, data) => {
+  try {
+    return JSON.parse(registry.decodeText(name, data));
+  } catch (error) {
+    if (error.reason === 'TooNested') return data; // these bytes are a value
+    throw error;
+  }
+};
+const bytes = (name, value) => (value instanceof Uint8Array ? value : registry.encodeText(name, JSON.stringify(value)));
 const type = name => ({
-  parse: data => made.decode(name, data),
-  serialize: value => ({ toBytes: () => made.encode(name, value) }),
+  parse: data => parse(name, data),
+  serialize: value => ({ toBytes: () => bytes(name, value) }),
 });
-export const types = Object.fromEntries(Object.keys(registry).map(name => [name, type(name)]));
+export const types = Object.fromEntries(Object.keys(JSON.parse(text)).map(name => [name, type(name)]));
