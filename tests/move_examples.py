@@ -186,7 +186,6 @@ def opened_table(opened: Opened) -> str:
 def test_opened(tests: Tests, opened: Opened) -> None:
     expected = opened_table(opened)
     tests.equal(f"names with [bcs] of {opened.name}", expected.count("[bcs]\n"), len(opened.inner))
-    tests.equal(f"{opened.name}.explained", text(f"{opened.name}.explained"), expected)
     whole = json.loads((ROOT / f"examples/{opened.registry}.json").read_text(encoding="utf-8"))
     whole |= tests.registry(opened.modules, *opened.functions)
     digits = (ROOT / f"examples/{opened.name}.hex").read_text(encoding="utf-8")

@@ -3,9 +3,8 @@
 libbcs.a; by default it is the one in dist/ for this machine.
 
 Bugs are planted in a small codec and its reader of JSON, and registries are changed in one place: a line has to show
-each of them. The programs of docs/VECTORS.md pass with the lines, and fail with wrong ones. Prints a line for each
-part, with its processor seconds. Without cargo the program in Rust isn't tried; with CI=true in the environment that is
-a failure.
+each of them. The programs of docs/VECTORS.md pass with the lines, and fail with wrong ones; that in Rust needs cargo.
+Prints a line for each part, with its processor seconds.
 """
 
 from __future__ import annotations
