@@ -48,8 +48,9 @@ web=$(cd "$web" && pwd)
 for file in "$here"/*.mjs "$here/bcs.d.mts"; do
     cmp "$file" "$web/$(basename "$file")" || fail "the folder has another $(basename "$file")"
 done
-for name in bcs bcs_scalar bcs_program; do
-    wasm-validate "$web/$name.wasm" || fail "$name.wasm isn't WebAssembly as it was before 64-bit memory"
+gzip -dc "$web/bcs_scalar.wasm.gz" >"$room/bcs_scalar.wasm" || fail "bcs_scalar.wasm.gz"
+for file in "$web/bcs.wasm" "$room/bcs_scalar.wasm" "$web/bcs_program.wasm"; do
+    wasm-validate "$file" || fail "$file isn't WebAssembly as it was before 64-bit memory"
 done
 gcc -std=gnu11 -O1 -Wall -Wextra -Werror "$here/tests/wide.c" -o "$room/wide"
 "$room/wide" || fail "arithmetic on 128 bits"

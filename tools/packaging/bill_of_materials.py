@@ -105,7 +105,7 @@ def origins(files: list[dict[str, Any]]) -> list[dict[str, str]]:
     for file in files:
         is_program = file["fileName"].endswith(("-linux/bcs", "-windows/bcs.exe"))
         relations.append(relation("SPDXRef-package-bcs", "CONTAINS", file["SPDXID"]))
-        if is_program or file["fileName"].endswith((".a", ".so", ".dll", ".wasm")):
+        if is_program or file["fileName"].endswith((".a", ".so", ".dll", ".wasm", ".wasm.gz")):
             crate = identity("crate", "bcs" if is_program else "bcs_c")
             relations.append(relation(file["SPDXID"], "GENERATED_FROM", crate))
     return relations

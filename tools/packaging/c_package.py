@@ -7,15 +7,17 @@ tools/packaging/c_package.py DIST FOLDER makes a folder with its files from a fo
 from __future__ import annotations
 
 import functools
+import gzip
 import pathlib
 import sys
+import tempfile
 
 import archives
 import facts
 
 FOLDER = facts.ROOT / "bindings/portable"
 C = facts.ROOT / "bindings/c"
-LIBRARY, PROGRAM = "web/bcs_scalar.wasm", "web/bcs_program.wasm"
+LIBRARY, PROGRAM = "web/bcs_scalar.wasm.gz", "web/bcs_program.wasm"
 TESTS = ["calls.c", "handles.c", "threads.c", "checks.h", "jobs.h"]
 OWN_TESTS = ["rows.c", "stack.c"]
 
@@ -27,7 +29,10 @@ import translation  # noqa: E402
 @functools.cache
 def library() -> archives.File:
     """bcs_library.c, which packages for Rust, Python and Go have too."""
-    return archives.text(translation.library(facts.DIST / LIBRARY, facts.licence()))
+    with tempfile.NamedTemporaryFile(suffix=".wasm") as module:
+        module.write(gzip.decompress((facts.DIST / LIBRARY).read_bytes()))
+        module.flush()
+        return archives.text(translation.library(pathlib.Path(module.name), facts.licence()))
 
 
 @functools.cache

@@ -21,7 +21,7 @@ def named_files(part: Any) -> Iterator[str]:
 
 def contents(bill: archives.File) -> archives.Files:
     """The files of the package, without the page, which contains the module once more, and the module for C."""
-    left_out = {"bcs.html", "bcs_scalar.wasm"}
+    left_out = {"bcs.html", "bcs_scalar.wasm.gz"}
     files = {name: file for name, file in archives.tree(facts.WEB).items() if name not in left_out}
     files["bcs-registry.py"] = archives.taken(facts.REGISTRY_COMMAND)
     described = archives.taken(facts.ROOT / "bindings/web/package.json")

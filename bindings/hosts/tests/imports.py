@@ -28,7 +28,9 @@ PROGRAM_NEEDS = {"x86_64-linux": f"{OF_BOTH} __write environ", "aarch64-linux": 
 ON_MEMORY = {"memcpy", "memmove", "memset"}
 
 IMPORTS = """
-for (const it of WebAssembly.Module.imports(new WebAssembly.Module(require("fs").readFileSync(process.argv[1]))))
+const file = process.argv[1], bytes = require("fs").readFileSync(file);
+const code = file.endsWith(".gz") ? require("zlib").gunzipSync(bytes) : bytes;
+for (const it of WebAssembly.Module.imports(new WebAssembly.Module(code)))
     console.log(it.module === "env" && it.kind === "function" ? it.name : JSON.stringify(it));
 """
 
@@ -90,9 +92,9 @@ def check_modules(web: pathlib.Path, program: list[str]) -> None:
         program,
     )
     same("bcs_program.wasm", program, of_module(web / "bcs_program.wasm"))
-    for name in "bcs", "bcs64", "bcs_scalar":
-        if found := of_module(web / f"{name}.wasm"):
-            fail(f"{name}.wasm imports {' '.join(found)}")
+    for name in "bcs.wasm", "bcs64.wasm", "bcs_scalar.wasm.gz":
+        if found := of_module(web / name):
+            fail(f"{name} imports {' '.join(found)}")
 
 
 def check_library(folder: pathlib.Path, room: pathlib.Path) -> None:
