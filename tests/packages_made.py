@@ -95,7 +95,7 @@ def agree_on_licence_and_version(rooms: Rooms) -> str:
 def make_twice(rooms: Rooms) -> str:
     again, tool = rooms.top / "again", rooms.tree / "tools/packages.py"
     run(tool, rooms.made)
-    run("tests/packages_again.py", tool, rooms.made, again)
+    run(tool, again)
     run("diff", "-r", rooms.made, again)
     shutil.rmtree(again)
     run("sha256sum", "--quiet", "-c", "SHA256SUMS", folder=rooms.made)

@@ -18,12 +18,13 @@
 
 It refuses a dist/ that is damaged, older than the sources, or neither signed nor as in the last commit. A second run
 makes the same bytes. The files in the packages have the time SOURCE_DATE_EPOCH, if that is set. Nothing is published.
-It needs Linux on x86-64, Python 3.11, and wasm2c 1.0.32, which is in Debian 12's package wabt.
+It needs Debian 12 on x86-64, Python 3.11, and wasm2c 1.0.32, which is in the package wabt.
 """
 
 from __future__ import annotations
 
 import hashlib
+import os
 import pathlib
 import sys
 from collections.abc import Iterator
@@ -54,6 +55,7 @@ def main() -> None:
     if len(sys.argv) != 2 or sys.argv[1].startswith("-"):
         sys.exit(__doc__)
     facts.require_dist()
+    os.umask(0o022)
     folder = pathlib.Path(sys.argv[1])
     folder.mkdir(parents=True, exist_ok=True)
     # An older file would vouch for packages that are not there yet.

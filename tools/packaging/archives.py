@@ -7,12 +7,16 @@ import io
 import lzma
 import os
 import pathlib
-import tarfile
+import subprocess
+import tempfile
 import time
 import zipfile
 from typing import NamedTuple
 
 from facts import EPOCH
+
+TAR = ["tar", "--create", "--format=ustar", "--sort=name", "--numeric-owner", "--owner=0", "--group=0"]
+TAR += [f"--mtime=@{EPOCH}", "--mode=u=rwX,go=rX"]
 
 
 class File(NamedTuple):
@@ -51,30 +55,23 @@ def xz(data: bytes) -> bytes:
     return lzma.compress(data, preset=9)
 
 
-def folders_of(files: Files) -> list[str]:
-    """The folders in which files stand, each behind the one that it is in."""
-    parents = {parent.as_posix() for name in files for parent in pathlib.PurePosixPath(name).parents}
-    return sorted(parents - {"."})
+def write(files: Files, folder: pathlib.Path) -> None:
+    """Writes the files below a folder, with their rights in the package."""
+    for name, file in files.items():
+        path = folder / name
+        path.parent.mkdir(parents=True, exist_ok=True)
+        if file.link:
+            path.symlink_to(file.link)
+        else:
+            path.write_bytes(file.data)
+            path.chmod(0o755 if file.is_program else 0o644)
 
 
-def tar(files: Files, front: str = "", with_folders: bool = False) -> bytes:
-    out = io.BytesIO()
-    with tarfile.open(fileobj=out, mode="w", format=tarfile.USTAR_FORMAT) as archive:
-        for name in ["", *folders_of(files)] if with_folders else []:
-            folder = tarfile.TarInfo(front + name)
-            folder.type, folder.mode, folder.mtime = tarfile.DIRTYPE, 0o755, EPOCH
-            archive.addfile(folder)
-        for name in sorted(files):
-            archive.addfile(tar_info(front + name, files[name]), io.BytesIO(files[name].data))
-    return out.getvalue()
-
-
-def tar_info(name: str, file: File) -> tarfile.TarInfo:
-    info = tarfile.TarInfo(name)
-    info.size, info.mtime, info.mode = len(file.data), EPOCH, 0o755 if file.is_program else 0o644
-    if file.link:
-        info.type, info.linkname, info.mode = tarfile.SYMTYPE, file.link, 0o777
-    return info
+def tar(files: Files, folder: str) -> bytes:
+    """The files in a folder of this name."""
+    with tempfile.TemporaryDirectory() as room:
+        write(files, pathlib.Path(room, folder))
+        return subprocess.run([*TAR, "--directory", room, folder], stdout=subprocess.PIPE, check=True).stdout
 
 
 def zip(files: Files) -> bytes:
@@ -86,12 +83,3 @@ def zip(files: Files) -> bytes:
             info.external_attr = (0o100755 if files[name].is_program else 0o100644) << 16
             archive.writestr(info, files[name].data)
     return out.getvalue()
-
-
-def ar(members: dict[str, bytes]) -> bytes:
-    """The form of Debian's packages: members in the order given."""
-    out = b"!<arch>\n"
-    for name, data in members.items():
-        out += f"{name:<16}{EPOCH:<12}{0:<6}{0:<6}{'100644':<8}{len(data):<10}`\n".encode() + data
-        out += b"\n" * (len(data) % 2)
-    return out

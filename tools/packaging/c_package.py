@@ -69,9 +69,7 @@ def make(bill: archives.File) -> dict[str, bytes]:
 
 def main() -> None:
     facts.DIST, folder = map(pathlib.Path, sys.argv[1:])
-    for name, file in contents(archives.text("{}\n")).items():
-        (folder / name).parent.mkdir(parents=True, exist_ok=True)
-        (folder / name).write_bytes(file.data)
+    archives.write(contents(archives.text("{}\n")), folder)
 
 
 if __name__ == "__main__":

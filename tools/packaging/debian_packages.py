@@ -4,6 +4,10 @@ from __future__ import annotations
 
 import email.utils
 import hashlib
+import os
+import pathlib
+import subprocess
+import tempfile
 import textwrap
 
 import archives
@@ -25,6 +29,8 @@ PYTHON_DESCRIPTION = """\
 The same calls for Python, with test vectors for a registry by python3 -m
 bcs_proved.vectors, and types of its values by python3 -m bcs_proved.types.
 """
+# (how many threads compress decides what comes out)
+BUILD = ["dpkg-deb", "--root-owner-group", "--threads-max=1", "-Zxz", "-z9", "--build"]
 # Debian's name of a licence where it is another, and the text where Debian has it already.
 DEBIAN_NAMES = {"MIT": "Expat"}
 KNOWN_TEXTS = {"Apache-2.0": "On Debian systems the text is in\n/usr/share/common-licenses/Apache-2.0.\n"}
@@ -109,13 +115,12 @@ def package(
 ) -> dict[str, bytes]:
     sums = [f"{hashlib.md5(files[path].data).hexdigest()}  {path}\n" for path in sorted(files) if not files[path].link]
     papers = {"control": control, "md5sums": "".join(sums), **more}
-    packed = {path: archives.text(content) for path, content in papers.items()}
-    members = {
-        "debian-binary": b"2.0\n",
-        "control.tar.xz": archives.xz(archives.tar(packed, "./", with_folders=True)),
-        "data.tar.xz": archives.xz(archives.tar(files, "./", with_folders=True)),
-    }
-    return {f"{name}_{facts.version()}_{machine.debian}.deb": archives.ar(members)}
+    packed = {f"DEBIAN/{path}": archives.text(content) for path, content in papers.items()}
+    with tempfile.TemporaryDirectory() as room:
+        folder, made = pathlib.Path(room, "package"), pathlib.Path(room, "made")
+        archives.write(files | packed, folder)
+        subprocess.run([*BUILD, folder, made], env=os.environ | {"SOURCE_DATE_EPOCH": str(facts.EPOCH)}, check=True)
+        return {f"{name}_{facts.version()}_{machine.debian}.deb": made.read_bytes()}
 
 
 def make_for(machine: facts.Machine, bill: archives.File) -> dict[str, bytes]:
