@@ -33,7 +33,7 @@ BUSY = Step("busy", ["sh", "-c", '"$0" -c "sum(range(10 ** 7))"; true', sys.exec
 
 def new_gate(**seconds: float) -> Gate:
     """One whose steps took these seconds."""
-    file = pathlib.Path(tempfile.mkdtemp(dir=os.environ["ROOM"]), "seconds.json")
+    file = pathlib.Path(tempfile.mkdtemp(dir=os.environ["TOP"]), "seconds.json")
     file.write_text(json.dumps(seconds), encoding="ascii")
     return Gate(file)
 
@@ -136,13 +136,13 @@ class Order(unittest.TestCase):
     def test_two_steps_run_at_the_same_time(self) -> None:
         """Each waits for the other one."""
         both = "touch $0; for turn in $(seq 600); do [ -e $1 ] && exit; sleep 0.1; done; exit 1"
-        with contextlib.chdir(os.environ["ROOM"]):
+        with contextlib.chdir(os.environ["TOP"]):
             steps = [Step(names[0], ["sh", "-c", both, *names]) for names in [("one", "two"), ("two", "one")]]
             self.assertEqual(run(*steps)[0], [])
 
     def test_a_step_waits_for_those_before_it(self) -> None:
         write = Step("write", ["sh", "-c", "sleep 0.3; echo there >file"])
-        with contextlib.chdir(os.environ["ROOM"]):
+        with contextlib.chdir(os.environ["TOP"]):
             self.assertEqual(run(Step("read", ["cat", "file"], ("write",)), write, lanes=4)[0], [])
 
     def test_the_longest_step_starts_first(self) -> None:
@@ -167,10 +167,10 @@ class Ending(unittest.TestCase):
             "import gate_steps as it; it.gate().run([it.Step('long', ['sh', '-c', 'echo $$ >pid; exec sleep 600'])], 1)"
         )
         gate = f"import signal, sys; signal.signal(15, lambda *_: sys.exit(143)); {gate}"
-        room = os.environ["ROOM"]
+        top = os.environ["TOP"]
         environment = os.environ | {"PYTHONPATH": os.path.dirname(os.path.abspath(__file__))}
-        running = subprocess.Popen([sys.executable, "-c", gate], cwd=room, env=environment)
-        path = os.path.join(room, "pid")
+        running = subprocess.Popen([sys.executable, "-c", gate], cwd=top, env=environment)
+        path = os.path.join(top, "pid")
         while not (os.path.exists(path) and os.path.getsize(path)):
             time.sleep(0.05)
         with open(path, encoding="ascii") as file:
@@ -235,10 +235,10 @@ class Whole(unittest.TestCase):
     """The gate with a stand-in for `rt` and for the steps."""
 
     def gate(self, rt: str, *steps: Step) -> tuple[list[str], list[str]]:
-        room = pathlib.Path(tempfile.mkdtemp(dir=os.environ["ROOM"]))
-        (room / "rt").write_text(f"#!/bin/sh\n[ $1 = ci ] || {{ echo kit; exit; }}\n{rt}\n", encoding="ascii")
-        (room / "rt").chmod(0o755)
-        gate, log, printed = new_gate(), room / "log", io.StringIO()
+        top = pathlib.Path(tempfile.mkdtemp(dir=os.environ["TOP"]))
+        (top / "rt").write_text(f"#!/bin/sh\n[ $1 = ci ] || {{ echo kit; exit; }}\n{rt}\n", encoding="ascii")
+        (top / "rt").chmod(0o755)
+        gate, log, printed = new_gate(), top / "log", io.StringIO()
         log.touch()
         with contextlib.ExitStack() as stack:
             stack.enter_context(contextlib.redirect_stdout(printed))
@@ -251,7 +251,7 @@ class Whole(unittest.TestCase):
             }.items():
                 stack.enter_context(unittest.mock.patch.object(the_gate, name, value))
             stack.enter_context(
-                unittest.mock.patch.dict(os.environ, {"PATH": f"{room}:{os.environ['PATH']}", "CI": "false"})
+                unittest.mock.patch.dict(os.environ, {"PATH": f"{top}:{os.environ['PATH']}", "CI": "false"})
             )
             the_gate.run_all(gate, log)
         return gate.failed(), [*printed.getvalue().splitlines(), the_gate.closing_line(log.read_text(), gate.failed())]
@@ -278,7 +278,7 @@ class Budgets(unittest.TestCase):
     """Over a repository with one line in a/, three in b/, and one of which git doesn't know."""
 
     def check(self, *rows: str) -> tuple[int, str]:
-        top, printed = pathlib.Path(tempfile.mkdtemp(dir=os.environ["ROOM"])), io.StringIO()
+        top, printed = pathlib.Path(tempfile.mkdtemp(dir=os.environ["TOP"])), io.StringIO()
         for name, text in {"a/of": "a\n", "b/of": "one two\n\n\n", "b/more": "\n", "rows": "\n".join(rows)}.items():
             (top / name).parent.mkdir(exist_ok=True)
             (top / name).write_text(text, encoding="ascii")
@@ -313,8 +313,8 @@ class Budgets(unittest.TestCase):
 
 
 def main() -> None:
-    with tempfile.TemporaryDirectory() as room:
-        os.environ["ROOM"] = room
+    with tempfile.TemporaryDirectory() as top:
+        os.environ["TOP"] = top
         unittest.main()
 
 

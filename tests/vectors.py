@@ -67,10 +67,10 @@ def compare_sources() -> str:
 class Test:
     """The parts, over lines that are made once."""
 
-    def __init__(self, libraries: pathlib.Path, room: pathlib.Path) -> None:
-        self.libraries, self.room = libraries, room
-        self.files = {name: room / f"{name}.jsonl" for name in REGISTRIES}
-        self.texts = room / "texts.jsonl"
+    def __init__(self, libraries: pathlib.Path, top: pathlib.Path) -> None:
+        self.libraries, self.top = libraries, top
+        self.files = {name: top / f"{name}.jsonl" for name in REGISTRIES}
+        self.texts = top / "texts.jsonl"
 
     def make(self, registry: pathlib.Path, file: pathlib.Path, *options: str) -> None:
         printed = run(sys.executable, "-m", "bcs_proved.vectors", registry, *options)
@@ -89,7 +89,7 @@ class Test:
         return ", ".join(f"{name} {len(file.read_bytes().splitlines())} lines" for name, file in self.files.items())
 
     def plant(self) -> str:
-        folder, registry = self.room / "bugs", REGISTRIES["every_format"]
+        folder, registry = self.top / "bugs", REGISTRIES["every_format"]
         lines, texts = bugs.Lines(registry, self.files["every_format"]), bugs.Lines(registry, self.texts)
         shown = [
             bugs.require_all_shown(codec, of, folder / codec.bugs)
@@ -114,26 +114,26 @@ class Test:
 
     def make_for_400(self) -> str:
         before = processor_seconds()
-        self.make(ROOT / "examples/many_containers.json", self.room / "400.jsonl")
+        self.make(ROOT / "examples/many_containers.json", self.top / "400.jsonl")
         spent = processor_seconds() - before
         if spent > MOST_SECONDS_OF_400:
             raise Failed(f"the lines take {spent:.1f} processor seconds, and may take {MOST_SECONDS_OF_400}")
-        return f"{len((self.room / '400.jsonl').read_bytes().splitlines())} lines"
+        return f"{len((self.top / '400.jsonl').read_bytes().splitlines())} lines"
 
     def consume(self, language: str) -> str:
         (consumer,) = [one for one in consumers.all_of(self.libraries) if one.language == language]
-        return consumers.require_right(consumer, self.room / "consumers", self.files["every_format"])
+        return consumers.require_right(consumer, self.top / "consumers", self.files["every_format"])
 
 
 def part(name: str, test: Callable[[], str]) -> float:
     """Runs a part, and returns how many processor seconds it took."""
     before = processor_seconds() + time.process_time()
     try:
-        told = test()
+        printed = test()
     except Failed as fault:
         sys.exit(f"{fault}\nvectors: FAILED: {name}")
     spent = processor_seconds() + time.process_time() - before
-    print(f"vectors: {name}: {spent:.1f} processor seconds: {told}", flush=True)
+    print(f"vectors: {name}: {spent:.1f} processor seconds: {printed}", flush=True)
     return spent
 
 

@@ -93,20 +93,20 @@ class Codec(NamedTuple):
     other: str
 
 
-def require_all_shown(codec: Codec, lines: Lines, room: pathlib.Path) -> str:
+def require_all_shown(codec: Codec, lines: Lines, top: pathlib.Path) -> str:
     """The lines accept the codec, and show each of its bugs."""
     bugs = bugs_of(CODECS / codec.bugs)
     source = (CODECS / codec.source).read_text(encoding="utf-8")
     folders = {f"bug{number}": (bug.name, planted(source, bug)) for number, bug in enumerate(bugs)}
     for name, (_, text) in {"none": ("", source), **folders}.items():
-        (room / name).mkdir(parents=True)
-        (room / name / codec.source).write_text(text, encoding="utf-8")
-        shutil.copy(CODECS / codec.other, room / name)
-    wrong = wrong_lines(room / "none", lines)
+        (top / name).mkdir(parents=True)
+        (top / name / codec.source).write_text(text, encoding="utf-8")
+        shutil.copy(CODECS / codec.other, top / name)
+    wrong = wrong_lines(top / "none", lines)
     if wrong != []:
         raise Failed(f"{codec.source} is wrong in the lines {wrong}")
     with concurrent.futures.ThreadPoolExecutor(len(os.sched_getaffinity(0))) as pool:
-        found = dict(zip(folders, pool.map(lambda name: wrong_lines(room / name, lines), folders)))
+        found = dict(zip(folders, pool.map(lambda name: wrong_lines(top / name, lines), folders)))
     for name, (bug, _) in folders.items():
         numbers = found[name]
         if numbers is not None and not 0 < len(numbers) < lines.length() // 2:

@@ -150,8 +150,8 @@ def write(folder: pathlib.Path, files: dict[str, str | pathlib.Path]) -> None:
         (folder / name).write_text(text, encoding="utf-8")
 
 
-def require_right(consumer: Consumer, room: pathlib.Path, vectors: pathlib.Path) -> str:
-    folder = room / consumer.language
+def require_right(consumer: Consumer, top: pathlib.Path, vectors: pathlib.Path) -> str:
+    folder = top / consumer.language
     program = (PROGRAMS / pathlib.PurePath(consumer.program).name).read_text(encoding="utf-8")
     write(folder, {**consumer.files, consumer.program: program, consumer.lines or "no_lines": ""})
     if consumer.compiler:

@@ -69,9 +69,9 @@ def write(files: Files, folder: pathlib.Path) -> None:
 
 def tar(files: Files, folder: str) -> bytes:
     """The files in a folder of this name."""
-    with tempfile.TemporaryDirectory() as room:
-        write(files, pathlib.Path(room, folder))
-        return subprocess.run([*TAR, "--directory", room, folder], stdout=subprocess.PIPE, check=True).stdout
+    with tempfile.TemporaryDirectory() as top:
+        write(files, pathlib.Path(top, folder))
+        return subprocess.run([*TAR, "--directory", top, folder], stdout=subprocess.PIPE, check=True).stdout
 
 
 def zip(files: Files) -> bytes:

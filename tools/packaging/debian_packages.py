@@ -116,8 +116,8 @@ def package(
     sums = [f"{hashlib.md5(files[path].data).hexdigest()}  {path}\n" for path in sorted(files) if not files[path].link]
     papers = {"control": control, "md5sums": "".join(sums), **more}
     packed = {f"DEBIAN/{path}": archives.text(content) for path, content in papers.items()}
-    with tempfile.TemporaryDirectory() as room:
-        folder, made = pathlib.Path(room, "package"), pathlib.Path(room, "made")
+    with tempfile.TemporaryDirectory() as top:
+        folder, made = pathlib.Path(top, "package"), pathlib.Path(top, "made")
         archives.write(files | packed, folder)
         subprocess.run([*BUILD, folder, made], env=os.environ | {"SOURCE_DATE_EPOCH": str(facts.EPOCH)}, check=True)
         return {f"{name}_{facts.version()}_{machine.debian}.deb": made.read_bytes()}

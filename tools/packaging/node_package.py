@@ -30,11 +30,11 @@ def contents(bill: archives.File) -> archives.Files:
     files[f"{facts.NAME}.spdx.json"] = bill
     for name in facts.licence_files().values():
         files[name] = archives.taken(facts.ROOT / name)
-    told = json.loads(described.data)
-    missing = sorted({*named_files(told["exports"]), *named_files(told["bin"])} - set(files))
+    parts = json.loads(described.data)
+    missing = sorted({*named_files(parts["exports"]), *named_files(parts["bin"])} - set(files))
     if missing:
         sys.exit(f"packages: bindings/web/package.json names what isn't in dist/web: {', '.join(missing)}")
-    for name in named_files(told["bin"]):
+    for name in named_files(parts["bin"]):
         files[name] = command(files[name])
     return files
 
