@@ -11,8 +11,8 @@ pub use bcs_display_example::{
     example_value, example_with,
 };
 pub use bcs_display_pieces::{
-    CallFault, Explanation, RefusedCall, RefusedView, ViewTexts, Views, explain_text, put_notes,
-    stop_place,
+    CallFault, Explanation, MoveKind, RefusedCall, RefusedView, ViewKind, ViewText, Views,
+    explain_text, put_notes, stop_place,
 };
 pub use bcs_display_registry::{
     Change, Difference, RegistryForm, Sizes, container_sizes, difference_lines, differences,

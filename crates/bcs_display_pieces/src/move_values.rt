@@ -10,28 +10,11 @@ use bcs_display_text::columns::put_hex;
 use bcs_explain::{Meaning, Step, Trail};
 use bcs_registry::{Container, Format, Registry};
 use bcs_registry_model::Kind;
+use bcs_view_texts::MoveKind;
 use std::alloc::AllocError;
 
 /// The number of bytes of such a value.
 pub(crate) const SIZE: usize = 32;
-
-#[derive(Clone, Copy, Debug, PartialEq, Eq)]
-pub(crate) enum MoveKind {
-    Address,
-    Unsigned,
-    Signed,
-}
-
-impl MoveKind {
-    /// The kind in JSON, and the name of the container that is shown so without an option.
-    pub(crate) fn word(self) -> &'static str {
-        match self {
-            MoveKind::Address => "address",
-            MoveKind::Unsigned => "u256",
-            MoveKind::Signed => "i256",
-        }
-    }
-}
 
 /// The kind of the containers with this name that need no option.
 pub(crate) fn standard_kind(container: &str) -> Option<MoveKind> {

@@ -5,6 +5,7 @@ use crate::objects::put_note_object;
 use crate::views::{Source, Views};
 use bcs_display_refusal::{Location, Refusal};
 use bcs_display_text::style::Form;
+use bcs_view_texts::ViewKind;
 use std::alloc::{AllocError, Global};
 
 const NO_NAME: &str =
@@ -23,7 +24,7 @@ pub(crate) fn notes_of(
     for (source, finding) in views.sources().iter().zip(findings.all()) {
         match finding {
             Finding::Found => {}
-            Finding::Missing if source.argument == "--call" => notes.push(note(
+            Finding::Missing if source.kind == ViewKind::Call => notes.push(note(
                 alloc,
                 source,
                 "no list there",
@@ -42,7 +43,7 @@ pub(crate) fn notes_of(
 fn note(alloc: Global, source: &Source, message: &str) -> Result<Refusal, AllocError> {
     Ok(Refusal {
         input: None,
-        argument: Some(source.argument),
+        argument: Some(source.kind.option()),
         location: Location::Name(String::from_str(alloc, source.name.as_str())?),
         fault: None,
         message: Vec::from_slice(alloc, message.as_bytes())?,

@@ -1,7 +1,7 @@
 //! A piece as it is printed.
 
-use crate::move_values::MoveKind;
 use bcs_explain::Meaning;
+use bcs_view_texts::MoveKind;
 
 #[derive(Clone, Copy)]
 pub(crate) struct Piece<'a> {

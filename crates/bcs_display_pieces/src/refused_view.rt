@@ -2,9 +2,9 @@
 ghost use Rattle.std.specs.Prelude.{◌≡◌, IfOk, Some};
 ghost use Rattle.bcs_registry_model.specs.declared.fault.RegistryFault.TheVariants.{UnknownName};
 
-use crate::move_values::MoveKind;
 use bcs_display_refusal::{Location, Refusal};
 use bcs_registry::RegistryFault;
+use bcs_view_texts::{MoveKind, ViewKind};
 use std::alloc::{AllocError, Global};
 
 /// A text that was refused.
@@ -18,14 +18,14 @@ pub struct RefusedView {
 /// A text without `=`, or with a name that names no part.
 pub(crate) fn bad_path(
     alloc: Global,
-    argument: &'static str,
+    kind: ViewKind,
     text: &str,
 ) -> Result<RefusedView, AllocError> {
-    let expected = match argument {
-        "--call" => "expected NAME=FUNCTION, as in .args=0x1::aptos_account::transfer",
+    let expected = match kind {
+        ViewKind::Call => "expected NAME=FUNCTION, as in .args=0x1::aptos_account::transfer",
         _ => "expected NAME=FORMAT, as in .args[1]=\"U64\"",
     };
-    let refusal = refused(alloc, argument, "BadPath", text, expected)?;
+    let refusal = refused(alloc, kind, "BadPath", text, expected)?;
     Ok(RefusedView {
         fault: None,
         refusal,
@@ -35,7 +35,7 @@ pub(crate) fn bad_path(
 /// A format that the registry refuses. Fails if memory ran out there.
 pub(crate) fn refused_name(
     alloc: Global,
-    argument: &'static str,
+    kind: ViewKind,
     text: &str,
     fault: RegistryFault,
 ) -> Result<RefusedView, AllocError> {
@@ -49,7 +49,7 @@ pub(crate) fn refused_name(
         | RegistryFault::TooNested
         | RegistryFault::RepeatedName => "expected the name of a container, or a format as JSON",
     };
-    let refusal = refused(alloc, argument, fault.name(), text, expected)?;
+    let refusal = refused(alloc, kind, fault.name(), text, expected)?;
     Ok(RefusedView {
         fault: Some(fault),
         refusal,
@@ -59,7 +59,7 @@ pub(crate) fn refused_name(
 /// A function without containers.
 pub(crate) fn unknown_function(alloc: Global, name: &str) -> Result<RefusedView, AllocError> {
     let expected = "the registry has no containers for its arguments; bcs from-move makes them";
-    unknown(alloc, "--call", name, expected)
+    unknown(alloc, ViewKind::Call, name, expected)
 }
 
 /// A container that has no values of Move.
@@ -70,26 +70,21 @@ pub(crate) fn unknown_value(
 ) -> Result<RefusedView, AllocError>
     ensures { IfOk result (λ refused. refused.fault ≡ Some UnknownName) }
 {
-    let argument = match kind {
-        MoveKind::Address => "--address",
-        MoveKind::Unsigned => "--u256",
-        MoveKind::Signed => "--i256",
-    };
     let expected =
         "expected a container of the registry that is a NEWTYPESTRUCT of a TUPLEARRAY of 32 U8";
-    unknown(alloc, argument, name, expected)
+    unknown(alloc, ViewKind::Value(kind), name, expected)
 }
 
 fn unknown(
     alloc: Global,
-    argument: &'static str,
+    kind: ViewKind,
     name: &str,
     expected: &str,
 ) -> Result<RefusedView, AllocError>
     ensures { IfOk result (λ refused. refused.fault ≡ Some UnknownName) }
 {
     let fault = RegistryFault::UnknownName;
-    let refusal = refused(alloc, argument, fault.name(), name, expected)?;
+    let refusal = refused(alloc, kind, fault.name(), name, expected)?;
     Ok(RefusedView {
         fault: Some(fault),
         refusal,
@@ -98,12 +93,12 @@ fn unknown(
 
 fn refused(
     alloc: Global,
-    argument: &'static str,
+    kind: ViewKind,
     fault: &'static str,
     text: &str,
     expected: &str,
 ) -> Result<Refusal, AllocError> {
     let location = Location::Name(String::from_str(alloc, text)?);
     let message = Vec::from_slice(alloc, expected.as_bytes())?;
-    Ok(Refusal::of(fault, location, message).in_argument(argument))
+    Ok(Refusal::of(fault, location, message).in_argument(kind.option()))
 }

@@ -1,23 +1,24 @@
 //! Which byte strings are explained piece by piece, and which containers are shown as values of Move.
-ghost use Rattle.std.specs.Prelude.{◌≡◌, IfErr, IfOk, IfSome, Some, true};
+ghost use Rattle.std.specs.Prelude.{◌≡◌, IfErr, IfOk, IfSome, Some, false, true};
 ghost use Rattle.bcs_registry_model.specs.declared.fault.RegistryFault.TheVariants.{UnknownName};
 ghost use Rattle.bcs_display_pieces.specs.IsPlain.{IsPlain};
-ghost use Rattle.bcs_display_pieces.specs.Viewing.{HasMoveValue, HaveMoveValues, NamesNoString, NamesValues, RefusesViews};
+ghost use Rattle.bcs_display_pieces.specs.Viewing.{HasMoveValue, NamesNoString, RefusesView, RefusesViews, names_string};
 
 use crate::formats::read_format;
 use crate::functions::{Arguments, arguments_of};
-use crate::move_values::{MoveKind, has_move_value, standard_kind, whole_container};
+use crate::move_values::{has_move_value, standard_kind, whole_container};
+use crate::named_texts::name_and_rest;
 use crate::patterns::matches;
 use crate::refused_view::{RefusedView, bad_path, refused_name, unknown_function, unknown_value};
-use crate::view_texts::{ViewTexts, name_and_rest};
 use bcs_explain::{Meaning, Trail};
 use bcs_registry::Registry;
+use bcs_view_texts::{MoveKind, ViewKind, ViewText};
 use std::alloc::{AllocError, Global};
 
 /// A text that was given, and the option that has it.
 #[derive(Debug, Drop)]
 pub(crate) struct Source {
-    pub argument: &'static str,
+    pub kind: ViewKind,
     pub name: String,
 }
 
@@ -73,97 +74,71 @@ impl Views {
         }
     }
 
-    /// The views that these texts ask for.
+    /// The views that these texts ask for, which are read in the order of their options.
     pub fn read(
         alloc: Global,
         registry: &Registry,
-        texts: &ViewTexts<'_>,
+        texts: &[ViewText],
     ) -> Result<Result<Views, RefusedView>, AllocError>
         ensures plain { IfOk result (λ r. IfOk r (λ views. NamesNoString texts.now → IsPlain views)) }
         ensures refused { IfOk result (λ r. IfErr r (λ refused. RefusesViews registry.now texts.now refused.fault)) }
     {
         let mut views = Views::none(alloc);
-        if let Some(refused) = views.add_strings(alloc, registry, texts)? {
-            return Ok(Err(refused));
-        }
-        match views.add_values(alloc, registry, texts)? {
-            Some(refused) => Ok(Err(refused)),
-            None => Ok(Ok(views)),
-        }
-    }
-
-    // Adds the byte strings and the lists of arguments.
-    fn add_strings(
-        &mut self,
-        alloc: Global,
-        registry: &Registry,
-        texts: &ViewTexts<'_>,
-    ) -> Result<Option<RefusedView>, AllocError>
-        ensures kept { NamesNoString texts.now → self.new ≡ self.old }
-        ensures refused { IfOk result (λ r. IfSome r (λ _. NamesNoString texts.now → ⊥)) }
-    {
-        if texts.inside.is_empty() && texts.call.is_empty() {
-            return Ok(None);
-        }
-        for text in texts.inside {
-            if let Some(refused) = self.add_inside(alloc, registry, text.as_str())? {
-                return Ok(Some(refused));
+        for kind in ViewKind::ALL {
+            if let Some(refused) = views.add_kind(alloc, registry, *kind, texts)? {
+                return Ok(Err(refused));
             }
         }
-        for text in texts.call {
-            if let Some(refused) = self.add_call(alloc, registry, text.as_str())? {
-                return Ok(Some(refused));
-            }
-        }
-        Ok(None)
+        Ok(Ok(views))
     }
 
-    // Adds the containers that are shown as values of Move.
-    fn add_values(
-        &mut self,
-        alloc: Global,
-        registry: &Registry,
-        texts: &ViewTexts<'_>,
-    ) -> Result<Option<RefusedView>, AllocError>
-        ensures kept { IsPlain self.old → IsPlain self.new }
-        ensures refused { IfOk result (λ r. IfSome r (λ refused. (NamesValues registry.now texts.now → ⊥) × (refused.fault ≡ Some UnknownName))) }
-    {
-        if let Some(refused) = self.add_kind(alloc, registry, MoveKind::Address, texts.address)? {
-            return Ok(Some(refused));
-        }
-        if let Some(refused) = self.add_kind(alloc, registry, MoveKind::Unsigned, texts.u256)? {
-            return Ok(Some(refused));
-        }
-        self.add_kind(alloc, registry, MoveKind::Signed, texts.i256)
-    }
-
+    // Adds the views that one option asks for.
     fn add_kind(
         &mut self,
         alloc: Global,
         registry: &Registry,
-        kind: MoveKind,
-        names: &[String],
+        kind: ViewKind,
+        texts: &[ViewText],
     ) -> Result<Option<RefusedView>, AllocError>
-        ensures kept { IsPlain self.old → IsPlain self.new }
-        ensures refused { IfOk result (λ r. IfSome r (λ refused. (HaveMoveValues registry.now names.now → ⊥) × (refused.fault ≡ Some UnknownName))) }
+        ensures kept { NamesNoString texts.now → IsPlain self.old → IsPlain self.new }
+        ensures refused { IfOk result (λ r. IfSome r (λ refused. RefusesViews registry.now texts.now refused.fault)) }
     {
-        for name in names {
-            if let Some(refused) = self.add_value(alloc, registry, kind, name.as_str())? {
-                return Ok(Some(refused));
+        for view in texts {
+            if view.kind == kind {
+                if let Some(refused) = self.add_view(alloc, registry, view)? {
+                    return Ok(Some(refused));
+                }
             }
         }
         Ok(None)
+    }
+
+    fn add_view(
+        &mut self,
+        alloc: Global,
+        registry: &Registry,
+        view: &ViewText,
+    ) -> Result<Option<RefusedView>, AllocError>
+        ensures kept { names_string view.now.kind ≡ false → IsPlain self.old → IsPlain self.new }
+        ensures refused { IfOk result (λ r. IfSome r (λ refused. RefusesView registry.now view.now refused.fault)) }
+    {
+        let text = view.text.as_str();
+        match view.kind {
+            ViewKind::Inside => self.add_inside(alloc, registry, text),
+            ViewKind::Call => self.add_call(alloc, registry, text),
+            ViewKind::Value(kind) => self.add_value(alloc, registry, kind, text),
+        }
     }
 
     fn add_source(
         &mut self,
         alloc: Global,
-        argument: &'static str,
+        kind: ViewKind,
         name: &str,
     ) -> Result<usize, AllocError> {
         let name = String::from_str(alloc, name)?;
         let index = self.sources.len();
-        self.sources.push(Source { argument, name })?;
+        self.sources.push(Source { kind, name })?;
         Ok(index)
     }
 
@@ -174,12 +149,12 @@ impl Views {
         text: &str,
     ) -> Result<Option<RefusedView>, AllocError> {
         let Some((name, format)) = name_and_rest(text) else {
-            return Ok(Some(bad_path(alloc, "--inside", text)?));
+            return Ok(Some(bad_path(alloc, ViewKind::Inside, text)?));
         };
         if let Err(fault) = read_format(alloc, registry, format) {
-            return Ok(Some(refused_name(alloc, "--inside", format, fault)?));
+            return Ok(Some(refused_name(alloc, ViewKind::Inside, format, fault)?));
         }
-        let source = self.add_source(alloc, "--inside", name)?;
+        let source = self.add_source(alloc, ViewKind::Inside, name)?;
         self.insides.push(InsideView {
             source,
             is_argument: false,
@@ -196,12 +171,12 @@ impl Views {
         text: &str,
     ) -> Result<Option<RefusedView>, AllocError> {
         let Some((name, function)) = name_and_rest(text) else {
-            return Ok(Some(bad_path(alloc, "--call", text)?));
+            return Ok(Some(bad_path(alloc, ViewKind::Call, text)?));
         };
         let Some(arguments) = arguments_of(alloc, registry, function)? else {
             return Ok(Some(unknown_function(alloc, function)?));
         };
-        let source = self.add_source(alloc, "--call", name)?;
+        let source = self.add_source(alloc, ViewKind::Call, name)?;
         self.add_arguments(alloc, source, name, function, &arguments)?;
         self.calls.push(CallView {
             source,

@@ -65,7 +65,7 @@ pub use Rattle.bcs_registry_model.specs.declared.fault.RegistryFault.{RegistryFa
 pub use Rattle.bcs_registry_model.specs.declared.fault.RegistryFault.TheVariants.{UnknownName}
 pub use Rattle.bcs_registry_model.specs.declared.growth_fault.GrowthFault.{GrowthFault}
 pub use Rattle.bcs_tool_command_line.specs.Files.{size_limit}
-pub use Rattle.bcs_tool_command_line.specs.Jobs.{coding_of, has_views}
+pub use Rattle.bcs_tool_command_line.specs.Jobs.{coding_of}
 pub use Rattle.bcs_tool_command_line.specs.declared.coding.Coding.{Coding}
 pub use Rattle.bcs_tool_command_line.specs.declared.coding.Coding.TheVariants.{Base64, Hexadecimal, Raw}
 pub use Rattle.bcs_tool_command_line.specs.declared.command.Command.{Command}

@@ -1,5 +1,5 @@
 -- The program's answer to a job and its input: a status, and the bytes of the standard output.
-use Rattle.std.specs.Prelude.{◌≡◌, ◌⊎◌, ◌≤◌, ◌<◌, ◌++◌, ◌∷◌, [], ℕ, List, Bool, true, false, Some, None, codes, length, string_bytes}
+use Rattle.std.specs.Prelude.{◌≡◌, ◌⊎◌, ◌≤◌, ◌<◌, ◌++◌, ◌∷◌, [], ℕ, List, Bool, true, false, Some, None, codes, is_some, length, string_bytes}
 use Rattle.std.specs.Fmt.{decimal}
 use Rattle.hex.specs.Hex.{encode_lower}
 use Rattle.serde_json.specs.Data.{depth}
@@ -27,7 +27,7 @@ use Rattle.bcs_tool_answers.specs.PartBytes.{printed_bytes, printed_place}
 use Rattle.bcs_tool_command_line.specs.Files.{size_limit}
 use Rattle.bcs_tool_answers.specs.Input as given
 use Rattle.bcs_tool_answers.specs.Validating.{Asks, IsFormatWord, IsRegistry, NamesNone, RefusesEarly, is_unlimited, job_fault_name, name_of}
-use Rattle.bcs_tool_command_line.specs.Jobs.{coding_of, has_views}
+use Rattle.bcs_tool_command_line.specs.Jobs.{coding_of}
 use Rattle.bcs_tool_command_line.specs.declared.coding.Coding.{Coding}
 use Rattle.bcs_tool_command_line.specs.declared.coding.Coding.TheVariants as coding
 use Rattle.bcs_tool_command_line.specs.declared.command.Command.{Command}
@@ -161,7 +161,7 @@ pub data Answers (work : Work) (input : List ℕ) : ℕ → List ℕ → Type 0 
   -- `decode`, `explain`, `part` and `scan`: the input gives no bytes
   no_bytes : (asked : Command) (registry : Entries) (s : Shape) → TakesBytes asked → IsAsked work input asked registry s → ((bytes : List ℕ) → given.GivesBytes (coding_of work) input bytes → ⊥) → Answers work input 2 (refusal_line (given.input_fault_name (coding_of work)))
   -- `explain --inside`: the bytes of a byte string aren't a value of its format, or such an option is invalid: a text for display
-  unopened : (registry : Entries) (s : Shape) (bytes text : List ℕ) → IsAsked work input command.Explain registry s → given.GivesBytes (coding_of work) input bytes → has_views work.options.views ≡ true → Answers work input 2 text
+  unopened : (registry : Entries) (s : Shape) (bytes text : List ℕ) → IsAsked work input command.Explain registry s → given.GivesBytes (coding_of work) input bytes → is_some work.options.views ≡ true → Answers work input 2 text
   -- `part`: a value is at the front of the bytes, and the steps of PATH lead to a part of it: the bytes of that part, or of its content
   found : (registry : Entries) (s : Shape) (path : List Step) (bytes : List ℕ) (n : ℕ) (c : Tree) (x : Part) (wanted : List ℕ) → IsAsked work input command.Part registry s → SpellsSteps work.options.notation (string_bytes work.path) path → given.GivesBytes (coding_of work) input bytes → Accepts registry work.limits s bytes n c → part_at registry path (container.of s) c ≡ Some x → printed_bytes work.options.content registry x ≡ Some wanted → Answers work input 0 (printed_part work.options.range (coding_of work) (printed_place work.options.content x) wanted)
   -- `part --content`: that part has no content

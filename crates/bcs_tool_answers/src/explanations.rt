@@ -1,9 +1,8 @@
 //! The answers of `explain`: the pieces of a value.
-ghost use Rattle.std.specs.Prelude.{◌≡◌, IfErr, IfOk, false, true};
+ghost use Rattle.std.specs.Prelude.{◌≡◌, IfErr, IfOk, false, is_some, true};
 ghost use Rattle.bcs_registry_model.specs.View.{shape_of};
 ghost use Rattle.bcs_display_pieces.specs.EndsAt.{EndsAt};
 ghost use Rattle.bcs_display_pieces.specs.IsPlain.{IsPlain};
-ghost use Rattle.bcs_tool_command_line.specs.Jobs.{has_views};
 ghost use Rattle.bcs_tool_answers.specs.Places.{AnswersBytes, MayReport, PrintsWithoutPlace};
 ghost use Rattle.bcs_tool_answers.specs.Preparing.{IsAskedBy};
 
@@ -12,9 +11,7 @@ use crate::places::{place_in_input, place_of_line, reports_place};
 use crate::stop_answers::answer_stop;
 use crate::validating::Asked;
 use bcs_decode::Stop;
-use bcs_display_pieces::{
-    Explanation, RefusedCall, RefusedView, ViewTexts, Views, explain_text, put_notes,
-};
+use bcs_display_pieces::{Explanation, RefusedCall, RefusedView, Views, explain_text, put_notes};
 use bcs_display_refusal::Refusal;
 use bcs_display_text::style::Form;
 use bcs_tool_command_line::{Command, Work};
@@ -44,27 +41,12 @@ fn views_of(
     work: &Work,
     asked: &Asked,
 ) -> Result<Result<Views, RefusedView>, AllocError>
-    ensures plain { IfOk result (λ r. IfOk r (λ views. has_views work.now.options.views ≡ false → IsPlain views)) }
-    ensures given { IfOk result (λ r. IfErr r (λ _. has_views work.now.options.views ≡ true)) }
+    ensures plain { IfOk result (λ r. IfOk r (λ views. is_some work.now.options.views ≡ false → IsPlain views)) }
+    ensures given { IfOk result (λ r. IfErr r (λ _. is_some work.now.options.views ≡ true)) }
 {
-    let views = &work.options.views;
-    if !views.are_given() {
-        return Ok(Ok(Views::none(alloc)));
-    }
-    let texts = ViewTexts {
-        inside: texts_of(&views.inside),
-        call: texts_of(&views.calls),
-        address: texts_of(&views.addresses),
-        u256: texts_of(&views.u256s),
-        i256: texts_of(&views.i256s),
-    };
-    Views::read(alloc, &asked.registry, &texts)
-}
-
-fn texts_of(texts: &Option<Vec<String>>) -> &[String] {
-    match texts {
-        Some(texts) => texts.as_slice(),
-        None => &[],
+    match &work.options.views {
+        Some(texts) => Views::read(alloc, &asked.registry, texts.as_slice()),
+        None => Ok(Ok(Views::none(alloc))),
     }
 }
 
@@ -102,7 +84,7 @@ fn answer_pieces(
 ) -> Result<Answer, AllocError>
     requires command { work.now.command ≡ Command.Explain }
     requires asked { IsAskedBy work.now asked.now }
-    requires plain { has_views work.now.options.views ≡ false → IsPlain views.now }
+    requires plain { is_some work.now.options.views ≡ false → IsPlain views.now }
     ensures { IfOk result (λ a. AnswersBytes work.now bytes.now a) }
 {
     let Asked {

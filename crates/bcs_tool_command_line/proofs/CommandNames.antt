@@ -1,5 +1,5 @@
 -- Words in which clap finds no fault name one of the commands of `bcs`.
-use Rattle.bcs_tool_command_line.proofs.Prelude.{◌≡◌, ap, ap₂, subst, sym, refl, inl, inr, codes, true, false, not, ◌&&◌, Bool, List, [], Option, Some, None, is_some, option_map, ◌∙◌, IsSomeAnd, option_and_then, Box, box_value, bytes_eq, list_any, explicit_source, is_given, check_kinds, or_else, built_fault, check_fault, defaults_fault, entered_fault, fault_of, level_fault, settle_fault, walk_fault, HasMatchesOf, Shape, argument_words, built, entered, is_simple, names_of, subcommand_of, subcommand_rows, subcommand_rows_of, subcommand_name_of, ArgMatches, out-ArgMatches, out-SubCommand, SubCommand, Row, Text, finished, nothing_held, settled, stop_after, walk, walk_from, bcs_app, IsJob, IsJobOf, command_named, misuse_in, misuse_of, spelled, Command, Job}
+use Rattle.bcs_tool_command_line.proofs.Prelude.{◌≡◌, ap, ap₂, subst, sym, refl, inl, inr, codes, true, false, not, ◌&&◌, ◌||◌, ◌∷◌, both, list_all, Bool, List, [], Names, Option, Some, None, is_some, option_map, ◌∙◌, IsSomeAnd, option_and_then, Box, box_value, bytes_eq, list_any, explicit_source, is_given, check_kinds, or_else, built_fault, check_fault, defaults_fault, entered_fault, fault_of, level_fault, settle_fault, walk_fault, HasMatchesOf, Shape, argument_words, built, entered, is_simple, names_of, subcommand_of, subcommand_rows, subcommand_rows_of, subcommand_name_of, ArgMatches, out-ArgMatches, out-SubCommand, SubCommand, Row, Text, finished, nothing_held, settled, stop_after, walk, walk_from, bcs_app, IsJob, IsJobOf, command_named, misuse_in, misuse_of, spelled, Command, Job}
 use Rattle.clap.specs.Simple.{App}
 use Rattle.bcs_tool_command_line.proofs.Subcommands.{IsAmong, IsEntered, enters, none_left}
 
@@ -32,29 +32,22 @@ none_is_fault a words needs None is none =
 abbrev pub command_at : Option (Text × List Text) → Bool
 command_at stop = is_some (option_and_then (λ q. command_named q.0) (entered (built bcs_app) stop))
 
-entered_is_command : (name : Text) (rest : List Text) → IsEntered (names_of (built bcs_app)) name → command_at (Some (name, rest)) ≡ true
-entered_is_command name rest h = go h.among
-  where
-    at : (t : Text) → t ≡ name → command_at (Some (t, rest)) ≡ true → command_at (Some (name, rest)) ≡ true
-    at t same here = subst (λ x. command_at (Some (x, rest)) ≡ true) same here
+-- a name that passes a test, if all names pass it
+among_passes : (p : Text → Bool) (names : Names) (name : Text) → list_all (λ x. p x.0) names ≡ true → IsAmong names name → p name ≡ true
+among_passes p [] name all is = absurd is
+among_passes p (x ∷ xs) name all (inl e) = subst (λ (t : Text). p t ≡ true) e (both _ _ all).0
+among_passes p (x ∷ xs) name all (inr is) = among_passes p xs name (both _ _ all).1 is
 
-    go : IsAmong (names_of (built bcs_app)) name → command_at (Some (name, rest)) ≡ true
-    go (inl e) = at (codes "check") e refl
-    go (inr (inl e)) = at (codes "grows") e refl
-    go (inr (inr (inl e))) = at (codes "show") e refl
-    go (inr (inr (inr (inl e)))) = at (codes "example") e refl
-    go (inr (inr (inr (inr (inl e))))) = at (codes "schema") e refl
-    go (inr (inr (inr (inr (inr (inl e)))))) = at (codes "from-move") e refl
-    go (inr (inr (inr (inr (inr (inr (inl e))))))) = at (codes "encode") e refl
-    go (inr (inr (inr (inr (inr (inr (inr (inl e)))))))) = at (codes "decode") e refl
-    go (inr (inr (inr (inr (inr (inr (inr (inr (inl e))))))))) = at (codes "explain") e refl
-    go (inr (inr (inr (inr (inr (inr (inr (inr (inr (inl e)))))))))) = at (codes "normalise") e refl
-    go (inr (inr (inr (inr (inr (inr (inr (inr (inr (inr (inl e))))))))))) = at (codes "same") e refl
-    go (inr (inr (inr (inr (inr (inr (inr (inr (inr (inr (inr (inl e)))))))))))) = at (codes "part") e refl
-    go (inr (inr (inr (inr (inr (inr (inr (inr (inr (inr (inr (inr (inl e))))))))))))) = at (codes "scan") e refl
-    go (inr (inr (inr (inr (inr (inr (inr (inr (inr (inr (inr (inr (inr (inl e)))))))))))))) =
-        let bad : true ≡ false = subst (λ x. bytes_eq x (codes "help") ≡ false) (sym e) h.not_help in absurd cc
-    go (inr (inr (inr (inr (inr (inr (inr (inr (inr (inr (inr (inr (inr (inr e)))))))))))))) = absurd e
+entered_is_command : (name : Text) (rest : List Text) → IsEntered (names_of (built bcs_app)) name → command_at (Some (name, rest)) ≡ true
+entered_is_command name rest h =
+    other (bytes_eq name (codes "help")) h.not_help (among_passes passes (names_of (built bcs_app)) name refl h.among)
+  where
+    passes : Text → Bool
+    passes t = bytes_eq t (codes "help") || command_at (Some (t, rest))
+
+    other : (b : Bool) → b ≡ false → b || command_at (Some (name, rest)) ≡ true → command_at (Some (name, rest)) ≡ true
+    other false is e = e
+    other true is e = cc
 
 stop_is_command : (words : List Text) → built_fault (built bcs_app) nothing_held words ≡ []
     → (stop : Option (Text × List Text)) → stop_after (built bcs_app).top.rules (names_of (built bcs_app)) words ≡ stop → command_at stop ≡ true

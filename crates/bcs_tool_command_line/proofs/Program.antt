@@ -1,14 +1,13 @@
--- A program with one command more.
-use Rattle.bcs_tool_command_line.proofs.Prelude.{◌≡◌, ◌∙◌, ◌++◌, [], ◌∷◌, ap, ap₂, map, map-append, Bool, Bor, List, ℕ, Result, Ok, Err, IfOk, IsOkAnd, AllocError, App, Text, app_of, app_of_fields, out-Command, with_command}
+-- A command with another name.
+use Rattle.bcs_tool_command_line.proofs.Prelude.{◌≡◌, ◌∙◌, ◌++◌, [], ◌∷◌, ap, ap₂, map, map-append, Bool, Bor, List, ℕ, fold, App, Rule, Text, app_of, app_of_fields, out-Command, with_rule}
 use Rattle.clap.specs.Simple.{on_top}
 use Rattle.clap.specs.Words.{AddsCommandAliases}
 use Rattle.clap.specs.declared.builder.command.Command.{Command}
 
-pub added : {a : App} (b : App) (old new : Command) (made : Result Command AllocError)
-    → IsOkAnd made (λ sub. app_of new ≡ with_command (app_of old) (app_of sub))
-    → app_of old ≡ a → IfOk made (λ sub. app_of sub ≡ b) → app_of new ≡ with_command a b
-added b old new (Ok sub) h above below = h ∙ ap₂ with_command above below
-added b old new (Err e) h above below = absurd h
+-- rules add no alias
+pub no_alias : (a : App) (rules : List Rule) → a.top.aliases ≡ [] → (fold with_rule a rules).top.aliases ≡ []
+no_alias a [] none = none
+no_alias a (r ∷ rules) none = no_alias (with_rule a r) rules none
 
 -- a command without aliases, with one
 pub aliased : (old new : Command) (alias : Bor (List ℕ)) (is_shown : Bool) (a : App) → app_of old ≡ a → a.top.aliases ≡ []

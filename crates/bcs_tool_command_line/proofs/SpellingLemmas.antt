@@ -1,5 +1,5 @@
 -- Arguments in full, one after another.
-use Rattle.bcs_tool_command_line.proofs.Prelude.{◌≡◌, ◌∙◌, ◌++◌, ◌≤◌, [], ◌∷◌, List, Bool, Bor, ℕ, ap, refl, sym, map, drop, length, Text, append_assoc, append-nil, drop_of_length-le, map-append, may_be_option, spelled_from, spelled_word, texts_of}
+use Rattle.bcs_tool_command_line.proofs.Prelude.{◌≡◌, ◌∙◌, ◌++◌, ◌≤◌, [], ◌∷◌, List, Bool, Bor, ℕ, ap, sym, map, drop, length, Text, append_assoc, append-nil, drop_of_length-le, map-append, may_be_option, spelled_from, spelled_word, texts_of}
 use Rattle.std.specs.Prelude.{String}
 use Rattle.std.specs.declared.alloc.Global.{Global}
 

@@ -1,39 +1,25 @@
 -- The job that a command line asks for.
-use Rattle.std.specs.Prelude.{◌≡◌, ◌≤◌, IsSomeAnd, ℕ, List, [], String, Vec, Option, Some, None, Bool, true, false, ◌||◌, codes, is_some, map, option_map, unwrap_or, if◌then◌else◌, string_bytes}
+use Rattle.std.specs.Prelude.{◌≡◌, ◌≤◌, IsSomeAnd, ℕ, List, [], ◌∷◌, String, Vec, Option, Some, None, Bool, true, false, codes, flat_map, is_some, map, option_map, unwrap_or, if◌then◌else◌, string_bytes}
 use Rattle.std.specs.declared.alloc.Global.{Global}
 use Rattle.std.specs.Str.{bytes_eq}
 use Rattle.std.specs.Str.Parse.{IsNumeral, digits_value, without_leading_plus}
 use Rattle.std.specs.Option.{option_or}
 use Rattle.clap.specs.Words.{Row, Text, all_of, first_of, one_of, subcommand_of}
 use Rattle.bcs_value_model.specs.Limits.{Bounds}
+use Rattle.bcs_view_texts.specs.Kinds.{asked_of, view_kinds, view_name}
+use Rattle.bcs_view_texts.specs.declared.view_kind.ViewKind.{ViewKind}
+use Rattle.bcs_view_texts.specs.declared.view_text.ViewText.{ViewText}
 use Rattle.bcs_tool_command_line.specs.CommandLine.{bcs_app}
+use Rattle.bcs_tool_command_line.specs.Options.{command_named}
 use Rattle.bcs_tool_command_line.specs.declared.coding.Coding.{Coding}
 use Rattle.bcs_tool_command_line.specs.declared.coding.Coding.TheVariants.{Hexadecimal, Base64, Raw}
 use Rattle.bcs_tool_command_line.specs.declared.command.Command.{Command}
-use Rattle.bcs_tool_command_line.specs.declared.command.Command.TheVariants.{Check, Grows, Show, Example, Schema, FromMove, Encode, Decode, Explain, Normalise, Same, Part, Scan}
 use Rattle.bcs_tool_command_line.specs.declared.job.Job.{Job}
-use Rattle.bcs_tool_command_line.specs.declared.job.JobOptions.{JobOptions}
+use Rattle.bcs_tool_command_line.specs.declared.job_options.JobOptions.{JobOptions}
 use Rattle.bcs_tool_command_line.specs.declared.notation.Notation.{Notation}
 use Rattle.bcs_tool_command_line.specs.declared.notation.Notation.TheVariants.{Path, Names, Pointer}
-use Rattle.bcs_tool_command_line.specs.declared.views.ViewOptions.{ViewOptions}
 use Rattle.bcs_tool_command_line.specs.declared.work.Work.{Work}
 use Rattle.bcs_tool_command_line.specs.Spelling.{spelled}
-
--- the command of a name
-abbrev pub command_named : Text → Option Command
-command_named name = if bytes_eq name (codes "check") then Some Check
-    else (if bytes_eq name (codes "grows") then Some Grows
-    else (if bytes_eq name (codes "show") then Some Show
-    else (if bytes_eq name (codes "example") then Some Example
-    else (if bytes_eq name (codes "schema") then Some Schema
-    else (if bytes_eq name (codes "from-move") then Some FromMove
-    else (if bytes_eq name (codes "encode") then Some Encode
-    else (if bytes_eq name (codes "decode") then Some Decode
-    else (if bytes_eq name (codes "explain") then Some Explain
-    else (if bytes_eq name (codes "normalise") then Some Normalise
-    else (if bytes_eq name (codes "same") then Some Same
-    else (if bytes_eq name (codes "part") then Some Part
-    else (if bytes_eq name (codes "scan") then Some Scan else None))))))))))))
 
 -- the text of a word, which is empty where there is none
 abbrev pub text_or_empty : Option Text → Text
@@ -100,17 +86,17 @@ WritesLimits found limits = WritesLimit 500 (one_of (codes "depth") found) limit
 abbrev pub IsGiven : List Row → Text → Option (Vec (String Global) Global) → Type 0
 IsGiven found name values = option_map (λ v. map string_bytes v.items) values ≡ all_of name found
 
--- what `explain` looks into, where clap found these arguments
-pub record HasViews (found : List Row) (views : ViewOptions) : Type 0 where
-  pub inside : IsGiven found (codes "inside") views.inside
-  pub calls : IsGiven found (codes "call") views.calls
-  pub addresses : IsGiven found (codes "address") views.addresses
-  pub u256s : IsGiven found (codes "u256") views.u256s
-  pub i256s : IsGiven found (codes "i256") views.i256s
+-- the views that one option asks for, where clap found these arguments
+abbrev pub views_by : List Row → ViewKind → List (ViewKind × Text)
+views_by found kind = map (λ t. (kind, t)) (unwrap_or (all_of (view_name kind) found) [])
 
--- one of these options was given
-abbrev pub has_views : ViewOptions → Bool
-has_views views = is_some views.inside || is_some views.calls || is_some views.addresses || is_some views.u256s || is_some views.i256s
+abbrev pub some_unless_empty : {X : Type 0} → List X → Option (List X)
+some_unless_empty [] = None
+some_unless_empty (x ∷ xs) = Some (x ∷ xs)
+
+-- what `explain` looks into, and which values it shows as Move does: the views that these arguments ask for, if there are any
+abbrev pub HasViews : List Row → Option (Vec ViewText Global) → Type 0
+HasViews found views = option_map (λ v. map asked_of v.items) views ≡ some_unless_empty (flat_map (views_by found) view_kinds)
 
 -- the options, where clap found these arguments. Nothing is said of those for output that people read
 pub record HasOptions (found : List Row) (options : JobOptions) : Type 0 where
@@ -128,29 +114,9 @@ pub record HasOptions (found : List Row) (options : JobOptions) : Type 0 where
   pub json_refusals : options.json_refusals ≡ has_value (codes "refusals") found
   pub views : HasViews found options.views
 
--- nothing is looked into
-pub record HasNoViews (views : ViewOptions) : Type 0 where
-  pub inside : views.inside ≡ None
-  pub calls : views.calls ≡ None
-  pub addresses : views.addresses ≡ None
-  pub u256s : views.u256s ≡ None
-  pub i256s : views.i256s ≡ None
-
 -- no option is set
-pub record HasNoOptions (options : JobOptions) : Type 0 where
-  pub name : options.name ≡ None
-  pub types : options.types ≡ None
-  pub base64 : options.base64 ≡ false
-  pub lines : options.lines ≡ false
-  pub front : options.front ≡ false
-  pub list : options.list ≡ false
-  pub quiet : options.quiet ≡ false
-  pub notation : options.notation ≡ Path
-  pub content : options.content ≡ false
-  pub range : options.range ≡ false
-  pub output : options.output ≡ None
-  pub json_refusals : options.json_refusals ≡ false
-  pub views : HasNoViews options.views
+abbrev pub HasNoOptions : JobOptions → Type 0
+HasNoOptions options = HasOptions [] options
 
 -- the job of a command, where clap found these arguments
 pub record IsJob (command : Command) (found : List Row) (job : Job) : Type 0 where

@@ -1,5 +1,6 @@
 pub mod Jobs
 pub mod LineFaults
+pub mod Options
 pub mod AcceptedArguments
 pub mod Misuses
 pub mod Spelling

@@ -1,10 +1,11 @@
 -- Arguments that clap accepts one by one, but that don't go together.
-use Rattle.std.specs.Prelude.{◌≡◌, ◌&&◌, ◌||◌, ℕ, List, Option, Some, None, Bool, codes, is_some, option_and_then, if◌then◌else◌}
+use Rattle.std.specs.Prelude.{◌&&◌, ◌||◌, ℕ, List, Option, Some, None, Bool, codes, option_and_then, if◌then◌else◌}
 use Rattle.std.specs.Str.{bytes_eq}
-use Rattle.std.specs.Option.{option_map_or, option_or}
+use Rattle.std.specs.Option.{option_or}
 use Rattle.clap.specs.Words.{Row, Text, first_of, subcommand_of}
 use Rattle.bcs_tool_command_line.specs.CommandLine.{bcs_app}
-use Rattle.bcs_tool_command_line.specs.Jobs.{coding_found, command_named, has_value, is_raw, is_set, notation_found}
+use Rattle.bcs_tool_command_line.specs.Options.{command_named}
+use Rattle.bcs_tool_command_line.specs.Jobs.{coding_found, has_value, is_raw, is_set, notation_found}
 use Rattle.bcs_tool_command_line.specs.Spelling.{spelled}
 use Rattle.bcs_tool_command_line.specs.declared.command.Command.{Command}
 use Rattle.bcs_tool_command_line.specs.declared.command.Command.TheVariants.{Explain, Part}

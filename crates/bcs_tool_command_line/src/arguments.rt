@@ -1,15 +1,14 @@
 //! The job of a command, from the arguments that clap found.
 ghost use Rattle.std.specs.Prelude.{◌≡◌, ℕ, IfOk, map, option_map, string_bytes};
-ghost use Rattle.clap.specs.Words.{found_of, one_of, rows_of};
+ghost use Rattle.clap.specs.Words.{first_of, found_of, one_of, rows_of};
 ghost use Rattle.bcs_value_model.specs.Limits.{Bounds};
-ghost use Rattle.bcs_tool_command_line.specs.Jobs.{HasOptions, IsJob, WritesLimit, WritesLimits, coding_found, file_found, has_value as has_value_in, is_set as is_set_in, notation_found, path_found, registry_found, text_or_empty};
+ghost use Rattle.bcs_tool_command_line.specs.Jobs.{IsGiven, IsJob, WritesLimit, WritesLimits, coding_found, file_found, has_value as has_value_in, is_set as is_set_in, notation_found, path_found, registry_found, text_or_empty};
 
 use crate::coding::Coding;
 use crate::command::Command;
-use crate::display::Display;
-use crate::job::{Job, JobOptions};
+use crate::job::Job;
+use crate::job_options::JobOptions;
 use crate::notation::Notation;
-use crate::views::ViewOptions;
 use bcs_value::Limits;
 use clap::ArgMatches;
 use std::alloc::{AllocError, Global};
@@ -28,29 +27,7 @@ pub fn job_of(alloc: Global, command: Command, given: &ArgMatches<'_>) -> Result
         file: given_name(alloc, file_of(given))?,
         raw: is_set(given, "raw"),
         limits: limits_of(given),
-        options: options_of(alloc, given)?,
-    })
-}
-
-// The options.
-fn options_of(alloc: Global, given: &ArgMatches<'_>) -> Result<JobOptions, AllocError>
-    ensures { IfOk result (HasOptions (rows_of (found_of given.now))) }
-{
-    Ok(JobOptions {
-        name: given_name(alloc, given.get_str("NAME").or(given.get_str("variant")))?,
-        types: given_names(alloc, given.get_strs("TYPE"))?,
-        base64: is_set(given, "base64"),
-        lines: is_set(given, "lines"),
-        front: is_set(given, "front"),
-        list: is_set(given, "list"),
-        quiet: is_set(given, "quiet"),
-        notation: notation_of(given),
-        content: is_set(given, "content"),
-        range: is_set(given, "range"),
-        output: given_name(alloc, given.get_str("output"))?,
-        json_refusals: has_value(given, "refusals"),
-        views: ViewOptions::given(alloc, given)?,
-        display: Display::given(given),
+        options: JobOptions::given(alloc, given)?,
     })
 }
 
@@ -123,8 +100,8 @@ fn text_of(alloc: Global, word: Option<&str>) -> Result<String, AllocError>
     String::from_str(alloc, word.unwrap_or(""))
 }
 
-// An optional argument, such as the name of a file or a container.
-fn given_name(alloc: Global, word: Option<&str>) -> Result<Option<String>, AllocError>
+/// An optional argument, such as the name of a file or a container.
+pub(crate) fn given_name(alloc: Global, word: Option<&str>) -> Result<Option<String>, AllocError>
     ensures { IfOk result (λ o. option_map string_bytes o ≡ option_map (λ t. t.now) word.entry) }
 {
     match word {
@@ -133,15 +110,33 @@ fn given_name(alloc: Global, word: Option<&str>) -> Result<Option<String>, Alloc
     }
 }
 
-/// The values of an argument that may have several.
-pub(crate) fn given_names(
-    alloc: Global,
-    words: Option<&[&str]>,
-) -> Result<Option<Vec<String>>, AllocError>
-    ensures { IfOk result (λ o. option_map (λ v. map string_bytes v.items) o
-        ≡ option_map (λ s. map (λ t. t.now) s.now) words.entry) }
+/// The value of an argument.
+pub(crate) fn text_in<'a>(given: &ArgMatches<'a>, argument: &str) -> Option<&'a str>
+    ensures { option_map (λ t. t.now) result ≡ first_of argument.now (rows_of (found_of given.now)) }
 {
-    match words {
+    given.get_str(argument)
+}
+
+/// A copy of it.
+pub(crate) fn name_in(
+    alloc: Global,
+    given: &ArgMatches<'_>,
+    argument: &str,
+) -> Result<Option<String>, AllocError>
+    ensures { IfOk result (λ o. option_map string_bytes o ≡ first_of argument.now (rows_of (found_of given.now))) }
+{
+    given_name(alloc, text_in(given, argument))
+}
+
+/// The values of an argument that may have several.
+pub(crate) fn names_in(
+    alloc: Global,
+    given: &ArgMatches<'_>,
+    argument: &str,
+) -> Result<Option<Vec<String>>, AllocError>
+    ensures { IfOk result (IsGiven (rows_of (found_of given.now)) argument.now) }
+{
+    match given.get_strs(argument) {
         Some(words) => Ok(Some(copies(alloc, words)?)),
         None => Ok(None),
     }

@@ -1,6 +1,8 @@
 //! The commands of `bcs`.
 ghost use Rattle.std.specs.Prelude.{◌≡◌};
-ghost use Rattle.bcs_tool_command_line.specs.Jobs.{command_named};
+ghost use Rattle.bcs_tool_command_line.specs.Options.{command_named};
+
+use crate::options::command_in;
 
 /// A command of `bcs`: the first argument after the program's name.
 #[derive(Clone, Copy, Debug, PartialEq, Eq)]
@@ -34,25 +36,27 @@ pub enum Command {
 }
 
 impl Command {
+    /// All of them, in the order of the help.
+    pub(crate) const ALL: &'static [Command] = &[
+        Command::Check,
+        Command::Grows,
+        Command::Show,
+        Command::Example,
+        Command::Schema,
+        Command::FromMove,
+        Command::Encode,
+        Command::Decode,
+        Command::Explain,
+        Command::Normalise,
+        Command::Same,
+        Command::Part,
+        Command::Scan,
+    ];
+
     /// The command of this name.
     pub fn named(name: &str) -> Option<Command>
         ensures { result ≡ command_named name.now }
     {
-        match name {
-            "check" => Some(Command::Check),
-            "grows" => Some(Command::Grows),
-            "show" => Some(Command::Show),
-            "example" => Some(Command::Example),
-            "schema" => Some(Command::Schema),
-            "from-move" => Some(Command::FromMove),
-            "encode" => Some(Command::Encode),
-            "decode" => Some(Command::Decode),
-            "explain" => Some(Command::Explain),
-            "normalise" => Some(Command::Normalise),
-            "same" => Some(Command::Same),
-            "part" => Some(Command::Part),
-            "scan" => Some(Command::Scan),
-            _ => None,
-        }
+        command_in(Command::ALL, name)
     }
 }

@@ -1,62 +1,68 @@
 //! What `explain` looks into, and which values it shows as Move does.
-ghost use Rattle.std.specs.Prelude.{◌≡◌, IfOk};
+ghost use Rattle.std.specs.Prelude.{◌≡◌, ◌++◌, IfOk, flat_map, map, option_map};
 ghost use Rattle.clap.specs.Words.{found_of, rows_of};
-ghost use Rattle.bcs_tool_command_line.specs.Jobs.{HasNoViews, HasViews, has_views};
+ghost use Rattle.bcs_view_texts.specs.Kinds.{asked_of};
+ghost use Rattle.bcs_tool_command_line.specs.Jobs.{HasViews, some_unless_empty, views_by};
 
-use crate::arguments::given_names;
+use bcs_view_texts::{ViewKind, ViewText};
 use clap::ArgMatches;
 use std::alloc::{AllocError, Global};
 
-/// The values of these options, in their order; `None` if an option wasn't given.
-#[derive(Debug, Drop)]
-pub struct ViewOptions {
-    /// `--inside`: `NAME=FORMAT`, the byte strings that are explained by a format.
-    pub inside: Option<Vec<String>>,
-    /// `--call`: `NAME=FUNCTION`, the lists of byte strings that are a function's arguments.
-    pub calls: Option<Vec<String>>,
-    /// `--address`: the containers whose values are addresses.
-    pub addresses: Option<Vec<String>>,
-    /// `--u256`: the containers whose values are unsigned numbers, lowest byte first.
-    pub u256s: Option<Vec<String>>,
-    /// `--i256`: the containers whose values are signed numbers, lowest byte first.
-    pub i256s: Option<Vec<String>>,
+/// The views that these arguments ask for, in the order of their options; `None` if there are none.
+pub(crate) fn views_of(
+    alloc: Global,
+    given: &ArgMatches<'_>,
+) -> Result<Option<Vec<ViewText>>, AllocError>
+    ensures { IfOk result (HasViews (rows_of (found_of given.now))) }
+{
+    Ok(some_unless_empty(views_by(alloc, ViewKind::ALL, given)?))
 }
 
-impl ViewOptions {
-    /// None of the options was given.
-    pub fn none() -> ViewOptions
-        ensures { HasNoViews result }
-    {
-        ViewOptions {
-            inside: None,
-            calls: None,
-            addresses: None,
-            u256s: None,
-            i256s: None,
-        }
+// The views that the arguments ask for by these options.
+fn views_by(
+    alloc: Global,
+    kinds: &[ViewKind],
+    given: &ArgMatches<'_>,
+) -> Result<Vec<ViewText>, AllocError>
+    ensures { IfOk result (λ v. map asked_of v.items ≡ flat_map (views_by (rows_of (found_of given.now))) kinds.now) }
+{
+    let mut views = Vec::new(alloc);
+    for kind in kinds {
+        add_views_by(alloc, *kind, given, &mut views)?;
     }
+    Ok(views)
+}
 
-    /// Whether one of the options was given.
-    pub fn are_given(&self) -> bool
-        ensures { result ≡ has_views self.now }
-    {
-        self.inside.is_some()
-            || self.calls.is_some()
-            || self.addresses.is_some()
-            || self.u256s.is_some()
-            || self.i256s.is_some()
-    }
+// Adds those of one option.
+fn add_views_by(
+    alloc: Global,
+    kind: ViewKind,
+    given: &ArgMatches<'_>,
+    views: &mut Vec<ViewText>,
+) -> Result<(), AllocError>
+    ensures { IfOk result (λ _. map asked_of views.new.items ≡ map asked_of views.old.items ++ views_by (rows_of (found_of given.now)) kind) }
+{
+    let texts = given.get_strs(kind.name()).unwrap_or(&[]);
+    add_views(alloc, kind, texts, views)
+}
 
-    /// The options among these arguments.
-    pub(crate) fn given(alloc: Global, given: &ArgMatches<'_>) -> Result<ViewOptions, AllocError>
-        ensures { IfOk result (HasViews (rows_of (found_of given.now))) }
-    {
-        Ok(ViewOptions {
-            inside: given_names(alloc, given.get_strs("inside"))?,
-            calls: given_names(alloc, given.get_strs("call"))?,
-            addresses: given_names(alloc, given.get_strs("address"))?,
-            u256s: given_names(alloc, given.get_strs("u256"))?,
-            i256s: given_names(alloc, given.get_strs("i256"))?,
-        })
+// Adds the views that these texts of an option ask for.
+fn add_views(
+    alloc: Global,
+    kind: ViewKind,
+    texts: &[&str],
+    views: &mut Vec<ViewText>,
+) -> Result<(), AllocError>
+    ensures { IfOk result (λ _. map asked_of views.new.items ≡ map asked_of views.old.items ++ map (λ t. (kind, t.now)) texts.now) }
+{
+    for text in texts {
+        views.push(ViewText::new(alloc, kind, *text)?)?;
     }
+    Ok(())
+}
+
+fn some_unless_empty(views: Vec<ViewText>) -> Option<Vec<ViewText>>
+    ensures { option_map (λ v. map asked_of v.items) result ≡ some_unless_empty (map asked_of views.items) }
+{
+    if views.is_empty() { None } else { Some(views) }
 }

@@ -15,7 +15,7 @@ returns c =
       file = c.in_ok-given_name.ensures ∙ c.file_of.ensures;
       raw = c.is_set.ensures;
       limits = c.limits_of.ensures;
-      options = c.in_ok-options_of.ensures;
+      options = c.in_ok-given.ensures;
     }
 
 pub returns-in_err-text_of : goal.returns-in_err-text_of
@@ -33,5 +33,5 @@ returns-in_err-text_of-4 c = search rules
 pub returns-in_err-given_name : goal.returns-in_err-given_name
 returns-in_err-given_name c = search rules
 
-pub returns-in_err-options_of : goal.returns-in_err-options_of
-returns-in_err-options_of c = search rules
+pub returns-in_err-given : goal.returns-in_err-given
+returns-in_err-given c = search rules

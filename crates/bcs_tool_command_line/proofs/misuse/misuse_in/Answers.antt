@@ -1,4 +1,4 @@
-use Rattle.bcs_tool_command_line.proofs.Prelude.{◌≡◌, ◌∙◌, ap, ap₂, sym, codes, Option, found_of, rows_of, first_value-rows, misuse_in, Command, Misuse}
+use Rattle.bcs_tool_command_line.proofs.Prelude.{◌∙◌, ap, ap₂, sym, codes, Option, found_of, rows_of, first_value-rows, Command, Misuse}
 use Rattle.std.specs.Option.{option_or}
 use Rattle.bcs_tool_command_line.specs.Misuses.{color_misuse, command_misuse}
 use Rattle.bcs_tool_command_line.proofs.misuse.misuse_in.Goals as goal

@@ -1,4 +1,4 @@
-use Rattle.bcs_tool_command_line.proofs.Prelude.{◌≡◌, ◌∙◌, ap, subst, sym, rules, [], List, map, Bor, Some, ℕ, Text, app_of, found_of, rows_of, subcommand_of, bcs_app, texts_of, spelled, IsFaultAmong}
+use Rattle.bcs_tool_command_line.proofs.Prelude.{◌≡◌, ◌∙◌, ap, subst, sym, rules, [], List, map, Bor, ℕ, Text, app_of, found_of, rows_of, bcs_app, texts_of, spelled, IsFaultAmong}
 use Rattle.clap.specs.Words.{fault_of}
 use Rattle.bcs_tool_command_line.proofs.LineFaultLemmas.{fault_of_error, none_is_memory, taken_as}
 use Rattle.bcs_tool_command_line.proofs.CommandNames.{found_job, found_misuse, met_found, met_is_named}

@@ -1,4 +1,4 @@
-use Rattle.bcs_tool_command_line.proofs.Prelude.{◌≡◌, ◌∙◌, ◌+◌, ◌++◌, ◌∷◌, ap, ap₂, sym, map, Bool, Bor, ℕ, drop, List, at_drop_more, Text, string_bytes, may_be_option, spelled, spelled_from, spelled_word, texts_of}
+use Rattle.bcs_tool_command_line.proofs.Prelude.{◌≡◌, ◌∙◌, ◌+◌, ◌++◌, ◌∷◌, ap, ap₂, sym, map, Bool, Bor, ℕ, drop, List, at_drop_more, string_bytes, may_be_option, spelled, spelled_from, spelled_word, texts_of}
 use Rattle.std.specs.Prelude.{String}
 use Rattle.std.specs.declared.alloc.Global.{Global}
 use Rattle.bcs_tool_command_line.proofs.SpellingLemmas.{none_more, one_more}
