@@ -1,8 +1,0 @@
-use Rattle.bcs_c.proofs.Prelude.{◌≡◌, subst, Entries}
-use Rattle.bcs_c.specs.Keeping.{Knows}
-use Rattle.bcs_c.proofs.asked.Lent.back.Goals as goal
-
-pub keep-requires : goal.keep-requires
-keep-requires c =
-    let is : c.args.self.opened.value ≡ c.deref_mut.result.now = cc c.deref_mut.ensures.value in
-    subst (λ (r : Entries). Knows r c.args.self.known) is c.requires

@@ -1,5 +1,0 @@
-use Rattle.bcs_c.proofs.Prelude.{rules}
-use Rattle.bcs_c.proofs.numbered.stop_reason.Goals as goal
-
-pub returns-in-402-clause-some : goal.returns-in-402-clause-some
-returns-in-402-clause-some c = search rules

@@ -1,0 +1,14 @@
+pub mod Prelude
+pub mod Once
+pub mod Refusals
+pub mod PartAnswers
+pub mod Holdings
+pub mod RawBoxes
+pub mod RegistrySend
+pub mod Steps
+pub mod ContentAnswers
+pub mod Explanations
+pub mod NameRefusals
+pub mod Bare
+pub mod Calls
+pub mod TwoDocuments
