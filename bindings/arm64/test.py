@@ -3,7 +3,7 @@
 
 Prints a line for each thing that passes. The parts are:
 
-    library    what the libraries export and need, the tests of C, and the rows over texts and on handles
+    library    what the libraries export and need, the tests of C, and the rows by the functions of bcs.h and by bcs_ask
     program    the rows of tests/rows/bcs.rows, streams, files, large and deep input, and refused memory
     python     the rows in Debian's Python for arm64, and by SQL in its SQLite
     go         the module's tests and the rows

@@ -16,7 +16,7 @@
 
 int main(void) {
     /* A format is JSON. bcs_format writes the format of a container's name. */
-    uint8_t format[100], bytes[100], text[100], place[100], message[100];
+    uint8_t format[100], bytes[100], text[100], message[100];
     const size_t format_length = bcs_format("Payment", 7, format, sizeof format);
 
     /* The registry is read once, for any number of values and threads. */
@@ -44,18 +44,25 @@ int main(void) {
     }
     printf("\n%.*s\n", (int)shown.length, (const char *)text);
 
-    /* Without its last byte it isn't a payment: why, where, and what was expected there. */
-    const bcs_answer damaged = bcs_handle_from_bcs(handle, format, format_length, BCS_DEPTH, nodes, bytes, coded.length - 1,
-                                                   text, sizeof text);
-    if (damaged.status != BCS_REFUSED) {
+    /* Without its last byte it isn't a payment. bcs_ask also says where, and what was expected there: a place, a NUL, and a message. */
+    const bcs_question question = {
+        .size = sizeof question,
+        .call = BCS_FROM_BCS,
+        .depth = BCS_DEPTH,
+        .nodes = nodes,
+        .format = format,
+        .format_length = format_length,
+        .first = bytes,
+        .first_length = coded.length - 1,
+    };
+    const bcs_answer damaged = bcs_ask(handle, &question, text, sizeof text, message, sizeof message);
+    if (damaged.status != BCS_REFUSED || damaged.length == 0 || damaged.length > sizeof message) {
         return 1;
     }
-    const bcs_answer where = bcs_handle_stop_place(handle, format, format_length, BCS_DEPTH, nodes, BCS_WHERE, bytes,
-                                                   coded.length - 1, place, sizeof place);
-    const bcs_answer what = bcs_handle_stop_place(handle, format, format_length, BCS_DEPTH, nodes, BCS_WANTED, bytes,
-                                                  coded.length - 1, message, sizeof message);
-    printf("refused: %s at %llu, %.*s: %.*s\n", bcs_fault_text(damaged.fault), (unsigned long long)damaged.place,
-           (int)where.length, (const char *)place, (int)what.length, (const char *)message);
+    const char *const place = (const char *)message; /* in bytes, a place has no NUL */
+    const size_t place_length = strlen(place);
+    printf("refused: %s at %llu, %s: %.*s\n", bcs_fault_text(damaged.fault), (unsigned long long)damaged.place, place,
+           (int)(damaged.length - place_length - 1), place + place_length + 1);
     bcs_close(handle);
     return 0;
 }

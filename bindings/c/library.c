@@ -311,14 +311,79 @@ uint32_t bcs_handle_nodes_for(const bcs_handle *handle, size_t bytes_length) {
 
 /* ---- Calls. */
 
-/* A call in progress. */
+/* What a call needs of this file. */
+struct rule {
+    enum {
+        NO_CALL,
+        ON_HANDLE,
+        ON_JSON,       /* of the handle's registry, which the proved call reads as `first` */
+        WITHOUT_HANDLE
+    } kind;
+    bool reads_format, reads_first, reads_second; /* as JSON; `begin` sees to the format of the calls on a handle */
+    bool is_of_depth; /* whether another depth may have another output */
+    uint8_t before;   /* if the depth was lowered: the call that finds out first whether the value is too deep */
+    uint32_t stack;   /* without an open registry: how many bytes it needs, besides what JSON needs that nests */
+};
+
+/* (only explaining itself knows whether a value in a byte string is too deep) */
+static const struct rule rules[] = {
+    [BCS_CHECK] = {.kind = ON_HANDLE},
+    [BCS_TO_BCS] = {.kind = ON_HANDLE, .reads_first = true},
+    [BCS_FROM_BCS] = {.kind = ON_HANDLE},
+    [BCS_NORMALISE] = {.kind = ON_HANDLE, .reads_first = true},
+    [BCS_COMPARE] = {.kind = ON_HANDLE, .reads_first = true, .reads_second = true},
+    [BCS_SCAN] = {.kind = ON_HANDLE},
+    [BCS_PART] = {.kind = ON_HANDLE},
+    [BCS_PART_NAMED] = {.kind = ON_HANDLE},
+    [BCS_CONTENT] = {.kind = ON_HANDLE},
+    [BCS_EXPLAIN] = {.kind = ON_HANDLE, .before = BCS_EXPLAIN},
+    [BCS_TEXT_REFUSAL] = {.kind = ON_HANDLE, .reads_first = true, .before = BCS_TO_BCS},
+    [BCS_STOP_REFUSAL] = {.kind = ON_HANDLE, .before = BCS_SCAN},
+    [BCS_SCHEMA] = {.kind = ON_HANDLE},
+    [BCS_EXAMPLE] = {.kind = ON_HANDLE, .is_of_depth = true},
+    [BCS_SHOW] = {.kind = ON_HANDLE},
+    [BCS_FORMAT_PLACE] = {.kind = ON_JSON, .reads_format = true, .reads_first = true, .stack = FIXED},
+    [BCS_GROWS] = {.kind = WITHOUT_HANDLE, .reads_first = true, .reads_second = true, .stack = FIXED},
+    [BCS_GROWTH_LIST] = {.kind = WITHOUT_HANDLE, .reads_first = true, .reads_second = true, .stack = FIXED},
+    [BCS_GROWTH_PLACE] = {.kind = WITHOUT_HANDLE, .reads_first = true, .reads_second = true, .stack = FIXED},
+    [BCS_REGISTRY_REFUSAL] = {.kind = WITHOUT_HANDLE, .reads_first = true, .stack = FIXED},
+    [BCS_PATH_PLACE] = {.kind = WITHOUT_HANDLE, .stack = FIXED},
+    [BCS_REGISTRY_OF_MODULES] = {.kind = WITHOUT_HANDLE, .stack = MODULES},
+    [BCS_MODULES_PLACE] = {.kind = WITHOUT_HANDLE, .stack = MODULES},
+    [BCS_FAULT_NAME] = {.kind = WITHOUT_HANDLE},
+};
+
+static const struct rule *rule_of(uint32_t call) {
+    return &rules[call < sizeof rules / sizeof *rules ? call : 0];
+}
+
+static bool can_read_inputs(size_t left, const struct rule *rule, const bcs_question *question) {
+    return (!rule->reads_format || can_read(left, question->format, question->format_length)) &&
+           (!rule->reads_first || can_read(left, question->first, question->first_length)) &&
+           (!rule->reads_second || can_read(left, question->second, question->second_length));
+}
+
+/* Where a call writes. */
+struct outputs {
+    uint8_t *out;
+    size_t out_length;
+    uint8_t *message;
+    size_t message_length;
+};
+
+static bcs_answer ask_proved(bcs_c_handle *handle, const bcs_question *question, const struct outputs *to) {
+    return bcs_c_ask(handle, question, to->out, to->out_length, to->message, to->message_length);
+}
+
+/* A call in progress on a handle. */
 struct use {
     struct slot *slot;    /* NULL: the call opens the registry for itself, in `own` */
     bcs_c_handle own;
     bcs_c_handle *proved; /* where the registry is open */
-    bcs_c_handle_ask ask;
+    const struct rule *rule;
+    bcs_question question;
     size_t left;          /* of the stack, at the beginning */
-    bool is_lowered;      /* whether the depth in `ask` is below the caller's */
+    bool is_lowered;      /* whether the depth in `question` is below the caller's */
 };
 
 static void release(struct use *use) {
@@ -342,47 +407,40 @@ static void take_slot(struct use *use, bcs_handle *handle) {
 }
 
 /* Lowers the depth to what the stack has room for. Returns false if it hasn't even for a value without containers. */
-static bool fit_depth(bcs_c_handle_ask *ask, size_t left, struct shape registry) {
-    const struct shape format = shape_of(ask->format, ask->format_length);
+static bool fit_depth(bcs_question *question, size_t left, struct shape registry) {
+    const struct shape format = shape_of(question->format, question->format_length);
     if (!fits_reading(left, greatest(registry.nesting, format.nesting)) ||
         left < need_of_value(0, registry.levels, format.levels)) {
         return false;
     }
     size_t depth = 0;
-    for (size_t step = 256; step > 0 && ask->depth <= BCS_DEPTH; step /= 2) {
-        if (depth + step <= ask->depth && left >= need_of_value(depth + step, registry.levels, format.levels)) {
+    for (size_t step = 256; step > 0 && question->depth <= BCS_DEPTH; step /= 2) {
+        if (depth + step <= question->depth && left >= need_of_value(depth + step, registry.levels, format.levels)) {
             depth += step;
         }
     }
-    ask->depth = ask->depth <= BCS_DEPTH ? (uint32_t)depth : ask->depth;
+    question->depth = question->depth <= BCS_DEPTH ? (uint32_t)depth : question->depth;
     return true;
 }
 
-/* Begins a call on a handle or, if that is NULL, on the text of a registry. It leaves `spare` bytes of stack. */
-static bcs_answer begin(struct use *use, bcs_handle *handle, const uint8_t *registry, size_t registry_length,
-                        const bcs_c_handle_ask *ask, size_t spare) {
+/* Begins a call on a handle. It leaves `spare` bytes of stack. */
+static bcs_answer begin(struct use *use, bcs_handle *handle, size_t spare) {
     const size_t whole = stack_left(), left = whole > spare ? whole - spare : 0;
+    const uint32_t depth = use->question.depth;
     use->slot = NULL;
     use->own.registry = NULL;
     use->proved = &use->own;
-    use->ask = *ask;
     use->left = left;
-    if (left < need_of_value(least(ask->depth, BCS_DEPTH), MOST_LEVELS, MOST_LEVELS)) {
-        const struct shape shape = handle != NULL ? handle->shape : shape_of(registry, registry_length);
-        if (!fit_depth(&use->ask, left, shape)) {
-            return plain(BCS_STACK);
-        }
+    if (left < need_of_value(least(depth, BCS_DEPTH), MOST_LEVELS, MOST_LEVELS) &&
+        !fit_depth(&use->question, left, handle->shape)) {
+        return plain(BCS_STACK);
     }
-    use->is_lowered = use->ask.depth < ask->depth;
-    if (handle != NULL) {
-        take_slot(use, handle);
-        registry = handle->registry;
-        registry_length = handle->length;
-    }
+    use->is_lowered = use->question.depth < depth;
+    take_slot(use, handle);
     if (use->proved->registry != NULL) {
         return plain(BCS_DONE);
     }
-    const bcs_answer answer = bcs_c_open(use->proved, registry, registry_length);
+    const bcs_answer answer = bcs_c_open(use->proved, handle->registry, handle->length);
     if (answer.status != BCS_DONE) {
         release(use);
     }
@@ -399,27 +457,28 @@ static bcs_answer end(struct use *use, bcs_answer answer) {
     return use->is_lowered && is_too_deep(answer) ? plain(BCS_STACK) : answer;
 }
 
-static bcs_answer scan_if_lowered(struct use *use, const uint8_t *bytes, size_t bytes_length) {
-    return use->is_lowered ? bcs_c_handle_scan(use->proved, &use->ask, bytes, bytes_length) : plain(BCS_DONE);
-}
-
 /* Whether the lowered depth leaves the answer open. */
 static bool is_final(bcs_answer answer) {
     return is_too_deep(answer) || answer.status == BCS_MEMORY;
 }
 
-static bcs_answer code_if_lowered(struct use *use, const uint8_t *text, size_t text_length) {
-    return use->is_lowered ? bcs_c_handle_to_bcs(use->proved, &use->ask, text, text_length, NULL, 0) : plain(BCS_DONE);
-}
-
-/* The next six write about a refusal. If the depth was lowered, they first make sure that it isn't TooDeep; if it is, or if
-   memory or stack ran out on the way, that is their answer. */
-static bcs_answer explain(struct use *use, uint32_t form, const uint8_t *bytes, size_t bytes_length, uint8_t *out,
-                          size_t out_length) {
-    const bcs_answer scanned = scan_if_lowered(use, bytes, bytes_length);
-    return is_final(scanned)
-               ? scanned
-               : bcs_c_handle_explain(use->proved, &use->ask, form, bytes, bytes_length, out, out_length);
+/* Asks with a lowered depth. Whether the value is too deep for it is known before anything is written. */
+static bcs_answer ask_lowered(const struct use *use, const struct outputs *to) {
+    const struct outputs nowhere = {NULL, 0, NULL, 0}, without_message = {to->out, to->out_length, NULL, 0};
+    if (use->rule->is_of_depth) {
+        return plain(BCS_STACK);
+    }
+    if (use->rule->before != 0) {
+        bcs_question before = use->question;
+        before.call = use->rule->before;
+        const bcs_answer tried = ask_proved(use->proved, &before, &nowhere);
+        if (is_final(tried)) {
+            return tried;
+        }
+    }
+    const bcs_answer answer = ask_proved(use->proved, &use->question, &without_message);
+    const bool has_message = answer.status == BCS_REFUSED && !is_too_deep(answer) && to->message_length > 0;
+    return has_message ? ask_proved(use->proved, &use->question, to) : answer;
 }
 
 #define STEP_INSIDE "[bcs]"
@@ -449,187 +508,93 @@ static size_t most_nesting(const uint8_t *lines, size_t length) {
     return opened;
 }
 
-static bcs_answer explain_with(struct use *use, uint32_t form, const uint8_t *views, size_t views_length,
-                               const uint8_t *bytes, size_t bytes_length, uint8_t *out, size_t out_length) {
-    if (!fits_reading(use->left, most_nesting(views, views_length))) {
-        return plain(BCS_STACK);
+static bcs_answer ask_on_handle(struct use *use, bcs_handle *handle, const struct outputs *to) {
+    const bcs_question *const question = &use->question;
+    const size_t views_length = question->call == BCS_EXPLAIN ? question->views_length : 0;
+    const bcs_answer begun = begin(use, handle, need_inside(question->views, views_length));
+    if (begun.status != BCS_DONE) {
+        return begun;
     }
-    /* Only the call itself knows whether a value inside is too deep. */
-    const bcs_answer tried = use->is_lowered
-                                 ? bcs_c_handle_explain_with(use->proved, &use->ask, form, views, views_length, bytes,
-                                                             bytes_length, NULL, 0)
-                                 : plain(BCS_DONE);
-    return is_final(tried) ? tried
-                           : bcs_c_handle_explain_with(use->proved, &use->ask, form, views, views_length, bytes,
-                                                       bytes_length, out, out_length);
-}
-
-static bcs_answer stop_place(struct use *use, uint32_t what, const uint8_t *bytes, size_t bytes_length, uint8_t *out,
-                             size_t out_length) {
-    const bcs_answer scanned = scan_if_lowered(use, bytes, bytes_length);
-    return is_final(scanned)
-               ? scanned
-               : bcs_c_handle_stop_place(use->proved, &use->ask, what, bytes, bytes_length, out, out_length);
-}
-
-static bcs_answer text_place(struct use *use, uint32_t what, const uint8_t *text, size_t text_length, uint8_t *out,
-                             size_t out_length) {
-    const bcs_answer coded = code_if_lowered(use, text, text_length);
-    return is_final(coded) ? coded
-                           : bcs_c_handle_text_place(use->proved, &use->ask, what, text, text_length, out, out_length);
-}
-
-static bcs_answer text_refusal(struct use *use, const uint8_t *text, size_t text_length, uint8_t *out,
-                               size_t out_length) {
-    const bcs_answer coded = code_if_lowered(use, text, text_length);
-    return is_final(coded) ? coded
-                           : bcs_c_handle_text_refusal(use->proved, &use->ask, text, text_length, out, out_length);
-}
-
-static bcs_answer stop_refusal(struct use *use, const uint8_t *bytes, size_t bytes_length, uint8_t *out,
-                               size_t out_length) {
-    const bcs_answer scanned = scan_if_lowered(use, bytes, bytes_length);
-    return is_final(scanned)
-               ? scanned
-               : bcs_c_handle_stop_refusal(use->proved, &use->ask, bytes, bytes_length, out, out_length);
-}
-
-/* Another depth may have another example, so a lowered depth returns no example. */
-static bcs_answer example(struct use *use, uint32_t form, const uint8_t *variant, size_t variant_length, uint8_t *out,
-                          size_t out_length) {
-    return use->is_lowered
-               ? plain(BCS_STACK)
-               : bcs_c_handle_example(use->proved, &use->ask, form, variant, variant_length, out, out_length);
-}
-
-/* Defines a call with a handle, or twice: with the text of a registry, too. */
-#define FORMAT_AND_LIMITS const uint8_t *format, size_t format_length, uint32_t depth, uint32_t nodes
-#define IN(input) , const uint8_t *input, size_t input##_length
-#define NUMBER(name) , uint32_t name
-#define OUT , uint8_t *out, size_t out_length
-#define BODY(BEGUN, CALL)                                                                                              \
-    {                                                                                                                  \
-        const bcs_c_handle_ask ask = {format, format_length, depth, nodes};                                            \
-        struct use use;                                                                                                \
-        const bcs_answer begun = BEGUN;                                                                                \
-        return begun.status == BCS_DONE ? end(&use, CALL) : begun;                                                     \
+    if (!can_read_inputs(use->left, use->rule, question) ||
+        !fits_reading(use->left, most_nesting(question->views, views_length))) {
+        return end(use, plain(BCS_STACK));
     }
-#define ON_THE_HANDLE_WITH(spare) handle != NULL ? begin(&use, handle, NULL, 0, &ask, spare) : plain(BCS_CLOSED)
-#define ON_THE_HANDLE ON_THE_HANDLE_WITH(0)
-#define WITH_HANDLE(name, PARAMETERS, CALL)                                                                            \
-    bcs_answer bcs_handle_##name(bcs_handle *handle, FORMAT_AND_LIMITS PARAMETERS) BODY(ON_THE_HANDLE, CALL)
-#define BOTH(name, PARAMETERS, CALL)                                                                                   \
-    bcs_answer bcs_##name(const uint8_t *registry, size_t registry_length, FORMAT_AND_LIMITS PARAMETERS)               \
-        BODY(begin(&use, NULL, registry, registry_length, &ask, 0), CALL)                                                 \
-    bcs_answer bcs_handle_##name(bcs_handle *handle, FORMAT_AND_LIMITS PARAMETERS) BODY(ON_THE_HANDLE, CALL)
+    return end(use, use->is_lowered ? ask_lowered(use, to) : ask_proved(use->proved, question, to));
+}
 
-#define IF_READ(input, call) (can_read(use.left, input, input##_length) ? (call) : plain(BCS_STACK))
+static bcs_answer ask_without_handle(const struct rule *rule, const bcs_question *question, const struct outputs *to) {
+    const size_t left = stack_left();
+    bcs_c_handle closed = {NULL};
+    return left >= rule->stack && can_read_inputs(left, rule, question) ? ask_proved(&closed, question, to)
+                                                                        : plain(BCS_STACK);
+}
 
-BOTH(check, , bcs_c_handle_check(use.proved, &use.ask))
-BOTH(to_bcs, IN(text) OUT,
-     IF_READ(text, bcs_c_handle_to_bcs(use.proved, &use.ask, text, text_length, out, out_length)))
-BOTH(from_bcs, IN(bytes) OUT, bcs_c_handle_from_bcs(use.proved, &use.ask, bytes, bytes_length, out, out_length))
-BOTH(normalise, IN(text) OUT,
-     IF_READ(text, bcs_c_handle_normalise(use.proved, &use.ask, text, text_length, out, out_length)))
-BOTH(compare, IN(first) IN(second),
-     IF_READ(first, IF_READ(second, bcs_c_handle_compare(use.proved, &use.ask, first, first_length, second,
-                                                         second_length))))
-BOTH(scan, IN(bytes), bcs_c_handle_scan(use.proved, &use.ask, bytes, bytes_length))
-BOTH(part, IN(bytes) IN(path), bcs_c_handle_part(use.proved, &use.ask, bytes, bytes_length, path, path_length))
-WITH_HANDLE(part_named, NUMBER(notation) IN(name) IN(bytes),
-            bcs_c_handle_part_named(use.proved, &use.ask, notation, name, name_length, bytes, bytes_length))
-WITH_HANDLE(content, NUMBER(notation) IN(name) IN(bytes),
-            bcs_c_handle_content(use.proved, &use.ask, notation, name, name_length, bytes, bytes_length))
-BOTH(explain, NUMBER(form) IN(bytes) OUT, explain(&use, form, bytes, bytes_length, out, out_length))
-bcs_answer bcs_handle_explain_with(bcs_handle *handle, FORMAT_AND_LIMITS NUMBER(form) IN(views) IN(bytes) OUT)
-    BODY(ON_THE_HANDLE_WITH(need_inside(views, views_length)),
-         explain_with(&use, form, views, views_length, bytes, bytes_length, out, out_length))
-BOTH(text_place, NUMBER(what) IN(text) OUT,
-     IF_READ(text, text_place(&use, what, text, text_length, out, out_length)))
-BOTH(stop_place, NUMBER(what) IN(bytes) OUT, stop_place(&use, what, bytes, bytes_length, out, out_length))
-WITH_HANDLE(text_refusal, IN(text) OUT, IF_READ(text, text_refusal(&use, text, text_length, out, out_length)))
-WITH_HANDLE(stop_refusal, IN(bytes) OUT, stop_refusal(&use, bytes, bytes_length, out, out_length))
-WITH_HANDLE(schema, OUT, bcs_c_handle_schema(use.proved, &use.ask, out, out_length))
-WITH_HANDLE(example, NUMBER(form) IN(variant) OUT, example(&use, form, variant, variant_length, out, out_length))
+/* The size of the first version of bcs_question. */
+#define FIRST_SIZE (24 + 8 * sizeof(void *))
 
-bcs_answer bcs_handle_show(bcs_handle *handle, uint32_t form, const uint8_t *name, size_t name_length, uint8_t *out,
-                           size_t out_length) {
-    const bcs_c_handle_ask ask = {NULL, 0, 0, 0};
+#define IS_AT(member, pointers) \
+    _Static_assert(offsetof(bcs_question, member) == 24 + (pointers) * sizeof(void *), "bcs_question." #member)
+_Static_assert(offsetof(bcs_question, size) == 0 && offsetof(bcs_question, call) == 4 &&
+                   offsetof(bcs_question, number) == 8 && offsetof(bcs_question, second_number) == 12 &&
+                   offsetof(bcs_question, depth) == 16 && offsetof(bcs_question, nodes) == 20,
+               "the numbers of bcs_question");
+IS_AT(format, 0);
+IS_AT(format_length, 1);
+IS_AT(first, 2);
+IS_AT(first_length, 3);
+IS_AT(second, 4);
+IS_AT(second_length, 5);
+IS_AT(views, 6);
+IS_AT(views_length, 7);
+
+/* Takes the members that the caller and the library both know, and zeros for those that only the library knows. Returns false if
+   the caller's struct isn't one of those that bcs.h describes. */
+static bool take_question(bcs_question *taken, const bcs_question *asked) {
+    const uint8_t *const bytes = (const uint8_t *)asked;
+    const size_t size = asked->size;
+    if (size < FIRST_SIZE) {
+        return false;
+    }
+    for (size_t at = sizeof *taken; at < size; at++) {
+        if (bytes[at] != 0) {
+            return false;
+        }
+    }
+    if (size >= sizeof *taken) {
+        *taken = *asked;
+        return true;
+    }
+    *taken = (bcs_question){0};
+    for (size_t at = 0; at < size; at++) {
+        ((uint8_t *)taken)[at] = bytes[at];
+    }
+    return true;
+}
+
+bcs_answer bcs_ask(bcs_handle *handle, const bcs_question *question, uint8_t *out, size_t out_length, uint8_t *message,
+                   size_t message_length) {
+    const struct outputs to = {out, out_length, message, message_length};
     struct use use;
-    const bcs_answer begun = handle != NULL ? begin(&use, handle, NULL, 0, &ask, 0) : plain(BCS_CLOSED);
-    return begun.status == BCS_DONE
-               ? end(&use, bcs_c_handle_show(use.proved, form, name, name_length, out, out_length))
-               : begun;
-}
-
-bcs_answer bcs_handle_format_place(bcs_handle *handle, const uint8_t *format, size_t format_length, uint8_t *out,
-                                   size_t out_length) {
-    const size_t left = stack_left();
-    if (handle == NULL) {
-        return plain(BCS_CLOSED);
+    if (!take_question(&use.question, question)) {
+        return plain(BCS_NO_CALL);
     }
-    return fits_reading(left, handle->shape.nesting) && can_read(left, format, format_length)
-               ? bcs_c_format_place(handle->registry, handle->length, format, format_length, out, out_length)
-               : plain(BCS_STACK);
-}
-
-bcs_answer bcs_path_place(const uint8_t *path, size_t path_length, uint8_t *out, size_t out_length) {
-    return fits_reading(stack_left(), 0) ? bcs_c_path_place(path, path_length, out, out_length) : plain(BCS_STACK);
-}
-
-static bool can_read_both(const uint8_t *older, size_t older_length, const uint8_t *newer, size_t newer_length) {
-    const size_t left = stack_left();
-    return can_read(left, older, older_length) && can_read(left, newer, newer_length);
-}
-
-bcs_answer bcs_grows(const uint8_t *older, size_t older_length, const uint8_t *newer, size_t newer_length) {
-    return can_read_both(older, older_length, newer, newer_length)
-               ? bcs_c_grows(older, older_length, newer, newer_length)
-               : plain(BCS_STACK);
-}
-
-bcs_answer bcs_growth_list(const uint8_t *older, size_t older_length, const uint8_t *newer, size_t newer_length,
-                           uint8_t *out, size_t out_length) {
-    return can_read_both(older, older_length, newer, newer_length)
-               ? bcs_c_growth_list(older, older_length, newer, newer_length, out, out_length)
-               : plain(BCS_STACK);
-}
-
-bcs_answer bcs_growth_place(const uint8_t *older, size_t older_length, const uint8_t *newer, size_t newer_length,
-                            uint8_t *out, size_t out_length) {
-    return can_read_both(older, older_length, newer, newer_length)
-               ? bcs_c_growth_place(older, older_length, newer, newer_length, out, out_length)
-               : plain(BCS_STACK);
-}
-
-bcs_answer bcs_registry_of_modules(const uint8_t *modules, size_t modules_length, const uint8_t *types, size_t types_length,
-                                   uint8_t *out, size_t out_length) {
-    return stack_left() >= MODULES
-               ? bcs_c_registry_of_modules(modules, modules_length, types, types_length, out, out_length)
-               : plain(BCS_STACK);
-}
-
-bcs_answer bcs_modules_place(const uint8_t *modules, size_t modules_length, const uint8_t *types, size_t types_length,
-                             uint8_t *out, size_t out_length) {
-    return stack_left() >= MODULES ? bcs_c_modules_place(modules, modules_length, types, types_length, out, out_length)
-                                   : plain(BCS_STACK);
-}
-
-bcs_answer bcs_registry_place(uint32_t what, const uint8_t *registry, size_t registry_length, uint8_t *out,
-                              size_t out_length) {
-    return can_read(stack_left(), registry, registry_length)
-               ? bcs_c_registry_place(what, registry, registry_length, out, out_length)
-               : plain(BCS_STACK);
-}
-
-bcs_answer bcs_registry_refusal(const uint8_t *registry, size_t registry_length, uint8_t *out, size_t out_length) {
-    return can_read(stack_left(), registry, registry_length)
-               ? bcs_c_registry_refusal(registry, registry_length, out, out_length)
-               : plain(BCS_STACK);
-}
-
-bcs_answer bcs_fault_name(uint32_t fault, uint8_t *out, size_t out_length) {
-    return bcs_c_fault_name(fault, out, out_length);
+    use.rule = rule_of(use.question.call);
+    switch (use.rule->kind) {
+    case ON_HANDLE:
+        return handle != NULL ? ask_on_handle(&use, handle, &to) : plain(BCS_CLOSED);
+    case ON_JSON:
+        if (handle == NULL) {
+            return plain(BCS_CLOSED);
+        }
+        use.question.first = handle->registry;
+        use.question.first_length = handle->length;
+        return ask_without_handle(use.rule, &use.question, &to);
+    case WITHOUT_HANDLE:
+        return ask_without_handle(use.rule, &use.question, &to);
+    case NO_CALL:
+        break;
+    }
+    return plain(BCS_NO_CALL);
 }
 
 /* As BCS_VERSION of bcs.h, with which the tests compare it. */

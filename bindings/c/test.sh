@@ -53,10 +53,11 @@ rejects --archive "$room/no.a"
 rejects --from "$room"
 echo "c: build, repeated, and with invalid arguments"
 
-# A program that is linked with the library sees only the header's calls, in the libraries that are tested here and in those that
-# the machine's own compiler makes.
+# A program that is linked with the library sees only what the header declares and doesn't define, in the libraries that are tested
+# here and in those that the machine's own compiler makes.
 sed -nE 's/^(bcs_answer |void |uint32_t |const char \*)(bcs_[a-z_]*)\(.*/\2/p' "$prefix/include/bcs.h" | sort >"$room/declared"
-[ -s "$room/declared" ] || fail "no calls were found in bcs.h"
+[ "$(tr '\n' ' ' <"$room/declared")" = "bcs_ask bcs_close bcs_handle_nodes_for bcs_open bcs_version " ] \
+    || fail "bcs.h declares other functions: $(cat "$room/declared")"
 exports_the_header() {
     nm -D --defined-only "$1/lib/libbcs.so" >"$room/nm"
     sed -n 's/.* \(bcs_.*\)@@BCS_0$/\1/p' "$room/nm" | sort | diff "$room/declared" - \
@@ -69,7 +70,7 @@ exports_the_header() {
 }
 exports_the_header "$prefix"
 exports_the_header "$room/again"
-echo "c: the libraries export the header's $(wc -l <"$room/declared") calls"
+echo "c: the libraries export $(wc -l <"$room/declared") functions, as the header declares them"
 
 # The header, alone and in any language of C's kind.
 for standard in c99 c11 c17; do
@@ -77,6 +78,7 @@ for standard in c99 c11 c17; do
         || fail "the header isn't $standard"
 done
 compile -c "$tests/layout.c" -o "$room/layout.o" || fail "the layout"
+gcc -m32 -ffreestanding -std=c11 -Wall -Wextra -Werror -fsyntax-only "$tests/layout.c" || fail "the layout on 32 bits"
 gcc -std=c11 -Wall -Wextra -Wpedantic -Werror -fsyntax-only "$here/library.c" || fail "library.c isn't standard C11"
 for standard in c++11 c++20; do
     g++ -std=$standard -Wall -Wextra -Wpedantic -Werror -I"$prefix/include" "$tests/as_cpp.cpp" "$prefix/lib/libbcs.a" \
@@ -105,20 +107,30 @@ readelf -d "$room/example" >"$room/log"
 ! grep -q 'NEEDED.*libbcs' "$room/log" || fail "example.c isn't linked statically"
 echo "c: example.c, linked dynamically and statically"
 
-for name in calls handles beside; do
+for name in calls question handles beside; do
     run_sanitized "$name" libbcs.a
 done
-echo "c: all calls, with texts and on handles, under the sanitizers of addresses and undefined behaviour"
+echo "c: all calls, by name and by bcs_ask, under the sanitizers of addresses and undefined behaviour"
 
 # The layer over the proved code is compiled for a sanitizer only here. It takes precedence over the one in libbcs.a.
-run_sanitized calls libbcs.a "$here/library.c" "$here/heap.c"
+for name in calls question; do
+    run_sanitized "$name" libbcs.a "$here/library.c" "$here/heap.c"
+done
+
+# A later version, whose question has one more member, accepts the questions of this one.
+mkdir -p "$room/later/include"
+cp "$here/library.c" "$here/proved.h" "$room/later"
+sed 's/^    size_t views_length;$/&\n    uint64_t third_number;/' "$here/include/bcs.h" >"$room/later/include/bcs.h"
+! cmp -s "$here/include/bcs.h" "$room/later/include/bcs.h" || fail "no later version of bcs.h was made"
+run_sanitized question libbcs.a "$room/later/library.c" "$here/heap.c" -DLATER=8 -Wno-missing-field-initializers
+echo "c: a library with a longer question accepts this one"
 run_sanitized memory libbcs.a "$here/library.c" >"$room/sweep"
-awk -F'[:,] ' '{ for (i = 2; i <= NF; i++) if ($i ~ / requests$/) { requests += $i; jobs++ } }
-    END { print "c: " jobs " jobs with each of their " requests " requests for memory refused in turn"; exit !requests }' \
+awk -F'[:,] ' '{ for (i = 2; i <= NF; i++) if ($i ~ / requests$/) { requests += $i; questions++ } }
+    END { print "c: " questions " questions with each of their " requests " requests for memory refused in turn"; exit !requests }' \
     "$room/sweep" || fail "memory.c prints no requests"
 run threads libbcs.a
 run threads libbcs.a -fsanitize=thread "$here/library.c" "$here/heap.c"
-wrapped=-Wl,--wrap=bcs_c_open,--wrap=bcs_c_close,--wrap=bcs_c_handle_scan
+wrapped=-Wl,--wrap=bcs_c_open,--wrap=bcs_c_close,--wrap=bcs_c_ask
 run_sanitized sharing libbcs.a "$here/library.c" "$here/heap.c" "$wrapped"
 run sharing libbcs.a -fsanitize=thread "$here/library.c" "$here/heap.c" "$wrapped"
 echo "c: 40 threads on one handle, also under the sanitizer of threads"

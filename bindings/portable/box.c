@@ -58,9 +58,11 @@ static size_t stack_of_call(void) {
 #define KEPT_MOST (48 << 20)
 /* No input is longer, and no box could hold one that is. */
 #define INPUT_MOST ((u64)1 << 32)
+/* How many bytes the output of a call that explains gets first at most, and the message of a refusal. */
+#define FIRST_PIECES (16 << 20)
+#define FIRST_MESSAGE 4096
 #define HANDLE_SIZE 8
 #define ANSWER_SIZE 24
-#define ASK_SIZE 24
 
 struct box {
     Z_bcs_instance_t instance;
@@ -70,57 +72,25 @@ struct box {
     uint8_t registry[];
 };
 
-enum proved {
-    OPEN,
-    CHECK,
-    TO_BCS,
-    FROM_BCS,
-    NORMALISE,
-    COMPARE,
-    SCAN,
-    PART,
-    PART_NAMED,
-    CONTENT,
-    EXPLAIN,
-    EXPLAIN_WITH,
-    TEXT_PLACE,
-    STOP_PLACE,
-    TEXT_REFUSAL,
-    STOP_REFUSAL,
-    SCHEMA,
-    EXAMPLE,
-    SHOW,
-    FORMAT_PLACE,
-    PATH_PLACE,
-    GROWTH_LIST,
-    GROWTH_PLACE,
-    GROWS,
-    REGISTRY_OF_MODULES,
-    MODULES_PLACE,
-    REGISTRY_PLACE,
-    REGISTRY_REFUSAL,
-    FAULT_NAME,
+/* bcs_question in the box's memory. The translated code was compiled for addresses of 64 bits, so it has this layout on every
+   machine. */
+struct boxed_question {
+    uint32_t size, call, number, second_number, depth, nodes;
+    u64 format, format_length, first, first_length, second, second_length, views, views_length;
 };
-
-struct input {
-    const uint8_t *bytes;
-    size_t length;
-};
-
-/* A call. `number` is a form, a notation, a fault, or what is asked about a place. */
-struct call {
-    enum proved proved;
-    const bcs_c_handle_ask *ask; /* NULL: the call has no format */
-    struct input first, second;
-    uint32_t number;
-    uint8_t *out;
-    size_t out_length;
-};
-
-/* Where in the box's memory the arguments of a call are, one after the other. */
-struct places {
-    u64 answer, ask, format, first, second, out, out_length;
-};
+#define IS_BOXED_AT(member, place) \
+    _Static_assert(offsetof(struct boxed_question, member) == (place), "boxed_question." #member)
+IS_BOXED_AT(size, 0);
+IS_BOXED_AT(call, 4);
+IS_BOXED_AT(number, 8);
+IS_BOXED_AT(second_number, 12);
+IS_BOXED_AT(depth, 16);
+IS_BOXED_AT(nodes, 20);
+IS_BOXED_AT(format, 24);
+IS_BOXED_AT(first, 40);
+IS_BOXED_AT(second, 56);
+IS_BOXED_AT(views, 72);
+_Static_assert(sizeof(struct boxed_question) == 88, "boxed_question");
 
 static void put_bytes(struct box *box, u64 place, const void *bytes, size_t length) {
     if (place + length > box->instance.w2c_memory.size) {
@@ -129,10 +99,6 @@ static void put_bytes(struct box *box, u64 place, const void *bytes, size_t leng
     if (length > 0) {
         memcpy(box->instance.w2c_memory.data + place, bytes, length);
     }
-}
-
-static void put_word(struct box *box, u64 place, u64 word) {
-    put_bytes(box, place, &word, sizeof word);
 }
 
 static void get_bytes(const struct box *box, void *bytes, u64 place, size_t length) {
@@ -155,115 +121,129 @@ static u64 take(struct box *box, u64 length) {
     return (u32)Z_bcsZ_take_memory(&box->instance, length);
 }
 
-/* How many bytes the output gets first: for most inputs enough, and else the call is made again. */
-static u64 first_room(const struct call *call, u64 input) {
-    const u64 most = 16 << 20;
-    const bool explains = call->proved == EXPLAIN || call->proved == EXPLAIN_WITH;
-    const u64 guess = !explains ? 4 * input + 256 : 64 * input < most ? 64 * input + 256 : most;
-    return guess < call->out_length ? guess : call->out_length;
+/* Puts a text of a question into the box at `end`, and returns where it is. */
+static u64 put_text(struct box *box, u64 *end, const uint8_t *text, size_t length) {
+    const u64 place = *end;
+    put_bytes(box, place, text, length);
+    *end += length;
+    return place;
 }
 
-static struct places places_of(const struct call *call, u64 block, u64 out_length) {
-    struct places at = {.answer = block, .ask = block + ANSWER_SIZE, .out_length = out_length};
-    at.format = at.ask + ASK_SIZE;
-    at.first = at.format + (call->ask != NULL ? call->ask->format_length : 0);
-    at.second = at.first + call->first.length;
-    at.out = at.second + call->second.length;
-    return at;
+/* Puts a question into the box, and its texts behind it. Returns where these end. */
+static u64 put_question(struct box *box, u64 place, const bcs_question *question) {
+    u64 end = place + sizeof(struct boxed_question);
+    const struct boxed_question boxed = {
+        .size = sizeof boxed,
+        .call = question->call,
+        .number = question->number,
+        .second_number = question->second_number,
+        .depth = question->depth,
+        .nodes = question->nodes,
+        .format = put_text(box, &end, question->format, question->format_length),
+        .format_length = question->format_length,
+        .first = put_text(box, &end, question->first, question->first_length),
+        .first_length = question->first_length,
+        .second = put_text(box, &end, question->second, question->second_length),
+        .second_length = question->second_length,
+        .views = put_text(box, &end, question->views, question->views_length),
+        .views_length = question->views_length,
+    };
+    put_bytes(box, place, &boxed, sizeof boxed);
+    return end;
 }
 
-static void put_call(struct box *box, const struct call *call, const struct places *at) {
-    if (call->ask != NULL) {
-        put_word(box, at->ask, at->format);
-        put_word(box, at->ask + 8, call->ask->format_length);
-        put_word(box, at->ask + 16, call->ask->depth | (u64)call->ask->nodes << 32);
-        put_bytes(box, at->format, call->ask->format, call->ask->format_length);
-    }
-    put_bytes(box, at->first, call->first.bytes, call->first.length);
-    put_bytes(box, at->second, call->second.bytes, call->second.length);
+/* The answer in the box, or BCS_MEMORY if its length is above what the machine can address. */
+static bcs_answer get_answer(const struct box *box, u64 place) {
+    const u64 status = get_word(box, place), length = get_word(box, place + 16);
+    const bcs_answer answer = {(uint32_t)status, (uint32_t)(status >> 32), get_word(box, place + 8), (size_t)length};
+    return length <= SIZE_MAX ? answer : plain(BCS_MEMORY);
 }
 
-static void make_proved(struct box *box, const struct call *call, const struct places *at) {
-    Z_bcs_instance_t *const in = &box->instance;
-    const u64 answer = at->answer, handle = box->handle, ask = at->ask, first = at->first, second = at->second;
-    const u64 first_length = call->first.length, second_length = call->second.length, out = at->out, room = at->out_length;
-    switch (call->proved) {
-    case OPEN: Z_bcsZ_bcs_c_open(in, answer, handle, first, first_length); break;
-    case CHECK: Z_bcsZ_bcs_c_handle_check(in, answer, handle, ask); break;
-    case TO_BCS: Z_bcsZ_bcs_c_handle_to_bcs(in, answer, handle, ask, first, first_length, out, room); break;
-    case FROM_BCS: Z_bcsZ_bcs_c_handle_from_bcs(in, answer, handle, ask, first, first_length, out, room); break;
-    case NORMALISE: Z_bcsZ_bcs_c_handle_normalise(in, answer, handle, ask, first, first_length, out, room); break;
-    case COMPARE: Z_bcsZ_bcs_c_handle_compare(in, answer, handle, ask, first, first_length, second, second_length); break;
-    case SCAN: Z_bcsZ_bcs_c_handle_scan(in, answer, handle, ask, first, first_length); break;
-    case PART: Z_bcsZ_bcs_c_handle_part(in, answer, handle, ask, first, first_length, second, second_length); break;
-    case PART_NAMED:
-        Z_bcsZ_bcs_c_handle_part_named(in, answer, handle, ask, call->number, first, first_length, second, second_length);
-        break;
-    case CONTENT:
-        Z_bcsZ_bcs_c_handle_content(in, answer, handle, ask, call->number, first, first_length, second, second_length);
-        break;
-    case EXPLAIN_WITH:
-        Z_bcsZ_bcs_c_handle_explain_with(in, answer, handle, ask, call->number, first, first_length, second, second_length,
-                                         out, room);
-        break;
-    case EXPLAIN: Z_bcsZ_bcs_c_handle_explain(in, answer, handle, ask, call->number, first, first_length, out, room); break;
-    case TEXT_PLACE:
-        Z_bcsZ_bcs_c_handle_text_place(in, answer, handle, ask, call->number, first, first_length, out, room);
-        break;
-    case STOP_PLACE:
-        Z_bcsZ_bcs_c_handle_stop_place(in, answer, handle, ask, call->number, first, first_length, out, room);
-        break;
-    case TEXT_REFUSAL: Z_bcsZ_bcs_c_handle_text_refusal(in, answer, handle, ask, first, first_length, out, room); break;
-    case STOP_REFUSAL: Z_bcsZ_bcs_c_handle_stop_refusal(in, answer, handle, ask, first, first_length, out, room); break;
-    case SCHEMA: Z_bcsZ_bcs_c_handle_schema(in, answer, handle, ask, out, room); break;
-    case EXAMPLE: Z_bcsZ_bcs_c_handle_example(in, answer, handle, ask, call->number, first, first_length, out, room); break;
-    case SHOW: Z_bcsZ_bcs_c_handle_show(in, answer, handle, call->number, first, first_length, out, room); break;
-    case FORMAT_PLACE: Z_bcsZ_bcs_c_format_place(in, answer, first, first_length, second, second_length, out, room); break;
-    case PATH_PLACE: Z_bcsZ_bcs_c_path_place(in, answer, first, first_length, out, room); break;
-    case GROWTH_LIST: Z_bcsZ_bcs_c_growth_list(in, answer, first, first_length, second, second_length, out, room); break;
-    case GROWTH_PLACE: Z_bcsZ_bcs_c_growth_place(in, answer, first, first_length, second, second_length, out, room); break;
-    case GROWS: Z_bcsZ_bcs_c_grows(in, answer, first, first_length, second, second_length); break;
-    case REGISTRY_OF_MODULES:
-        Z_bcsZ_bcs_c_registry_of_modules(in, answer, first, first_length, second, second_length, out, room);
-        break;
-    case MODULES_PLACE: Z_bcsZ_bcs_c_modules_place(in, answer, first, first_length, second, second_length, out, room); break;
-    case REGISTRY_PLACE: Z_bcsZ_bcs_c_registry_place(in, answer, call->number, first, first_length, out, room); break;
-    case REGISTRY_REFUSAL: Z_bcsZ_bcs_c_registry_refusal(in, answer, first, first_length, out, room); break;
-    case FAULT_NAME: Z_bcsZ_bcs_c_fault_name(in, answer, call->number, out, room); break;
+static bool is_too_long(const bcs_question *question) {
+    return question->format_length > INPUT_MOST || question->first_length > INPUT_MOST ||
+           question->second_length > INPUT_MOST || question->views_length > INPUT_MOST;
+}
+
+static u64 length_of_texts(const bcs_question *question) {
+    return (u64)question->format_length + question->first_length + question->second_length + question->views_length;
+}
+
+/* Whether the call has an output. The answers of the others may have a length, too. */
+static bool has_output(uint32_t call) {
+    switch (call) {
+    case BCS_CHECK:
+    case BCS_COMPARE:
+    case BCS_SCAN:
+    case BCS_PART:
+    case BCS_PART_NAMED:
+    case BCS_CONTENT:
+    case BCS_GROWS: return false;
+    default: return true;
     }
 }
 
-/* Makes a call whose output has so much room. */
-static bcs_answer make_once(struct box *box, const struct call *call, u64 out_length, u64 input) {
-    const u64 block = take(box, ANSWER_SIZE + ASK_SIZE + input + out_length);
+/* How many bytes the output gets first: for most inputs enough, and else the question is asked again. */
+static size_t first_room(const bcs_question *question) {
+    if (!has_output(question->call)) {
+        return 0;
+    }
+    const u64 input = length_of_texts(question);
+    const u64 pieces = 64 * input < FIRST_PIECES ? 64 * input + 256 : FIRST_PIECES;
+    const u64 room = question->call == BCS_EXPLAIN ? pieces : 4 * input + 256;
+    return room < SIZE_MAX ? (size_t)room : SIZE_MAX;
+}
+
+static bcs_answer ask_once(struct box *box, const bcs_question *question, const struct outputs *to) {
+    const u64 rooms = (u64)to->out_length + to->message_length;
+    const u64 block = take(box, ANSWER_SIZE + sizeof(struct boxed_question) + length_of_texts(question) + rooms);
     if (block == 0) {
         return plain(BCS_MEMORY);
     }
-    const struct places at = places_of(call, block, out_length);
-    put_call(box, call, &at);
-    make_proved(box, call, &at);
-    const u64 status = get_word(box, at.answer), length = get_word(box, at.answer + 16);
-    const bcs_answer answer = {(uint32_t)status, (uint32_t)(status >> 32), get_word(box, at.answer + 8), (size_t)length};
-    if (length > SIZE_MAX) {
-        return plain(BCS_MEMORY);
-    }
-    if (answer.status == BCS_DONE && out_length > 0) {
-        get_bytes(box, call->out, at.out, length < out_length ? (size_t)length : (size_t)out_length);
+    const u64 asked = block + ANSWER_SIZE, out = put_question(box, asked, question), message = out + to->out_length;
+    Z_bcsZ_bcs_c_ask(&box->instance, block, box->handle, asked, out, to->out_length, message, to->message_length);
+    const bcs_answer answer = get_answer(box, block);
+    if (answer.status == BCS_DONE) {
+        get_bytes(box, to->out, out, least(answer.length, to->out_length));
+    } else if (answer.status == BCS_REFUSED && answer.length <= to->message_length) {
+        get_bytes(box, to->message, message, answer.length);
     }
     Z_bcsZ_give_memory(&box->instance, block);
     return answer;
 }
 
-static bcs_answer make(struct box *box, const struct call *call) {
-    const u64 format_length = call->ask != NULL ? call->ask->format_length : 0;
-    if (format_length > INPUT_MOST || call->first.length > INPUT_MOST || call->second.length > INPUT_MOST) {
+/* Asks with little room first, and again with enough where the caller has it. */
+static bcs_answer ask(struct box *box, const bcs_question *question, const struct outputs *to) {
+    if (is_too_long(question)) {
         return plain(BCS_MEMORY);
     }
-    const u64 input = format_length + call->first.length + call->second.length;
-    const u64 room = first_room(call, input);
-    const bcs_answer answer = make_once(box, call, room, input);
-    const bool is_cut = answer.status == BCS_SHORT && answer.length <= call->out_length;
-    return is_cut && answer.length > room ? make_once(box, call, answer.length, input) : answer;
+    struct outputs first = *to;
+    first.out_length = has_output(question->call) ? least(to->out_length, first_room(question)) : 0;
+    first.message_length = least(to->message_length, FIRST_MESSAGE);
+    const bcs_answer answer = ask_once(box, question, &first);
+    const bool is_cut = answer.status == BCS_SHORT && answer.length <= to->out_length;
+    const bool is_message_cut = answer.status == BCS_REFUSED && answer.length <= to->message_length;
+    if (is_cut && answer.length > first.out_length) {
+        first.out_length = answer.length;
+        return ask_once(box, question, &first);
+    }
+    if (is_message_cut && answer.length > first.message_length) {
+        first.message_length = answer.length;
+        return ask_once(box, question, &first);
+    }
+    return answer;
+}
+
+/* Reads the registry into the box's handle. */
+static bcs_answer open_registry(struct box *box) {
+    const u64 block = take(box, ANSWER_SIZE + (u64)box->length);
+    if (block == 0) {
+        return plain(BCS_MEMORY);
+    }
+    put_bytes(box, block + ANSWER_SIZE, box->registry, box->length);
+    Z_bcsZ_bcs_c_open(&box->instance, block, box->handle, block + ANSWER_SIZE, box->length);
+    const bcs_answer answer = get_answer(box, block);
+    Z_bcsZ_give_memory(&box->instance, block);
+    return answer;
 }
 
 /* Frees the box's memory. */
@@ -272,33 +252,30 @@ static void empty(struct box *box) {
     box->is_whole = false;
 }
 
-/* Makes the box's memory, and opens the registry in it, if the box has one. */
+/* Makes the box's memory with a handle, and opens the registry in it, if the box has one. */
 static bcs_answer fill(struct box *box, bool has_registry) {
-    const struct call opening = {.proved = OPEN, .first = {box->registry, box->length}};
-    bcs_answer answer = plain(BCS_DONE);
+    const u64 closed = 0;
     Z_bcs_instantiate(&box->instance);
-    if (has_registry) {
-        box->handle = take(box, HANDLE_SIZE);
-        if (box->handle == 0) {
-            return plain(BCS_MEMORY);
-        }
-        put_word(box, box->handle, 0);
-        answer = make(box, &opening);
+    box->handle = take(box, HANDLE_SIZE);
+    if (box->handle == 0) {
+        return plain(BCS_MEMORY);
     }
+    put_bytes(box, box->handle, &closed, sizeof closed);
+    const bcs_answer answer = has_registry ? open_registry(box) : plain(BCS_DONE);
     box->is_whole = answer.status == BCS_DONE;
     return answer;
 }
 
-/* Makes a call, in a box that is filled first if need be. With the call NULL it is only filled. */
-static bcs_answer run(struct box *box, bool has_registry, const struct call *call) {
+/* Asks a question, in a box that is filled first if need be. With the question NULL it is only filled. */
+static bcs_answer run(struct box *box, bool has_registry, const bcs_question *question, const struct outputs *to) {
     sigjmp_buf here, *const before = on_trap;
     bcs_answer answer;
     box->instance.stack_end = end_of_stack(stack_of_call());
     if (sigsetjmp(here, 0) == 0) {
         on_trap = &here;
         answer = box->is_whole ? plain(BCS_DONE) : fill(box, has_registry);
-        if (answer.status == BCS_DONE && call != NULL) {
-            answer = make(box, call);
+        if (answer.status == BCS_DONE && question != NULL) {
+            answer = ask(box, question, to);
         }
     } else {
         box->is_whole = false;
@@ -308,14 +285,6 @@ static bcs_answer run(struct box *box, bool has_registry, const struct call *cal
     if (!box->is_whole || box->instance.w2c_memory.size > KEPT_MOST) {
         empty(box);
     }
-    return answer;
-}
-
-/* Makes a call that has no handle, in a box of its own. */
-static bcs_answer run_alone(struct call call) {
-    struct box box = {.is_whole = false};
-    const bcs_answer answer = run(&box, false, &call);
-    empty(&box);
     return answer;
 }
 
@@ -341,7 +310,7 @@ static bcs_answer bcs_c_open(bcs_c_handle *handle, const uint8_t *registry, size
     if (registry_length > 0) {
         memcpy(box->registry, registry, registry_length);
     }
-    const bcs_answer answer = run(box, true, NULL);
+    const bcs_answer answer = run(box, true, NULL, NULL);
     if (answer.status != BCS_DONE) {
         free(box);
         return answer;
@@ -359,84 +328,15 @@ static void bcs_c_close(bcs_c_handle *handle) {
     }
 }
 
-/* Defines a call on a handle: its parameters behind `ask`, and what the call has of them. */
-#define ON_HANDLE(name, which, PARAMETERS, ...)                                                                    \
-    static bcs_answer bcs_c_handle_##name(bcs_c_handle *handle, const bcs_c_handle_ask *ask PARAMETERS) {          \
-        const struct call call = {.proved = which, .ask = ask, __VA_ARGS__};                                       \
-        return run(handle->registry, true, &call);                                                                 \
+/* A question that needs no registry is asked in a box of its own. */
+static bcs_answer bcs_c_ask(bcs_c_handle *handle, const bcs_question *question, uint8_t *out, size_t out_length,
+                            uint8_t *message, size_t message_length) {
+    const struct outputs to = {out, out_length, message, message_length};
+    if (handle->registry != NULL) {
+        return run(handle->registry, true, question, &to);
     }
-#define GIVEN(part, name) .part = {name, name##_length}
-#define TO_OUT .out = out, .out_length = out_length
-
-ON_HANDLE(check, CHECK, , .number = 0)
-ON_HANDLE(to_bcs, TO_BCS, IN(text) OUT, GIVEN(first, text), TO_OUT)
-ON_HANDLE(from_bcs, FROM_BCS, IN(bytes) OUT, GIVEN(first, bytes), TO_OUT)
-ON_HANDLE(normalise, NORMALISE, IN(text) OUT, GIVEN(first, text), TO_OUT)
-ON_HANDLE(compare, COMPARE, IN(one) IN(other), GIVEN(first, one), GIVEN(second, other))
-ON_HANDLE(scan, SCAN, IN(bytes), GIVEN(first, bytes))
-ON_HANDLE(part, PART, IN(bytes) IN(path), GIVEN(first, bytes), GIVEN(second, path))
-ON_HANDLE(part_named, PART_NAMED, NUMBER(notation) IN(name) IN(bytes), .number = notation, GIVEN(first, name), GIVEN(second, bytes))
-ON_HANDLE(content, CONTENT, NUMBER(notation) IN(name) IN(bytes), .number = notation, GIVEN(first, name), GIVEN(second, bytes))
-ON_HANDLE(explain_with, EXPLAIN_WITH, NUMBER(form) IN(views) IN(bytes) OUT, .number = form, GIVEN(first, views),
-          GIVEN(second, bytes), TO_OUT)
-ON_HANDLE(explain, EXPLAIN, NUMBER(form) IN(bytes) OUT, .number = form, GIVEN(first, bytes), TO_OUT)
-ON_HANDLE(text_place, TEXT_PLACE, NUMBER(what) IN(text) OUT, .number = what, GIVEN(first, text), TO_OUT)
-ON_HANDLE(stop_place, STOP_PLACE, NUMBER(what) IN(bytes) OUT, .number = what, GIVEN(first, bytes), TO_OUT)
-
-ON_HANDLE(text_refusal, TEXT_REFUSAL, IN(text) OUT, GIVEN(first, text), TO_OUT)
-ON_HANDLE(stop_refusal, STOP_REFUSAL, IN(bytes) OUT, GIVEN(first, bytes), TO_OUT)
-ON_HANDLE(schema, SCHEMA, OUT, TO_OUT)
-ON_HANDLE(example, EXAMPLE, NUMBER(form) IN(variant) OUT, .number = form, GIVEN(first, variant), TO_OUT)
-
-static bcs_answer bcs_c_handle_show(bcs_c_handle *handle, uint32_t form, const uint8_t *name, size_t name_length,
-                                    uint8_t *out, size_t out_length) {
-    const struct call call = {.proved = SHOW, .number = form, GIVEN(first, name), TO_OUT};
-    return run(handle->registry, true, &call);
-}
-
-static bcs_answer bcs_c_format_place(const uint8_t *registry, size_t registry_length, const uint8_t *format,
-                                     size_t format_length, uint8_t *out, size_t out_length) {
-    return run_alone((struct call){.proved = FORMAT_PLACE, GIVEN(first, registry), GIVEN(second, format), TO_OUT});
-}
-
-static bcs_answer bcs_c_path_place(const uint8_t *path, size_t path_length, uint8_t *out, size_t out_length) {
-    return run_alone((struct call){.proved = PATH_PLACE, GIVEN(first, path), TO_OUT});
-}
-
-static bcs_answer bcs_c_growth_list(const uint8_t *older, size_t older_length, const uint8_t *newer, size_t newer_length,
-                                    uint8_t *out, size_t out_length) {
-    return run_alone((struct call){.proved = GROWTH_LIST, GIVEN(first, older), GIVEN(second, newer), TO_OUT});
-}
-
-static bcs_answer bcs_c_growth_place(const uint8_t *older, size_t older_length, const uint8_t *newer,
-                                     size_t newer_length, uint8_t *out, size_t out_length) {
-    return run_alone((struct call){.proved = GROWTH_PLACE, GIVEN(first, older), GIVEN(second, newer), TO_OUT});
-}
-
-static bcs_answer bcs_c_grows(const uint8_t *older, size_t older_length, const uint8_t *newer, size_t newer_length) {
-    return run_alone((struct call){.proved = GROWS, GIVEN(first, older), GIVEN(second, newer)});
-}
-
-static bcs_answer bcs_c_registry_of_modules(const uint8_t *modules, size_t modules_length, const uint8_t *types,
-                                            size_t types_length, uint8_t *out, size_t out_length) {
-    return run_alone((struct call){.proved = REGISTRY_OF_MODULES, GIVEN(first, modules), GIVEN(second, types), TO_OUT});
-}
-
-static bcs_answer bcs_c_modules_place(const uint8_t *modules, size_t modules_length, const uint8_t *types,
-                                      size_t types_length, uint8_t *out, size_t out_length) {
-    return run_alone((struct call){.proved = MODULES_PLACE, GIVEN(first, modules), GIVEN(second, types), TO_OUT});
-}
-
-static bcs_answer bcs_c_registry_place(uint32_t what, const uint8_t *registry, size_t registry_length, uint8_t *out,
-                                       size_t out_length) {
-    return run_alone((struct call){.proved = REGISTRY_PLACE, .number = what, GIVEN(first, registry), TO_OUT});
-}
-
-static bcs_answer bcs_c_registry_refusal(const uint8_t *registry, size_t registry_length, uint8_t *out,
-                                         size_t out_length) {
-    return run_alone((struct call){.proved = REGISTRY_REFUSAL, GIVEN(first, registry), TO_OUT});
-}
-
-static bcs_answer bcs_c_fault_name(uint32_t fault, uint8_t *out, size_t out_length) {
-    return run_alone((struct call){.proved = FAULT_NAME, .number = fault, TO_OUT});
+    struct box box = {.is_whole = false};
+    const bcs_answer answer = run(&box, false, question, &to);
+    empty(&box);
+    return answer;
 }

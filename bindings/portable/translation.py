@@ -113,16 +113,11 @@ def program(module: pathlib.Path, licence: str) -> str:
     return "\n".join([notice(title, licence), features, *parts])
 
 
-def static_calls(proved: str, box: str) -> str:
-    """proved.h with static calls, and without those that box.c doesn't have."""
+def static_calls(proved: str) -> str:
+    """proved.h with static calls."""
     proved = edited(proved, r"\A.*?#include \"include/bcs.h\"\n", "")
     proved = edited(proved, r"^#endif\n\Z", "")
-
-    def kept(found: re.Match[str]) -> str:
-        name = found[2].removeprefix("bcs_c_handle_")
-        return f"static {found[0]}" if f" {found[2]}(" in box or f"ON_HANDLE({name}," in box else ""
-
-    return re.sub(r"^(bcs_answer|void) (bcs_c_\w+)\([^;]*;\n", kept, proved, flags=re.M)
+    return edited(proved, r"^(bcs_answer|void) (bcs_c_\w+)\(", r"static \1 \2(", 3)
 
 
 def layer() -> str:
@@ -143,7 +138,6 @@ def layer() -> str:
 def library(module: pathlib.Path, licence: str) -> str:
     """bcs_library.c, from the library's module."""
     title = "bcs: canonical bytes (BCS) by a registry of formats, proved: the library of bcs.h, in one file."
-    box = own(HERE / "box.c")
     features = "#define _GNU_SOURCE\n#define _DARWIN_C_SOURCE\n"
     runtime = own(HERE / "runtime.h")
     parts = [
@@ -151,8 +145,8 @@ def library(module: pathlib.Path, licence: str) -> str:
         '#include "bcs.h"\n',
         runtime,
         translated(module),
-        static_calls(own(C / "proved.h"), box),
+        static_calls(own(C / "proved.h")),
         layer(),
-        box,
+        own(HERE / "box.c"),
     ]
     return "\n".join([notice(title, licence), *parts])

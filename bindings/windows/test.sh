@@ -100,7 +100,7 @@ tests_of_c() {
     for name in calls handles beside threads; do
         run "$name" "$root/bindings/c/tests/$name.c" || return 1
     done
-    echo "all calls, with texts and on handles, and 40 threads on one handle"
+    echo "all calls, by name and by bcs_ask, and 40 threads on one handle"
 }
 part "the tests of C" tests_of_c
 run_memory() {
@@ -116,5 +116,5 @@ part "deep values on small stacks" "$wine" "$room/stack.exe" threads "$root/exam
 # (with the stack of Linux and more, so that no row is answered by BCS_STACK)
 compile driver "$root/bindings/c/tests/driver.c" "-Wl,--stack,$((16 << 20))"
 part "the rows of the library" python3 "$root/tests/rows" windows "$wine" "$room/driver.exe"
-part "the rows of the library, on handles" \
+part "the rows of the library, by bcs_ask" \
     python3 "$root/tests/rows" --without changes windows-handles "$wine" "$room/driver.exe" handle

@@ -56,11 +56,15 @@ int main(int count, char **arguments) {
     printf("\n%.*s\n", (int)shown.length, (char *)out);
 
     const bcs_answer refused = bcs_handle_to_bcs(handle, format, named, BCS_DEPTH, BCS_NODES, damaged.bytes, damaged.length, out, sizeof out);
-    const bcs_answer pointer = bcs_handle_text_place(handle, format, named, BCS_DEPTH, BCS_NODES, BCS_WHERE, damaged.bytes, damaged.length, out, sizeof out);
-    printf("%s %.*s\n", bcs_fault_text(refused.fault), (int)pointer.length, (char *)out);
+    if (refused.status != BCS_REFUSED || bcs_handle_text_refusal(handle, format, named, BCS_DEPTH, BCS_NODES, damaged.bytes, damaged.length, out, sizeof out).status != BCS_DONE) {
+        return 1;
+    }
+    printf("%s %s\n", bcs_fault_text(refused.fault), (char *)out); /* a NUL ends the place, and the message follows */
     const bcs_answer stopped = bcs_handle_from_bcs(handle, format, named, BCS_DEPTH, nodes, data, 100, out, sizeof out);
-    const bcs_answer where = bcs_handle_stop_place(handle, format, named, BCS_DEPTH, nodes, BCS_WHERE, data, 100, out, sizeof out);
-    printf("%s %llu %.*s\n", bcs_fault_text(stopped.fault), (unsigned long long)stopped.place, (int)where.length, (char *)out);
+    if (stopped.status != BCS_REFUSED || bcs_handle_stop_refusal(handle, format, named, BCS_DEPTH, nodes, data, 100, out, sizeof out).status != BCS_DONE) {
+        return 1;
+    }
+    printf("%s %llu %s\n", bcs_fault_text(stopped.fault), (unsigned long long)stopped.place, (char *)out);
     bcs_close(handle);
     free(chain.bytes);
     free(transfer.bytes);

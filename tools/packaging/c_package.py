@@ -18,7 +18,7 @@ import facts
 FOLDER = facts.ROOT / "bindings/portable"
 C = facts.ROOT / "bindings/c"
 LIBRARY, PROGRAM = "web/bcs_scalar.wasm.gz", "web/bcs_program.wasm"
-TESTS = ["calls.c", "handles.c", "threads.c", "checks.h", "jobs.h"]
+TESTS = ["calls.c", "handles.c", "threads.c", "checks.h", "questions.h"]
 OWN_TESTS = ["rows.c", "stack.c"]
 
 sys.path.insert(0, str(FOLDER))

@@ -33,8 +33,8 @@ def test_go(bench: Bench) -> None:
     program, tests = bench.room / "go", bench.room / "go_tests"
     run("go build", words("go", "build", "-o", program, "./driver"), folder=module, variables=variables)
     run("go test -c", words("go", "test", "-c", "-o", tests, "."), folder=module, variables=variables)
-    # Two tests start themselves as another process, which the emulator can't do. TestDefaultLimits does so, too, for a limit
-    # of memory that the emulator ignores, so it runs in this process.
+    # Two tests start themselves as another process, which the emulator can't do. TestDefaultLimits does so, too, for a
+    # limit of memory that the emulator ignores, so it runs in this process.
     listed = run("the list of the tests of Go", words(*EMULATOR, tests, "-test.list", "."), folder=module).split()
     names = [name for name in listed if name not in ("TestStack", "TestMemory")]
     command = words(*EMULATOR, tests, "-test.v", "-test.run", f"^({'|'.join(names)})$")

@@ -20,9 +20,9 @@ def test_library(bench: Bench) -> None:
     library_path = bench.room / "lib"
     library_path.mkdir()
     (library_path / "libbcs.so.0").symlink_to(bench.built / "libbcs.so")
-    rows("over texts", "arm64", *EMULATOR, static)
+    rows("by the functions of bcs.h", "arm64", *EMULATOR, static)
     command = words(*EMULATOR, "-E", f"LD_LIBRARY_PATH={library_path}", dynamic, "handle")
-    rows("on handles, by libbcs.so", "--without", "changes", "arm64-handles", *command)
+    rows("by bcs_ask of libbcs.so", "--without", "changes", "arm64-handles", *command)
 
 
 def test_stack(bench: Bench) -> None:

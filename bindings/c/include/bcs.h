@@ -7,6 +7,9 @@
    Bytes are passed as a pointer and a length. The pointer may be null if the length is 0. An output must not overlap anything
    else that is passed.
 
+   The library exports bcs_open, bcs_close, bcs_ask, bcs_handle_nodes_for and bcs_version. The other calls are functions of this
+   header, which fill in a question for bcs_ask.
+
    A call finds out how much stack its thread has left, and lowers the depth to what fits. If the value needs more than that,
    the answer is BCS_STACK. bindings/c/README.md says how much stack a call needs, and where the system doesn't know it. */
 #ifndef BCS_H
@@ -44,7 +47,8 @@ enum bcs_status {
     BCS_PATH = 8,     /* the path is invalid */
     BCS_NEWER = 9,    /* the newer of two registries is refused */
     BCS_CLOSED = 10,  /* the handle is null */
-    BCS_STACK = 11    /* the thread has too little stack left for the value's depth, or for any call */
+    BCS_STACK = 11,   /* the thread has too little stack left for the value's depth, or for any call */
+    BCS_NO_CALL = 12  /* of bcs_ask: the library is older than the question, or `size` or `call` is wrong */
 };
 
 /* Why something is refused. bcs_fault_text and bcs_fault_name return its name. */
@@ -119,25 +123,19 @@ enum bcs_fault {
     BCS_MOVE_TOO_LARGE = 814
 };
 
-/* How bcs_explain prints. */
+/* How bcs_handle_explain_with prints. */
 enum bcs_form {
     BCS_WAYS = 0,  /* a line for each piece: place, bytes, kind, and the names that lead to it */
-    BCS_PATHS = 1, /* the same, followed by the path for bcs_part */
+    BCS_PATHS = 1, /* the same, followed by the path for bcs_handle_part */
     BCS_TREE = 2,  /* indented by the depth of the piece */
     BCS_JSON = 3,  /* a JSON object per line */
-    BCS_NOTES = 4  /* add it to one of these for bcs_handle_explain_with: with notes about the views, of which each is a line */
-};
-
-/* What bcs_text_place, bcs_stop_place and bcs_registry_place report about a refusal. */
-enum bcs_what {
-    BCS_WHERE = 0, /* where it is */
-    BCS_WANTED = 1 /* what was expected there, or what is wrong with it; this text is for people and may change */
+    BCS_NOTES = 4  /* add it to one of these: with notes about the views, of which each is a line */
 };
 
 /* How bcs_handle_part_named and bcs_handle_content take the name of a part. */
 enum bcs_notation {
-    BCS_STEPS = 0,  /* as a path of bcs_part: inner/2/inner; only for bcs_handle_content */
-    BCS_NAME = 1,   /* as bcs_explain prints it: .payload::EntryFunction.args[1] */
+    BCS_STEPS = 0,  /* as a path of bcs_handle_part: inner/2/inner; only for bcs_handle_content */
+    BCS_NAME = 1,   /* as bcs_handle_explain_with prints it: .payload::EntryFunction.args[1] */
     BCS_POINTER = 2 /* as a JSON Pointer (RFC 6901) into the value's JSON document: /payload/EntryFunction/args/1 */
 };
 
@@ -151,77 +149,8 @@ typedef struct bcs_answer {
     uint32_t status; /* enum bcs_status */
     uint32_t fault;  /* enum bcs_fault; 0 if nothing is refused */
     uint64_t place;  /* the offset where bytes stop being a value, or where a part or its content begins; otherwise 0 */
-    size_t length;   /* with BCS_DONE and BCS_SHORT, the number of bytes; otherwise 0 */
+    size_t length;   /* with BCS_DONE and BCS_SHORT, the number of bytes; with BCS_REFUSED, that of the message; otherwise 0 */
 } bcs_answer;
-
-/* ---- Calls that take the text of a registry. They read it each time, which takes longer than most values do. */
-
-/* Whether the registry and the format are valid: BCS_DONE, or what is refused. */
-bcs_answer bcs_check(const uint8_t *registry, size_t registry_length, const uint8_t *format, size_t format_length,
-                     uint32_t depth, uint32_t nodes);
-
-/* Whether the newer registry keeps everything that the older one has, so that every old value stays valid: BCS_DONE;
-   BCS_REFUSED with a BCS_GROWTH_.. fault; BCS_REGISTRY or BCS_NEWER if one of them isn't a valid registry. */
-bcs_answer bcs_grows(const uint8_t *older, size_t older_length, const uint8_t *newer, size_t newer_length);
-
-/* The bytes of the value that a JSON document represents. */
-bcs_answer bcs_to_bcs(const uint8_t *registry, size_t registry_length, const uint8_t *format, size_t format_length,
-                      uint32_t depth, uint32_t nodes, const uint8_t *text, size_t text_length, uint8_t *out,
-                      size_t out_length);
-
-/* The one normal JSON document of the value that the whole input encodes. */
-bcs_answer bcs_from_bcs(const uint8_t *registry, size_t registry_length, const uint8_t *format, size_t format_length,
-                        uint32_t depth, uint32_t nodes, const uint8_t *bytes, size_t bytes_length, uint8_t *out,
-                        size_t out_length);
-
-/* The one normal JSON document of the value that a JSON document represents. */
-bcs_answer bcs_normalise(const uint8_t *registry, size_t registry_length, const uint8_t *format, size_t format_length,
-                         uint32_t depth, uint32_t nodes, const uint8_t *text, size_t text_length, uint8_t *out,
-                         size_t out_length);
-
-/* Whether two JSON documents represent equal values: BCS_DONE, or BCS_NO. */
-bcs_answer bcs_compare(const uint8_t *registry, size_t registry_length, const uint8_t *format, size_t format_length,
-                       uint32_t depth, uint32_t nodes, const uint8_t *first, size_t first_length, const uint8_t *second,
-                       size_t second_length);
-
-/* How many bytes the value at the beginning of the input has: `length`. */
-bcs_answer bcs_scan(const uint8_t *registry, size_t registry_length, const uint8_t *format, size_t format_length,
-                    uint32_t depth, uint32_t nodes, const uint8_t *bytes, size_t bytes_length);
-
-/* Where the part is to which the path leads, in the value at the beginning of the input: `place`, and `length` bytes. BCS_NO:
-   the path leads nowhere. Paths are those of `bcs part`: "." for the whole value, or steps such as inner/2/inner or key:0161,
-   where the key's bytes are hexadecimal digits. */
-bcs_answer bcs_part(const uint8_t *registry, size_t registry_length, const uint8_t *format, size_t format_length,
-                    uint32_t depth, uint32_t nodes, const uint8_t *bytes, size_t bytes_length, const uint8_t *path,
-                    size_t path_length);
-
-/* The input piece by piece, as `bcs explain` prints it, without colours and without its last line `refused: ..`. `form` is
-   one of enum bcs_form; any other number means BCS_WAYS. Damaged bytes aren't an error here: the text shows the damage, and
-   `fault` and `place` report it. */
-bcs_answer bcs_explain(const uint8_t *registry, size_t registry_length, const uint8_t *format, size_t format_length,
-                       uint32_t depth, uint32_t nodes, uint32_t form, const uint8_t *bytes, size_t bytes_length,
-                       uint8_t *out, size_t out_length);
-
-/* Where a JSON document is refused: BCS_DONE, or BCS_NO if it isn't. With BCS_WHERE it is a JSON Pointer (RFC 6901) in UTF-8
-   without JSON escapes, such as /payload/args/1; it is empty if the document is refused as a whole. If the text isn't JSON,
-   it is empty too, and with BCS_WANTED the line and the column come first: line 1, column 3: .. `what` is one of enum bcs_what;
-   any other number means BCS_WHERE. If bcs_compare refuses one of two documents, ask for each. */
-bcs_answer bcs_text_place(const uint8_t *registry, size_t registry_length, const uint8_t *format, size_t format_length,
-                          uint32_t depth, uint32_t nodes, uint32_t what, const uint8_t *text, size_t text_length,
-                          uint8_t *out, size_t out_length);
-
-/* Where bytes stop being a value, if the whole input is read: BCS_DONE, or BCS_NO if they are one. With BCS_WHERE it is the
-   way there by names, as bcs_explain has it: .payload::EntryFunction.args[1]. It is printable ASCII. */
-bcs_answer bcs_stop_place(const uint8_t *registry, size_t registry_length, const uint8_t *format, size_t format_length,
-                          uint32_t depth, uint32_t nodes, uint32_t what, const uint8_t *bytes, size_t bytes_length,
-                          uint8_t *out, size_t out_length);
-
-/* Where the text of a registry is refused: BCS_DONE, or BCS_NO if it isn't. With BCS_WHERE it is a definition such as
-   Shape, variant 2 Circle, field side, or a JSON Pointer, with names as they are; it is empty if the registry is refused as a
-   whole. If the text isn't JSON, it is empty too, and with BCS_WANTED the line and the column come first:
-   line 1, column 3: .. */
-bcs_answer bcs_registry_place(uint32_t what, const uint8_t *registry, size_t registry_length, uint8_t *out,
-                              size_t out_length);
 
 /* ---- Handles: read a registry once, and use it for many values. */
 
@@ -235,63 +164,206 @@ void bcs_close(bcs_handle *handle);
    it in each node: as many as have that number of bytes in names of 64, but at least 2 a byte. NULL is allowed. */
 uint32_t bcs_handle_nodes_for(const bcs_handle *handle, size_t bytes_length);
 
-/* Each answers what the call above with the registry's text answers; BCS_CLOSED if the handle is NULL. */
-bcs_answer bcs_handle_check(bcs_handle *handle, const uint8_t *format, size_t format_length, uint32_t depth,
-                            uint32_t nodes);
-bcs_answer bcs_handle_to_bcs(bcs_handle *handle, const uint8_t *format, size_t format_length, uint32_t depth,
-                             uint32_t nodes, const uint8_t *text, size_t text_length, uint8_t *out, size_t out_length);
-bcs_answer bcs_handle_from_bcs(bcs_handle *handle, const uint8_t *format, size_t format_length, uint32_t depth,
-                               uint32_t nodes, const uint8_t *bytes, size_t bytes_length, uint8_t *out,
-                               size_t out_length);
-bcs_answer bcs_handle_normalise(bcs_handle *handle, const uint8_t *format, size_t format_length, uint32_t depth,
-                                uint32_t nodes, const uint8_t *text, size_t text_length, uint8_t *out,
-                                size_t out_length);
-bcs_answer bcs_handle_compare(bcs_handle *handle, const uint8_t *format, size_t format_length, uint32_t depth,
-                              uint32_t nodes, const uint8_t *first, size_t first_length, const uint8_t *second,
-                              size_t second_length);
-bcs_answer bcs_handle_scan(bcs_handle *handle, const uint8_t *format, size_t format_length, uint32_t depth,
-                           uint32_t nodes, const uint8_t *bytes, size_t bytes_length);
-bcs_answer bcs_handle_part(bcs_handle *handle, const uint8_t *format, size_t format_length, uint32_t depth,
-                           uint32_t nodes, const uint8_t *bytes, size_t bytes_length, const uint8_t *path,
-                           size_t path_length);
-bcs_answer bcs_handle_explain(bcs_handle *handle, const uint8_t *format, size_t format_length, uint32_t depth,
-                              uint32_t nodes, uint32_t form, const uint8_t *bytes, size_t bytes_length, uint8_t *out,
-                              size_t out_length);
-bcs_answer bcs_handle_text_place(bcs_handle *handle, const uint8_t *format, size_t format_length, uint32_t depth,
-                                 uint32_t nodes, uint32_t what, const uint8_t *text, size_t text_length, uint8_t *out,
-                                 size_t out_length);
-bcs_answer bcs_handle_stop_place(bcs_handle *handle, const uint8_t *format, size_t format_length, uint32_t depth,
-                                 uint32_t nodes, uint32_t what, const uint8_t *bytes, size_t bytes_length, uint8_t *out,
-                                 size_t out_length);
+/* ---- Questions: all other calls, as data. A binding for another language needs only these. */
+
+/* What is asked, and which members of a question the call reads, besides `size` and `call`. The function of the same name, such as
+   bcs_handle_part for BCS_PART, says what it answers. */
+enum bcs_call {
+    /* about values of a format: on a handle, and each also reads `format`, `depth` and `nodes` */
+    BCS_CHECK = 1,
+    BCS_TO_BCS = 2,        /* first: JSON */
+    BCS_FROM_BCS = 3,      /* first: bytes */
+    BCS_NORMALISE = 4,     /* first: JSON */
+    BCS_COMPARE = 5,       /* first and second: JSON */
+    BCS_SCAN = 6,          /* first: bytes */
+    BCS_PART = 7,          /* first: bytes; second: a path */
+    BCS_PART_NAMED = 8,    /* first: bytes; second: a name; number: enum bcs_notation */
+    BCS_CONTENT = 9,       /* first: bytes; second: a path or a name; number: enum bcs_notation */
+    BCS_EXPLAIN = 10,      /* first: bytes; views: lines, or empty; number: enum bcs_form (bcs_handle_explain_with) */
+    BCS_TEXT_REFUSAL = 11, /* first: JSON */
+    BCS_STOP_REFUSAL = 12, /* first: bytes */
+    BCS_SCHEMA = 13,
+    BCS_EXAMPLE = 14,      /* second: the name of a variant, or empty; number: enum bcs_example */
+    /* about a registry: on a handle */
+    BCS_SHOW = 20,         /* second: the name of a container, or empty; number: enum bcs_form */
+    BCS_FORMAT_PLACE = 21, /* format */
+    /* without a handle, which may be NULL */
+    BCS_GROWS = 30,               /* first: the older registry's JSON; second: the newer one's */
+    BCS_GROWTH_LIST = 31,         /* the same */
+    BCS_GROWTH_PLACE = 32,        /* the same */
+    BCS_REGISTRY_REFUSAL = 33,    /* first: a registry's JSON */
+    BCS_PATH_PLACE = 34,          /* second: a path */
+    BCS_REGISTRY_OF_MODULES = 35, /* first: the JSON of modules; second: types, one a line */
+    BCS_MODULES_PLACE = 36,       /* the same */
+    BCS_FAULT_NAME = 37           /* number: enum bcs_fault */
+};
+
+/* What a call is asked. Members that it doesn't read are 0, or NULL and 0. All lengths are in bytes.
+
+   A later version of the library may add members at the end, where 0 means what the call did before. So a library accepts the
+   struct of each version: it takes members that a shorter one doesn't have as 0, and ignores zeros behind those that it knows.
+   BCS_NO_CALL: there is something else behind them; or `size` is below that of this version, 88 (56 with pointers of 32 bits). */
+typedef struct bcs_question {
+    uint32_t size;          /* sizeof(bcs_question) */
+    uint32_t call;          /* enum bcs_call; BCS_NO_CALL: the library has no call of this number */
+    uint32_t number;        /* a form, a notation, or a fault */
+    uint32_t second_number; /* no call reads it yet */
+    uint32_t depth;         /* how many containers may be open at once, at most BCS_DEPTH */
+    uint32_t nodes;         /* how many nodes a value may have, for instance bcs_handle_nodes_for(handle, first_length) */
+    const uint8_t *format;  /* JSON, as bcs_format writes it */
+    size_t format_length;
+    const uint8_t *first;   /* the input */
+    size_t first_length;
+    const uint8_t *second;  /* another input, a path, or a name */
+    size_t second_length;
+    const uint8_t *views;   /* lines, as in bcs_handle_explain_with */
+    size_t views_length;
+} bcs_question;
+
+/* Asks a question. Calls on a handle return BCS_CLOSED if it is NULL.
+
+   `out`: where the output begins, if the call has one: BCS_TO_BCS, BCS_FROM_BCS, BCS_NORMALISE, and all from BCS_EXPLAIN on but
+   BCS_GROWS. It is unchanged unless the status is BCS_DONE. If it is too short, the status is BCS_SHORT, and `length` the number
+   of bytes needed.
+
+   `message`: where and why the input is refused, found by the same call. It is unchanged unless the status is BCS_REFUSED. Then it
+   begins with what bcs_handle_text_refusal, bcs_handle_stop_refusal, bcs_growth_place or bcs_modules_place writes for the input: a
+   place, a NUL, and a message. `length` is the number of these bytes. If `length` is above `message_length`, nothing was written;
+   if it is 0, no more is known than the fault, or memory ran out. For one of two documents (BCS_COMPARE), it is about the first one
+   that is refused. With `message_length` 0, no message is made, and `length` is 0 with BCS_REFUSED. */
+bcs_answer bcs_ask(bcs_handle *handle, const bcs_question *question, uint8_t *out, size_t out_length, uint8_t *message,
+                   size_t message_length);
+
+/* ---- Calls on values of a format. Each returns BCS_REGISTRY, BCS_FORMAT or BCS_LIMITS if that is refused, and BCS_REFUSED if the
+   input is. */
+
+/* Whether the format and the limits are valid: BCS_DONE, or what is refused. */
+static inline bcs_answer bcs_handle_check(bcs_handle *handle, const uint8_t *format, size_t format_length, uint32_t depth,
+                                          uint32_t nodes) {
+    const bcs_question question = {
+        sizeof question, BCS_CHECK, 0, 0, depth, nodes, format, format_length, NULL, 0, NULL, 0, NULL, 0};
+    return bcs_ask(handle, &question, NULL, 0, NULL, 0);
+}
+
+/* The bytes of the value that a JSON document represents. */
+static inline bcs_answer bcs_handle_to_bcs(bcs_handle *handle, const uint8_t *format, size_t format_length, uint32_t depth,
+                                           uint32_t nodes, const uint8_t *text, size_t text_length, uint8_t *out,
+                                           size_t out_length) {
+    const bcs_question question = {
+        sizeof question, BCS_TO_BCS, 0, 0, depth, nodes, format, format_length, text, text_length, NULL, 0, NULL, 0};
+    return bcs_ask(handle, &question, out, out_length, NULL, 0);
+}
+
+/* The one normal JSON document of the value that the whole input encodes. */
+static inline bcs_answer bcs_handle_from_bcs(bcs_handle *handle, const uint8_t *format, size_t format_length, uint32_t depth,
+                                             uint32_t nodes, const uint8_t *bytes, size_t bytes_length, uint8_t *out,
+                                             size_t out_length) {
+    const bcs_question question = {
+        sizeof question, BCS_FROM_BCS, 0, 0, depth, nodes, format, format_length, bytes, bytes_length, NULL, 0, NULL, 0};
+    return bcs_ask(handle, &question, out, out_length, NULL, 0);
+}
+
+/* The one normal JSON document of the value that a JSON document represents. */
+static inline bcs_answer bcs_handle_normalise(bcs_handle *handle, const uint8_t *format, size_t format_length, uint32_t depth,
+                                              uint32_t nodes, const uint8_t *text, size_t text_length, uint8_t *out,
+                                              size_t out_length) {
+    const bcs_question question = {
+        sizeof question, BCS_NORMALISE, 0, 0, depth, nodes, format, format_length, text, text_length, NULL, 0, NULL, 0};
+    return bcs_ask(handle, &question, out, out_length, NULL, 0);
+}
+
+/* Whether two JSON documents represent equal values: BCS_DONE, or BCS_NO. */
+static inline bcs_answer bcs_handle_compare(bcs_handle *handle, const uint8_t *format, size_t format_length, uint32_t depth,
+                                            uint32_t nodes, const uint8_t *first, size_t first_length, const uint8_t *second,
+                                            size_t second_length) {
+    const bcs_question question = {
+        sizeof question, BCS_COMPARE, 0, 0, depth, nodes, format, format_length, first, first_length, second, second_length,
+        NULL, 0};
+    return bcs_ask(handle, &question, NULL, 0, NULL, 0);
+}
+
+/* How many bytes the value at the beginning of the input has: `length`. */
+static inline bcs_answer bcs_handle_scan(bcs_handle *handle, const uint8_t *format, size_t format_length, uint32_t depth,
+                                         uint32_t nodes, const uint8_t *bytes, size_t bytes_length) {
+    const bcs_question question = {
+        sizeof question, BCS_SCAN, 0, 0, depth, nodes, format, format_length, bytes, bytes_length, NULL, 0, NULL, 0};
+    return bcs_ask(handle, &question, NULL, 0, NULL, 0);
+}
+
+/* Where the part is to which the path leads, in the value at the beginning of the input: `place`, and `length` bytes. BCS_NO:
+   the path leads nowhere. Paths are those of `bcs part`: "." for the whole value, or steps such as inner/2/inner or key:0161,
+   where the key's bytes are hexadecimal digits. */
+static inline bcs_answer bcs_handle_part(bcs_handle *handle, const uint8_t *format, size_t format_length, uint32_t depth,
+                                         uint32_t nodes, const uint8_t *bytes, size_t bytes_length, const uint8_t *path,
+                                         size_t path_length) {
+    const bcs_question question = {
+        sizeof question, BCS_PART, 0, 0, depth, nodes, format, format_length, bytes, bytes_length, path, path_length, NULL, 0};
+    return bcs_ask(handle, &question, NULL, 0, NULL, 0);
+}
 
 /* What bcs_handle_part answers, for a part that is named by fields and variants in place of numbers: `notation` is one of enum
    bcs_notation. BCS_NO: the name leads nowhere in this value. BCS_PATH: another notation, or a text that is no name in any value.
-   Only the name that bcs_explain prints leads to a part. "." is the whole value, and so is an empty JSON Pointer. */
-bcs_answer bcs_handle_part_named(bcs_handle *handle, const uint8_t *format, size_t format_length, uint32_t depth,
-                                 uint32_t nodes, uint32_t notation, const uint8_t *name, size_t name_length,
-                                 const uint8_t *bytes, size_t bytes_length);
+   Only the name that bcs_handle_explain_with prints leads to a part. "." is the whole value, and so is an empty JSON Pointer. */
+static inline bcs_answer bcs_handle_part_named(bcs_handle *handle, const uint8_t *format, size_t format_length, uint32_t depth,
+                                               uint32_t nodes, uint32_t notation, const uint8_t *name, size_t name_length,
+                                               const uint8_t *bytes, size_t bytes_length) {
+    const bcs_question question = {sizeof question, BCS_PART_NAMED, notation, 0, depth, nodes, format, format_length,
+                                   bytes, bytes_length, name, name_length, NULL, 0};
+    return bcs_ask(handle, &question, NULL, 0, NULL, 0);
+}
 
 /* Where the content of the part is: `place`, and `length` bytes. The content is what a BYTES, a STR, or a list or an array of U8
    has, without its length. BCS_REFUSED with BCS_PATH_NO_CONTENT: the part is none of these. Otherwise it answers what
    bcs_handle_part_named answers, and with BCS_STEPS what bcs_handle_part answers. */
-bcs_answer bcs_handle_content(bcs_handle *handle, const uint8_t *format, size_t format_length, uint32_t depth,
-                              uint32_t nodes, uint32_t notation, const uint8_t *name, size_t name_length,
-                              const uint8_t *bytes, size_t bytes_length);
+static inline bcs_answer bcs_handle_content(bcs_handle *handle, const uint8_t *format, size_t format_length, uint32_t depth,
+                                            uint32_t nodes, uint32_t notation, const uint8_t *name, size_t name_length,
+                                            const uint8_t *bytes, size_t bytes_length) {
+    const bcs_question question = {sizeof question, BCS_CONTENT, notation, 0, depth, nodes, format, format_length,
+                                   bytes, bytes_length, name, name_length, NULL, 0};
+    return bcs_ask(handle, &question, NULL, 0, NULL, 0);
+}
+
+/* ---- Calls on registries. */
+
+/* Whether the newer registry keeps everything that the older one has, so that every old value stays valid: BCS_DONE;
+   BCS_REFUSED with a BCS_GROWTH_.. fault; BCS_REGISTRY or BCS_NEWER if one of them isn't a valid registry. */
+static inline bcs_answer bcs_grows(const uint8_t *older, size_t older_length, const uint8_t *newer, size_t newer_length) {
+    const bcs_question question = {
+        sizeof question, BCS_GROWS, 0, 0, 0, 0, NULL, 0, older, older_length, newer, newer_length, NULL, 0};
+    return bcs_ask(NULL, &question, NULL, 0, NULL, 0);
+}
 
 /* ---- For people: documents, and refusals with all that is known of them. The words of these texts may change. */
 
 /* A whole refusal in one call: BCS_DONE, or BCS_NO if the input isn't refused. `fault` says why it is refused, and `place` where
-   bytes stop being a value. The output is a place, a NUL, and a message: what bcs_handle_text_place or bcs_handle_stop_place
-   writes with BCS_WHERE, and with BCS_WANTED. The message is printable ASCII, so the last NUL of the output ends the place: a
-   name in it may contain others. Names in a place are as they are: never escaped or cut. */
-bcs_answer bcs_handle_text_refusal(bcs_handle *handle, const uint8_t *format, size_t format_length, uint32_t depth,
-                                   uint32_t nodes, const uint8_t *text, size_t text_length, uint8_t *out,
-                                   size_t out_length);
-bcs_answer bcs_handle_stop_refusal(bcs_handle *handle, const uint8_t *format, size_t format_length, uint32_t depth,
-                                   uint32_t nodes, const uint8_t *bytes, size_t bytes_length, uint8_t *out,
-                                   size_t out_length);
+   bytes stop being a value. The output is a place, a NUL, and a message, which says what was expected there, or what is wrong with
+   it. The message is printable ASCII, so the last NUL of the output ends the place: a name in it may contain others. Names in a
+   place are as they are: never escaped or cut.
 
-/* What bcs_handle_explain answers, with views, each on a line of its own:
+   The place in a JSON document is a JSON Pointer (RFC 6901) in UTF-8 without JSON escapes, such as /payload/args/1; it is empty if
+   the document is refused as a whole. If the text isn't JSON, it is empty too, and the message begins with the line and the column:
+   line 1, column 3: .. If bcs_handle_compare refuses one of two documents, ask for each. */
+static inline bcs_answer bcs_handle_text_refusal(bcs_handle *handle, const uint8_t *format, size_t format_length, uint32_t depth,
+                                                 uint32_t nodes, const uint8_t *text, size_t text_length, uint8_t *out,
+                                                 size_t out_length) {
+    const bcs_question question = {
+        sizeof question, BCS_TEXT_REFUSAL, 0, 0, depth, nodes, format, format_length, text, text_length, NULL, 0, NULL, 0};
+    return bcs_ask(handle, &question, out, out_length, NULL, 0);
+}
+
+/* The same for bytes, if the whole input is read. The place is the way there by names, as bcs_handle_explain_with has it:
+   .payload::EntryFunction.args[1]. It is printable ASCII. */
+static inline bcs_answer bcs_handle_stop_refusal(bcs_handle *handle, const uint8_t *format, size_t format_length, uint32_t depth,
+                                                 uint32_t nodes, const uint8_t *bytes, size_t bytes_length, uint8_t *out,
+                                                 size_t out_length) {
+    const bcs_question question = {
+        sizeof question, BCS_STOP_REFUSAL, 0, 0, depth, nodes, format, format_length, bytes, bytes_length, NULL, 0, NULL, 0};
+    return bcs_ask(handle, &question, out, out_length, NULL, 0);
+}
+
+/* The input piece by piece, as `bcs explain` prints it, without colours and without its last line `refused: ..`. `form` is
+   one of enum bcs_form; any other number means BCS_WAYS. Damaged bytes aren't an error here: the text shows the damage, and
+   `fault` and `place` report it. The views may be empty, or lines:
 
        inside NAME=FORMAT     the byte string (BYTES, STR, or list or array of U8) at NAME is explained piece by piece, as FORMAT
        call NAME=FUNCTION     each byte string of the list at NAME is an argument of this function of a Move module
@@ -305,68 +377,114 @@ bcs_answer bcs_handle_stop_refusal(bcs_handle *handle, const uint8_t *format, si
 
    With a form such as BCS_JSON + BCS_NOTES, a line says which NAME matched nothing, and which FUNCTION wasn't compared with what is
    called: in JSON {"name":"NAME","note":"no list there"} before the last line, otherwise note: .. after it. */
-bcs_answer bcs_handle_explain_with(bcs_handle *handle, const uint8_t *format, size_t format_length, uint32_t depth,
-                                   uint32_t nodes, uint32_t form, const uint8_t *views, size_t views_length,
-                                   const uint8_t *bytes, size_t bytes_length, uint8_t *out, size_t out_length);
+static inline bcs_answer bcs_handle_explain_with(bcs_handle *handle, const uint8_t *format, size_t format_length, uint32_t depth,
+                                                 uint32_t nodes, uint32_t form, const uint8_t *views, size_t views_length,
+                                                 const uint8_t *bytes, size_t bytes_length, uint8_t *out, size_t out_length) {
+    const bcs_question question = {sizeof question, BCS_EXPLAIN, form, 0, depth, nodes, format, format_length,
+                                   bytes, bytes_length, NULL, 0, views, views_length};
+    return bcs_ask(handle, &question, out, out_length, NULL, 0);
+}
 
 /* A JSON Schema of the JSON documents of the format's values, as `bcs schema` prints it without the last line end. The limits
    are checked, and don't change the schema. */
-bcs_answer bcs_handle_schema(bcs_handle *handle, const uint8_t *format, size_t format_length, uint32_t depth,
-                             uint32_t nodes, uint8_t *out, size_t out_length);
+static inline bcs_answer bcs_handle_schema(bcs_handle *handle, const uint8_t *format, size_t format_length, uint32_t depth,
+                                           uint32_t nodes, uint8_t *out, size_t out_length) {
+    const bcs_question question = {
+        sizeof question, BCS_SCHEMA, 0, 0, depth, nodes, format, format_length, NULL, 0, NULL, 0, NULL, 0};
+    return bcs_ask(handle, &question, out, out_length, NULL, 0);
+}
 
 /* The JSON document of a value of the format, as `bcs example` prints it without the last line end. `form` is one of enum
    bcs_example; any other number means BCS_LEAST. A variant's name selects that variant of the enum that the format names; an
    empty name selects none. BCS_REFUSED with a BCS_EXAMPLE_.. fault: there is no such example within the limits. */
-bcs_answer bcs_handle_example(bcs_handle *handle, const uint8_t *format, size_t format_length, uint32_t depth,
-                              uint32_t nodes, uint32_t form, const uint8_t *variant, size_t variant_length,
-                              uint8_t *out, size_t out_length);
+static inline bcs_answer bcs_handle_example(bcs_handle *handle, const uint8_t *format, size_t format_length, uint32_t depth,
+                                            uint32_t nodes, uint32_t form, const uint8_t *variant, size_t variant_length,
+                                            uint8_t *out, size_t out_length) {
+    const bcs_question question = {
+        sizeof question, BCS_EXAMPLE, form, 0, depth, nodes, format, format_length, NULL, 0, variant, variant_length, NULL, 0};
+    return bcs_ask(handle, &question, out, out_length, NULL, 0);
+}
 
 /* The registry in readable form, or only the container of this name and what it depends on, as `bcs show` prints it. With an
    empty name it is the whole registry. `form` is BCS_JSON for the one compact JSON document of `bcs show --json`; any other
    number means lines. BCS_FORMAT with BCS_REGISTRY_UNKNOWN_NAME: no container has the name. */
-bcs_answer bcs_handle_show(bcs_handle *handle, uint32_t form, const uint8_t *name, size_t name_length, uint8_t *out,
-                           size_t out_length);
+static inline bcs_answer bcs_handle_show(bcs_handle *handle, uint32_t form, const uint8_t *name, size_t name_length, uint8_t *out,
+                                         size_t out_length) {
+    const bcs_question question = {sizeof question, BCS_SHOW, form, 0, 0, 0, NULL, 0, NULL, 0, name, name_length, NULL, 0};
+    return bcs_ask(handle, &question, out, out_length, NULL, 0);
+}
 
-/* The same for a registry: BCS_DONE, or BCS_NO if it is valid: what bcs_registry_place writes with BCS_WHERE, a NUL, and with
-   BCS_WANTED. */
-bcs_answer bcs_registry_refusal(const uint8_t *registry, size_t registry_length, uint8_t *out, size_t out_length);
+/* A whole refusal of a registry, in the form of bcs_handle_text_refusal: BCS_DONE, or BCS_NO if it is valid. The place is a
+   definition such as Shape, variant 2 Circle, field side, or a JSON Pointer; it is empty if the registry is refused as a whole. If
+   the text isn't JSON, it is empty too, and the message begins with the line and the column: line 1, column 3: .. */
+static inline bcs_answer bcs_registry_refusal(const uint8_t *registry, size_t registry_length, uint8_t *out, size_t out_length) {
+    const bcs_question question = {
+        sizeof question, BCS_REGISTRY_REFUSAL, 0, 0, 0, 0, NULL, 0, registry, registry_length, NULL, 0, NULL, 0};
+    return bcs_ask(NULL, &question, out, out_length, NULL, 0);
+}
 
 /* The same for a format. The place is a JSON Pointer into it, which is empty for the whole format, or if it isn't JSON:
    /SEQ, a NUL, expected a format. The output is empty if there is no more to say than the fault. */
-bcs_answer bcs_handle_format_place(bcs_handle *handle, const uint8_t *format, size_t format_length, uint8_t *out,
-                                   size_t out_length);
+static inline bcs_answer bcs_handle_format_place(bcs_handle *handle, const uint8_t *format, size_t format_length, uint8_t *out,
+                                                 size_t out_length) {
+    const bcs_question question = {
+        sizeof question, BCS_FORMAT_PLACE, 0, 0, 0, 0, format, format_length, NULL, 0, NULL, 0, NULL, 0};
+    return bcs_ask(handle, &question, out, out_length, NULL, 0);
+}
 
 /* The same for a path. The place is its first invalid step: step 1 a, a NUL, expected a number, inner, or key: and hexadecimal
    digits. */
-bcs_answer bcs_path_place(const uint8_t *path, size_t path_length, uint8_t *out, size_t out_length);
+static inline bcs_answer bcs_path_place(const uint8_t *path, size_t path_length, uint8_t *out, size_t out_length) {
+    const bcs_question question = {sizeof question, BCS_PATH_PLACE, 0, 0, 0, 0, NULL, 0, NULL, 0, path, path_length, NULL, 0};
+    return bcs_ask(NULL, &question, out, out_length, NULL, 0);
+}
 
 /* All differences between two registries, as `bcs grows --list` prints them: one per line, each with its line end. The answer is
    BCS_DONE whether or not the newer registry keeps everything that the older one has; if it doesn't, `fault` says why.
    BCS_REGISTRY or BCS_NEWER if one of them isn't a valid registry. */
-bcs_answer bcs_growth_list(const uint8_t *older, size_t older_length, const uint8_t *newer, size_t newer_length,
-                           uint8_t *out, size_t out_length);
+static inline bcs_answer bcs_growth_list(const uint8_t *older, size_t older_length, const uint8_t *newer, size_t newer_length,
+                                         uint8_t *out, size_t out_length) {
+    const bcs_question question = {
+        sizeof question, BCS_GROWTH_LIST, 0, 0, 0, 0, NULL, 0, older, older_length, newer, newer_length, NULL, 0};
+    return bcs_ask(NULL, &question, out, out_length, NULL, 0);
+}
 
 /* Where bcs_grows refuses two registries: BCS_DONE, or BCS_NO if it doesn't. The output has the same form: Shape, variant 0
    Circle, a NUL, the newer enum has another payload there. */
-bcs_answer bcs_growth_place(const uint8_t *older, size_t older_length, const uint8_t *newer, size_t newer_length,
-                            uint8_t *out, size_t out_length);
+static inline bcs_answer bcs_growth_place(const uint8_t *older, size_t older_length, const uint8_t *newer, size_t newer_length,
+                                          uint8_t *out, size_t out_length) {
+    const bcs_question question = {
+        sizeof question, BCS_GROWTH_PLACE, 0, 0, 0, 0, NULL, 0, older, older_length, newer, newer_length, NULL, 0};
+    return bcs_ask(NULL, &question, out, out_length, NULL, 0);
+}
 
 /* The registry for types of a Move chain, as `bcs from-move` prints it without the last line end. `modules` is the JSON of modules,
    as a node of Aptos or Sui returns them, or an array of such answers. `types` has a type on each line, or a function, whose
    arguments have containers of their own. If there is more to know about the registry, a line feed and notes for people
    follow its JSON, which has no line feeds. BCS_REFUSED with a BCS_MOVE_.. fault: there is no such registry. */
-bcs_answer bcs_registry_of_modules(const uint8_t *modules, size_t modules_length, const uint8_t *types, size_t types_length,
-                                   uint8_t *out, size_t out_length);
+static inline bcs_answer bcs_registry_of_modules(const uint8_t *modules, size_t modules_length, const uint8_t *types,
+                                                 size_t types_length, uint8_t *out, size_t out_length) {
+    const bcs_question question = {
+        sizeof question, BCS_REGISTRY_OF_MODULES, 0, 0, 0, 0, NULL, 0, modules, modules_length, types, types_length, NULL, 0};
+    return bcs_ask(NULL, &question, out, out_length, NULL, 0);
+}
 
 /* Where bcs_registry_of_modules refuses modules, or a type: BCS_DONE, or BCS_NO if it doesn't. The place is a JSON Pointer into the
    modules, which is empty for all of them, or the type: /0/abi/structs/3/fields/0/type, a NUL, a reference has no bytes. */
-bcs_answer bcs_modules_place(const uint8_t *modules, size_t modules_length, const uint8_t *types, size_t types_length,
-                             uint8_t *out, size_t out_length);
+static inline bcs_answer bcs_modules_place(const uint8_t *modules, size_t modules_length, const uint8_t *types, size_t types_length,
+                                           uint8_t *out, size_t out_length) {
+    const bcs_question question = {
+        sizeof question, BCS_MODULES_PLACE, 0, 0, 0, 0, NULL, 0, modules, modules_length, types, types_length, NULL, 0};
+    return bcs_ask(NULL, &question, out, out_length, NULL, 0);
+}
 
 /* ---- Names, versions and conversions. */
 
 /* The name of a fault, as the program `bcs` prints it: "BadBool". BCS_NO: no fault has the number. */
-bcs_answer bcs_fault_name(uint32_t fault, uint8_t *out, size_t out_length);
+static inline bcs_answer bcs_fault_name(uint32_t fault, uint8_t *out, size_t out_length) {
+    const bcs_question question = {sizeof question, BCS_FAULT_NAME, fault, 0, 0, 0, NULL, 0, NULL, 0, NULL, 0, NULL, 0};
+    return bcs_ask(NULL, &question, out, out_length, NULL, 0);
+}
 
 /* The version of the library, as BCS_VERSION is that of the header. */
 const char *bcs_version(void);

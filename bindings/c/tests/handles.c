@@ -1,26 +1,26 @@
-/* Handles from bcs_open to bcs_close. The rows are asked with texts and on handles, driver.c calls without a handle, and threads.c
-   uses handles on several threads. */
-#include "jobs.h"
+/* Handles from bcs_open to bcs_close. driver.c asks the rows on a handle that stays open, and without one, and threads.c uses handles
+   on several threads. */
+#include "questions.h"
 
 #define ON_VALUE(the_call, its_input) \
-    .call = the_call, .format = OF("{\"TYPENAME\":\"A\"}"), .input = OF(its_input), .second = OF(its_input), STANDARD
+    .call = the_call, .format = OF("{\"TYPENAME\":\"A\"}"), .first = OF(its_input), .second = OF(its_input), STANDARD
 static const struct slice number = OF("{\"A\":{\"NEWTYPESTRUCT\":\"U8\"}}");
 static const struct slice truth = OF("{\"A\":{\"NEWTYPESTRUCT\":\"BOOL\"}}");
 static const struct slice no_registry = OF("{\"A\":{\"NEWTYPESTRUCT\":\"U9\"}}");
 
 /* Calls that are done if the registry `number` is open, with their outputs. */
 static const struct {
-    struct job job;
+    struct question question;
     struct slice output;
-} jobs[] = {
-    {{ON_VALUE(CHECKS, "")}, OF("")},
-    {{ON_VALUE(TO_BCS, "7")}, OF("\x07")},
-    {{ON_VALUE(FROM_BCS, "\x07")}, OF("7")},
-    {{ON_VALUE(NORMALISE, " 7")}, OF("7")},
-    {{ON_VALUE(COMPARE, "7")}, OF("")},
-    {{ON_VALUE(SCAN, "\x07")}, OF("")},
-    {{.call = PART, .format = OF("{\"TYPENAME\":\"A\"}"), .input = OF("\x07"), .second = OF("inner"), STANDARD}, OF("")},
-    {{ON_VALUE(EXPLAIN, "\x07"), .number = BCS_TREE},
+} questions[] = {
+    {{ON_VALUE(BCS_CHECK, "")}, OF("")},
+    {{ON_VALUE(BCS_TO_BCS, "7")}, OF("\x07")},
+    {{ON_VALUE(BCS_FROM_BCS, "\x07")}, OF("7")},
+    {{ON_VALUE(BCS_NORMALISE, " 7")}, OF("7")},
+    {{ON_VALUE(BCS_COMPARE, "7")}, OF("")},
+    {{ON_VALUE(BCS_SCAN, "\x07")}, OF("")},
+    {{.call = BCS_PART, .format = OF("{\"TYPENAME\":\"A\"}"), .first = OF("\x07"), .second = OF("inner"), STANDARD}, OF("")},
+    {{ON_VALUE(BCS_EXPLAIN, "\x07"), .number = BCS_TREE},
      OF("     0  07                                                                U8 7                            .\n")},
 };
 #define ROOM 200
@@ -38,18 +38,18 @@ static bcs_handle *open_one(struct slice registry) {
 /* Each call on the handle, twice, since a call leaves the handle as it was. */
 static void has_number(bcs_handle *handle) {
     uint8_t out[ROOM];
-    for (size_t row = 0; row < 2 * (sizeof jobs / sizeof *jobs); row++) {
-        const struct job *job = &jobs[row / 2].job;
-        const struct slice output = jobs[row / 2].output;
+    for (size_t row = 0; row < 2 * (sizeof questions / sizeof *questions); row++) {
+        const struct question *question = &questions[row / 2].question;
+        const struct slice output = questions[row / 2].output;
         memset(out, UNTOUCHED, ROOM);
-        CHECK(make_on(handle, job, out, ROOM).status == BCS_DONE);
+        CHECK(ask_on(BY_QUESTION, handle, question, out, ROOM).status == BCS_DONE);
         CHECK(memcmp(out, output.at, output.length) == 0 && are_untouched(out + output.length, ROOM - output.length));
     }
 }
 
 static void has_truth(bcs_handle *handle) {
-    const struct job seven = {ON_VALUE(SCAN, "\x07")};
-    CHECK(are_same(make_on(handle, &seven, NULL, 0), (bcs_answer){.status = BCS_REFUSED, .fault = BCS_STOP_BAD_BOOL}));
+    const struct question seven = {ON_VALUE(BCS_SCAN, "\x07")};
+    CHECK(are_same(ask_on(BY_QUESTION, handle, &seven, NULL, 0), (bcs_answer){.status = BCS_REFUSED, .fault = BCS_STOP_BAD_BOOL}));
 }
 
 static void refused_registries_open_nothing(void) {

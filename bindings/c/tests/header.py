@@ -1,11 +1,12 @@
-"""Compares proved.h with the proved crate's sources: the names of the calls and their parameters, and the fields of the
-structs; and the numbers of statuses, faults, forms and notations in include/bcs.h, and the fields of an answer. Every
-call has a caller in library.c.
+"""Compares the headers with the proved crates' sources: in proved.h the exports of `bcs_c` and their parameters, and in
+include/bcs.h the fields of a question and of an answer, and the numbers of statuses, faults, forms, notations and
+calls. The numbers of calls are compared with the code and with the definitions that contracts use. In library.c, each
+export has a caller, and each call a rule.
 
-layout.c checks the offsets of the fields. The compiler checks that library.c defines calls as bcs.h declares them, and
-test.sh that it defines all of them.
+layout.c checks the offsets of the fields. The compiler checks that library.c defines functions as bcs.h declares them,
+and test.sh that it defines all of them.
 
-    python3 bindings/c/tests/header.py [CRATE]      CRATE: the folder of the crate; without it crates/bcs_c
+    python3 bindings/c/tests/header.py [CRATES]     CRATES: the folder with `bcs_c` and `bcs_calls` (default: crates)
 """
 
 import pathlib
@@ -18,8 +19,8 @@ ROOT = HERE.parent.parent.parent
 
 # How a number's type is written in C.
 NUMBERS = {"u32": "uint32_t", "u64": "uint64_t", "usize": "size_t"}
-# Structs that calls are handed.
-STRUCTS = {"&HandleAsk": "bcs_c_handle_ask"}
+# Structs that calls receive.
+STRUCTS = {"&Question": "bcs_question"}
 # What a call gives back.
 RESULTS = {"Answer": "bcs_answer", "": "void"}
 # The header says what the crate's pointer in a handle points to.
@@ -52,17 +53,26 @@ NOTATION = re.compile(
 STEPS = re.compile(r"\bconst (STEPS): u32 = (\d+);")
 # What is added to a form.
 NOTES = re.compile(r"\bconst (NOTES): u32 = (\d+);")
+# A call's number in the code, and in the definitions.
+CALL = re.compile(r"\b(\d+) => Some\((?:Value|Plain)Call::(\w+)\)")
+SHOW = re.compile(r"\bconst (SHOW): u32 = (\d+);")
+DEFINED_CALL = re.compile(r"^(?:value|plain)_call_number (\w+) = (\d+)$", re.MULTILINE)
+DEFINED_SHOW = re.compile(r"^(show)_number = (\d+)$", re.MULTILINE)
+# A row of library.c's table.
+RULE = re.compile(r"^    \[(BCS_\w+)\] = \{", re.MULTILINE)
 
 
 class Interface(NamedTuple):
-    """What one side says, with types as C has them. A call has first what it gives back."""
+    """What one side says, with types as C has them. An export has first what it gives back."""
 
-    calls: dict[str, list[str]]
+    exports: dict[str, list[str]]
     structs: dict[str, list[str]]
     statuses: dict[str, int]
     faults: dict[str, int]
     forms: dict[str, int]
     notations: dict[str, int]
+    calls: dict[str, int]
+    defined_calls: dict[str, int]
 
 
 def declared(name: str, written: str) -> list[str]:
@@ -88,7 +98,7 @@ def declared_all(parts: str) -> list[str]:
 
 
 def in_capitals(name: str) -> str:
-    return re.sub(r"(?<!^)([A-Z])", r"_\1", name).upper()
+    return re.sub(r"(?<=[a-z\d])([A-Z])", r"_\1", name).upper()
 
 
 def numbers(code: str, fronts: dict[str, str]) -> dict[str, int]:
@@ -119,15 +129,26 @@ def structs_of(code: str) -> dict[str, list[str]]:
 
 
 def name_of_struct(name: str) -> str:
-    """Answers are in the public header too."""
-    return "bcs_answer" if name == "Answer" else f"bcs_c_{in_capitals(name).lower()}"
+    """Only the proved handle isn't in the public header."""
+    return f"bcs_{'c_' if name == 'Handle' else ''}{in_capitals(name).lower()}"
 
 
-def of_crate(folder: pathlib.Path) -> Interface:
+def calls_of(code: str, call: re.Pattern[str], show: re.Pattern[str]) -> dict[str, int]:
+    """The numbers of calls by the header's names. A pattern finds a name and a number, in either order."""
+    pairs = (sorted(found, key=str.isdigit) for found in call.findall(code) + show.findall(code))
+    return {"BCS_" + in_capitals(name): int(number) for name, number in pairs}
+
+
+def code_of_crate(folder: pathlib.Path) -> str:
     files = sorted((folder / "src").glob("**/*.rt"))
     if not files:
         sys.exit(f"header: FAILED: no sources in {folder}/src")
-    code = "\n".join(re.sub(r"//.*", "", file.read_text(encoding="utf-8")) for file in files)
+    return "\n".join(re.sub(r"//.*", "", file.read_text(encoding="utf-8")) for file in files)
+
+
+def of_crates(folder: pathlib.Path) -> Interface:
+    code = code_of_crate(folder / "bcs_c") + code_of_crate(folder / "bcs_calls")
+    definitions = (folder / "bcs_calls/specs/Calls.antt").read_text(encoding="utf-8")
     signature = r'#\[unsafe\(no_mangle\)\]\s*pub extern "C" fn (\w+)\(([^)]*)\)(?: -> (\w+))?\s*ensures\b'
     exported = re.findall(signature, code)
     exports = len(re.findall(r"no_mangle|export_name", code))
@@ -137,13 +158,15 @@ def of_crate(folder: pathlib.Path) -> Interface:
     structs["bcs_c_handle"] = [NAMES_IN_HANDLE[field] for field in structs["bcs_c_handle"]]
     others = {OTHER_FAULTS[name]: int(number) for name, number in re.findall(r"\bFault::(\w+) => (\d+)", code)}
     return Interface(
-        calls={name: [RESULTS[result], *declared_all(parameters)] for name, parameters, result in exported},
+        exports={name: [RESULTS[result], *declared_all(parameters)] for name, parameters, result in exported},
         structs=structs,
         statuses=numbers(code, {"Status": FRONTS["Status"]}),
         faults=numbers(code, {enum: front for enum, front in FRONTS.items() if enum != "Status"}) | others,
         forms=forms_of(code) | {"BCS_" + name: int(number) for name, number in NOTES.findall(code)},
         notations={"BCS_" + in_capitals(name): int(number) for number, name in NOTATION.findall(code)}
         | {"BCS_" + name: int(number) for name, number in STEPS.findall(code)},
+        calls=calls_of(code, CALL, SHOW),
+        defined_calls=calls_of(definitions, DEFINED_CALL, DEFINED_SHOW),
     )
 
 
@@ -167,7 +190,7 @@ def structs_declared(header: str) -> dict[str, list[str]]:
 
 
 def of_headers(proved: pathlib.Path, public: pathlib.Path) -> Interface:
-    calls = re.findall(r"\b(bcs_answer|void) (bcs_\w+)\((.*?)\);", code_of(proved), re.DOTALL)
+    exports = re.findall(r"\b(bcs_answer|void) (bcs_\w+)\((.*?)\);", code_of(proved), re.DOTALL)
     header = code_of(public)
     faults = enum_of(header, "bcs_fault")
     assert faults.pop("BCS_FAULT_NONE") == 0
@@ -175,12 +198,14 @@ def of_headers(proved: pathlib.Path, public: pathlib.Path) -> Interface:
     # Only library.c knows the stack, and no proved call returns this.
     assert statuses.pop("BCS_STACK") not in statuses.values()
     return Interface(
-        calls={name: [result, *map(one_blank, parameters.split(","))] for result, name, parameters in calls},
+        exports={name: [result, *map(one_blank, parameters.split(","))] for result, name, parameters in exports},
         structs=structs_declared(code_of(proved)) | structs_declared(header),
         statuses=statuses,
         faults=faults,
         forms=enum_of(header, "bcs_form"),
         notations=enum_of(header, "bcs_notation"),
+        calls=enum_of(header, "bcs_call"),
+        defined_calls=enum_of(header, "bcs_call"),
     )
 
 
@@ -194,21 +219,28 @@ def differences(header: Interface, crate: Interface) -> list[str]:
     return found
 
 
-def without_callers(calls: dict[str, list[str]]) -> list[str]:
-    """Exports that nothing calls: library.c has the only callers."""
+def missing_in_library(crates: Interface) -> list[str]:
+    """Exports that library.c doesn't call, and calls without a rule, or with two."""
     library = code_of(HERE.parent / "library.c")
-    return [f"calls: {name}: library.c doesn't call it" for name in calls if not re.search(rf"\b{name}\(", library)]
+    uncalled = [name for name in crates.exports if not re.search(rf"\b{name}\(", library)]
+    found = [f"exports: {name}: library.c doesn't call it" for name in uncalled]
+    rules = RULE.findall(library)
+    return found + [
+        f"calls: {name}: library.c has {rules.count(name)} rules for it, and not 1"
+        for name in sorted({*crates.calls, *rules})
+        if rules.count(name) != 1 or name not in crates.calls
+    ]
 
 
 def main(words: list[str]) -> int:
-    crate = of_crate(pathlib.Path(words[0]) if words else ROOT / "crates/bcs_c")
+    crates = of_crates(pathlib.Path(words[0]) if words else ROOT / "crates")
     header = of_headers(HERE.parent / "proved.h", HERE.parent / "include/bcs.h")
-    found = differences(header, crate) + without_callers(crate.calls)
+    found = differences(header, crates) + missing_in_library(crates)
     for difference in found:
         print(f"header: FAILED: {difference}")
     if not found:
-        told = ", ".join(f"{len(getattr(header, part))} {part}" for part in Interface._fields)
-        print(f"header: {told} are as the proved crate has them")
+        told = ", ".join(f"{len(getattr(header, part))} {part.replace('_', ' ')}" for part in Interface._fields)
+        print(f"header: {told} are as the proved crates have them")
     return 1 if found else 0
 
 

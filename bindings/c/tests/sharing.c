@@ -2,13 +2,13 @@
    `test` links this with library.c and puts the functions here between that and the proved calls. With the sanitizer of threads
    it sees what the proved code does with a handle, which it couldn't see there. */
 #include "../proved.h"
-#include "jobs.h"
+#include "questions.h"
 #include <pthread.h>
 
 #define SLOTS 32
 #define THREADS (SLOTS + 8)
 static const struct slice registry = OF("{\"A\":{\"NEWTYPESTRUCT\":\"U8\"}}");
-static const struct job job = {SCAN, OF(""), OF("{\"TYPENAME\":\"A\"}"), OF("7"), OF(""), STANDARD, 0};
+static const struct question question = {BCS_SCAN, OF(""), OF("{\"TYPENAME\":\"A\"}"), OF("7"), OF(""), STANDARD, 0};
 
 static unsigned opened;
 static int open_now;
@@ -17,10 +17,12 @@ static bool is_waiting;
 
 bcs_answer __real_bcs_c_open(bcs_c_handle *handle, const uint8_t *text, size_t text_length);
 void __real_bcs_c_close(bcs_c_handle *handle);
-bcs_answer __real_bcs_c_handle_scan(bcs_c_handle *handle, const bcs_c_handle_ask *ask, const uint8_t *bytes, size_t length);
+bcs_answer __real_bcs_c_ask(bcs_c_handle *handle, const bcs_question *asked, uint8_t *out, size_t out_length, uint8_t *message,
+                            size_t message_length);
 bcs_answer __wrap_bcs_c_open(bcs_c_handle *handle, const uint8_t *text, size_t text_length);
 void __wrap_bcs_c_close(bcs_c_handle *handle);
-bcs_answer __wrap_bcs_c_handle_scan(bcs_c_handle *handle, const bcs_c_handle_ask *ask, const uint8_t *bytes, size_t length);
+bcs_answer __wrap_bcs_c_ask(bcs_c_handle *handle, const bcs_question *asked, uint8_t *out, size_t out_length, uint8_t *message,
+                            size_t message_length);
 
 /* A call takes the registry out of the handle and puts it back. */
 static void use(bcs_c_handle *handle) {
@@ -45,19 +47,20 @@ void __wrap_bcs_c_close(bcs_c_handle *handle) {
     __real_bcs_c_close(handle);
 }
 
-bcs_answer __wrap_bcs_c_handle_scan(bcs_c_handle *handle, const bcs_c_handle_ask *ask, const uint8_t *bytes, size_t length) {
+bcs_answer __wrap_bcs_c_ask(bcs_c_handle *handle, const bcs_question *asked, uint8_t *out, size_t out_length, uint8_t *message,
+                            size_t message_length) {
     use(handle);
     if (is_waiting) {
         pthread_barrier_wait(&all_are_inside);
     }
-    const bcs_answer answer = __real_bcs_c_handle_scan(handle, ask, bytes, length);
+    const bcs_answer answer = __real_bcs_c_ask(handle, asked, out, out_length, message, message_length);
     use(handle);
     return answer;
 }
 
 static void *scan_often(void *handle) {
     for (int round = 0; round < (is_waiting ? 1 : 500); round++) {
-        CHECK(are_same(make_on(handle, &job, NULL, 0), (bcs_answer){.status = BCS_DONE, .length = 1}));
+        CHECK(are_same(ask_on(BY_NAME, handle, &question, NULL, 0), (bcs_answer){.status = BCS_DONE, .length = 1}));
     }
     return NULL;
 }

@@ -3,7 +3,7 @@
 
        stack threads EXAMPLES    on threads of all sizes; a transfer of Aptos has to work on all but the smallest
        stack main                on the main thread */
-#include "jobs.h"
+#include "questions.h"
 #include <pthread.h>
 #include <ucontext.h>
 
@@ -118,46 +118,48 @@ static void drop_chain(struct chain *chain) {
 }
 
 #define ROOM (4 * MIB)
-static const enum call calls[] = {CHECKS,  TO_BCS,  FROM_BCS, NORMALISE,  COMPARE,    SCAN,       PART,
-                                  EXPLAIN, EXPLAIN, EXPLAIN,  TEXT_PLACE, TEXT_PLACE, STOP_PLACE, STOP_PLACE, PART_NAMED};
-static const uint32_t numbers[] = {0,        0,         0,          0,         0,          0,        0, BCS_WAYS, BCS_TREE,
-                                   BCS_JSON, BCS_WHERE, BCS_WANTED, BCS_WHERE, BCS_WANTED, BCS_NAME};
+static const enum bcs_call calls[] = {
+    BCS_CHECK,   BCS_TO_BCS,  BCS_FROM_BCS, BCS_NORMALISE,    BCS_COMPARE,      BCS_SCAN,       BCS_PART,
+    BCS_EXPLAIN, BCS_EXPLAIN, BCS_EXPLAIN,  BCS_TEXT_REFUSAL, BCS_STOP_REFUSAL, BCS_PART_NAMED, BCS_EXAMPLE,
+};
+static const uint32_t numbers[] = {0, 0, 0, 0, 0, 0, 0, BCS_WAYS, BCS_TREE, BCS_JSON, 0, 0, BCS_NAME, BCS_LEAST};
 
-static bool takes_text(enum call call) {
-    return call == TO_BCS || call == NORMALISE || call == COMPARE || call == TEXT_PLACE;
+static bool takes_text(enum bcs_call call) {
+    return call == BCS_TO_BCS || call == BCS_NORMALISE || call == BCS_COMPARE || call == BCS_TEXT_REFUSAL;
 }
 
-static struct job job_of(const struct chain *chain, size_t call, uint32_t depth) {
-    struct job job = {.call = calls[call], .format = OF("{\"TYPENAME\":\"C1\"}"), .depth = depth, .nodes = BCS_NODES};
-    job.number = numbers[call];
-    job.registry = (struct slice){(const uint8_t *)chain->registry.at, chain->registry.length};
-    job.input = (struct slice){(const uint8_t *)chain->bytes.at, chain->bytes.length};
-    if (takes_text(job.call)) {
-        job.input = (struct slice){(const uint8_t *)chain->text.at, chain->text.length};
+static struct question question_of(const struct chain *chain, size_t call, uint32_t depth) {
+    struct question question = {.call = calls[call], .format = OF("{\"TYPENAME\":\"C1\"}"), .depth = depth, .nodes = BCS_NODES};
+    question.number = numbers[call];
+    question.registry = (struct slice){(const uint8_t *)chain->registry.at, chain->registry.length};
+    question.first = (struct slice){(const uint8_t *)chain->bytes.at, chain->bytes.length};
+    if (takes_text(question.call)) {
+        question.first = (struct slice){(const uint8_t *)chain->text.at, chain->text.length};
     }
-    job.second = job.call == PART         ? (struct slice)OF(".")
-                 : job.call == PART_NAMED ? (struct slice)OF(".f.f") /* often it leads nowhere */
-                                          : job.input;
-    return job;
+    question.second = question.call == BCS_PART         ? (struct slice)OF(".")
+                      : question.call == BCS_PART_NAMED ? (struct slice)OF(".f.f") /* often it leads nowhere */
+                      : question.call == BCS_COMPARE    ? question.first
+                                                        : (struct slice){NULL, 0};
+    return question;
 }
 
 /* Each line of `explain` has the way to its piece. */
-static bool takes_long(const struct chain *chain, enum call call) {
-    return call == EXPLAIN && chain->containers * (chain->levels + 1) > 500;
+static bool takes_long(const struct chain *chain, enum bcs_call call) {
+    return call == BCS_EXPLAIN && chain->containers * (chain->levels + 1) > 500;
 }
 
 /* What is known of an answer without asking a thread of 8 MiB: a value of so many containers is one at this depth, and refused
    at one less. */
-static void is_right(const struct chain *chain, const struct job *job, bcs_answer answer, const uint8_t *out) {
-    const bool is_deep_enough = job->depth >= chain->containers, nests = chain->nesting > 100;
-    if (job->call == SCAN || (job->call == TO_BCS && !nests)) {
+static void is_right(const struct chain *chain, const struct question *question, bcs_answer answer, const uint8_t *out) {
+    const bool is_deep_enough = question->depth >= chain->containers, nests = chain->nesting > 100;
+    if (question->call == BCS_SCAN || (question->call == BCS_TO_BCS && !nests)) {
         CHECK(is_deep_enough ? answer.status == BCS_DONE && answer.length == chain->bytes.length
-                             : answer.fault == (job->call == SCAN ? BCS_STOP_TOO_DEEP : BCS_TEXT_TOO_DEEP));
+                             : answer.fault == (question->call == BCS_SCAN ? BCS_STOP_TOO_DEEP : BCS_TEXT_TOO_DEEP));
     }
-    if (job->call == TO_BCS && !nests && is_deep_enough && answer.length > 0) {
+    if (question->call == BCS_TO_BCS && !nests && is_deep_enough && answer.length > 0) {
         CHECK(memcmp(out, chain->bytes.at, answer.length) == 0);
     }
-    if (job->call == FROM_BCS) {
+    if (question->call == BCS_FROM_BCS) {
         CHECK(!is_deep_enough ? answer.fault == BCS_STOP_TOO_DEEP
               : nests         ? answer.fault == BCS_SHOWN_TOO_NESTED
                               : is_text(out, answer.length, chain->text.at) || answer.length == chain->text.length);
@@ -170,7 +172,7 @@ struct trial {
     size_t size;
     const struct chain *chain;
     bcs_answer answers[2][2][COUNT(calls)]; /* by way, by depth, by call */
-    unsigned long sums[2][2][COUNT(calls)]; /* of the outputs */
+    unsigned long sums[2][2][COUNT(calls)]; /* of the output or the message */
     unsigned long as_wanted, memory;
 };
 
@@ -186,24 +188,29 @@ static unsigned long sum_of(const uint8_t *out, size_t length) {
     return sum;
 }
 
-static uint8_t *output;
+static uint8_t *output, *message;
 
-/* Makes a call. What BCS_STACK leaves of the output is what was there. */
+/* Asks, on the chain's handle with a message. What BCS_STACK leaves of the outputs is what was there. */
 static void try_call(struct trial *trial, enum way way, size_t depth, size_t call) {
     const struct chain *chain = trial->chain;
-    const struct job job = job_of(chain, call, (uint32_t)(chain->containers - depth));
-    if (takes_long(chain, job.call) || (way == BY_TEXTS && chain->containers > 6)) {
+    const struct question question = question_of(chain, call, (uint32_t)(chain->containers - depth));
+    if (takes_long(chain, question.call) || (way == BY_NAME && chain->containers > 6)) {
         return;
     }
     memset(output, UNTOUCHED, 100);
-    const bcs_answer answer = way == BY_TEXTS ? make(&job, output, ROOM) : make_on(chain->handle, &job, output, ROOM);
+    memset(message, UNTOUCHED, 100);
+    const struct outputs to = {output, ROOM, message, ROOM};
+    const bcs_answer answer = way == BY_NAME ? ask_whole(way, &question, to) : ask_whole_on(way, chain->handle, &question, to);
     CHECK(trial->stack == NULL || are_untouched(trial->stack, RESERVE));
     trial->answers[way][depth][call] = answer;
-    trial->sums[way][depth][call] = sum_of(output, answer.status == BCS_DONE && has_output(&job) ? answer.length : 0);
+    trial->sums[way][depth][call] = answer.status == BCS_DONE && has_output(&question) ? sum_of(output, answer.length)
+                                    : answer.status == BCS_REFUSED                     ? sum_of(message, answer.length)
+                                                                                       : 0;
+    CHECK(answer.status == BCS_REFUSED || are_untouched(message, 100));
     if (answer.status == BCS_STACK) {
         CHECK(are_same(answer, (bcs_answer){.status = BCS_STACK}) && are_untouched(output, 100));
     } else {
-        is_right(chain, &job, answer, output);
+        is_right(chain, &question, answer, output);
     }
 }
 
@@ -220,8 +227,8 @@ static void *try_calls(void *data) {
     forget(trial);
     for (size_t call = 0; call < COUNT(calls); call++) {
         for (size_t depth = 0; depth < 2; depth++) {
-            try_call(trial, BY_TEXTS, depth, call);
-            try_call(trial, ON_HANDLE, depth, call);
+            try_call(trial, BY_NAME, depth, call);
+            try_call(trial, BY_QUESTION, depth, call);
         }
     }
     return NULL;
@@ -328,17 +335,19 @@ static void *read_nested(void *data) {
     struct trial *trial = data;
     forget(trial);
     const struct slice json = {(const uint8_t *)trial->chain->text.at, trial->chain->text.length};
-    const struct job jobs[] = {
-        {CHECKS, json, OF("\"U8\""), OF(""), OF(""), STANDARD, 0},
-        {CHECKS, OF("{}"), json, OF(""), OF(""), STANDARD, 0},
-        {NORMALISE, OF("{}"), OF("\"U8\""), json, OF(""), STANDARD, 0},
-        {COMPARE, OF("{}"), OF("\"U8\""), OF("7"), json, STANDARD, 0},
-        {TEXT_PLACE, OF("{}"), OF("\"U8\""), json, OF(""), STANDARD, BCS_WANTED},
-        {GROWS, OF(""), OF(""), json, json, STANDARD, 0},
-        {REGISTRY_PLACE, OF(""), OF(""), json, OF(""), STANDARD, BCS_WANTED},
+    const struct question questions[] = {
+        {BCS_CHECK, json, OF("\"U8\""), OF(""), OF(""), STANDARD, 0},
+        {BCS_CHECK, OF("{}"), json, OF(""), OF(""), STANDARD, 0},
+        {BCS_NORMALISE, OF("{}"), OF("\"U8\""), json, OF(""), STANDARD, 0},
+        {BCS_COMPARE, OF("{}"), OF("\"U8\""), OF("7"), json, STANDARD, 0},
+        {BCS_TEXT_REFUSAL, OF("{}"), OF("\"U8\""), json, OF(""), STANDARD, 0},
+        {BCS_GROWS, OF(""), OF(""), json, json, STANDARD, 0},
+        {BCS_REGISTRY_REFUSAL, OF(""), OF(""), json, OF(""), STANDARD, 0},
+        {BCS_FORMAT_PLACE, OF("{}"), json, OF(""), OF(""), STANDARD, 0},
+        {.call = BCS_CHECK, .registry = OF("{}"), .format = json, .depth = 0, .nodes = BCS_NODES},
     };
-    for (size_t row = 0; row < COUNT(jobs); row++) {
-        trial->answers[0][0][row] = make(&jobs[row], output, ROOM);
+    for (size_t row = 0; row < COUNT(questions); row++) {
+        trial->answers[0][0][row] = ask_whole(BY_QUESTION, &questions[row], (struct outputs){output, ROOM, message, ROOM});
         CHECK(trial->stack == NULL || are_untouched(trial->stack, RESERVE));
     }
     return NULL;
@@ -380,26 +389,26 @@ static const struct {
     size_t nesting;
     const char *type_open, *type_inner, *type_close;
     size_t type_nesting;
-    enum call call;
+    enum bcs_call call;
     uint32_t status, fault;
 } deep_modules[] = {
-    {"[", "", "", "", "]", 0, "vector<", "u8", ">", 32, REGISTRY_OF_MODULES, BCS_DONE, BCS_FAULT_NONE},
-    {"[", "", "", "", "]", 0, "vector<", "u8", ">", 33, REGISTRY_OF_MODULES, BCS_REFUSED, BCS_MOVE_TOO_LARGE},
-    {"[", "", "", "", "]", 0, "0x1::option::Option<", "u7", ">", 32, MODULES_PLACE, BCS_DONE, BCS_MOVE_BAD_TYPE},
-    {"", "[", "7", "]", "", 127, "", "u8", "", 0, REGISTRY_OF_MODULES, BCS_REFUSED, BCS_MOVE_NOT_MODULES},
-    {"", "[", "7", "]", "", 128, "", "u8", "", 0, MODULES_PLACE, BCS_DONE, BCS_MOVE_NOT_JSON},
-    {"", "{\"a\":", "{\"b\":1,\"b\":2}", "}", "", 126, "", "u8", "", 0, MODULES_PLACE, BCS_DONE, BCS_MOVE_REPEATED_MEMBER},
-    {APTOS_BEFORE, "vector<", "T0", ">", APTOS_BEHIND, 32, "0x1::m::S<", "u8", ">", 1, REGISTRY_OF_MODULES, BCS_DONE,
+    {"[", "", "", "", "]", 0, "vector<", "u8", ">", 32, BCS_REGISTRY_OF_MODULES, BCS_DONE, BCS_FAULT_NONE},
+    {"[", "", "", "", "]", 0, "vector<", "u8", ">", 33, BCS_REGISTRY_OF_MODULES, BCS_REFUSED, BCS_MOVE_TOO_LARGE},
+    {"[", "", "", "", "]", 0, "0x1::option::Option<", "u7", ">", 32, BCS_MODULES_PLACE, BCS_DONE, BCS_MOVE_BAD_TYPE},
+    {"", "[", "7", "]", "", 127, "", "u8", "", 0, BCS_REGISTRY_OF_MODULES, BCS_REFUSED, BCS_MOVE_NOT_MODULES},
+    {"", "[", "7", "]", "", 128, "", "u8", "", 0, BCS_MODULES_PLACE, BCS_DONE, BCS_MOVE_NOT_JSON},
+    {"", "{\"a\":", "{\"b\":1,\"b\":2}", "}", "", 126, "", "u8", "", 0, BCS_MODULES_PLACE, BCS_DONE, BCS_MOVE_REPEATED_MEMBER},
+    {APTOS_BEFORE, "vector<", "T0", ">", APTOS_BEHIND, 32, "0x1::m::S<", "u8", ">", 1, BCS_REGISTRY_OF_MODULES, BCS_DONE,
      BCS_FAULT_NONE},
-    {APTOS_BEFORE, "vector<", "T0", ">", APTOS_BEHIND, 1, "0x1::m::S<", "u8", ">", 32, REGISTRY_OF_MODULES, BCS_DONE,
+    {APTOS_BEFORE, "vector<", "T0", ">", APTOS_BEHIND, 1, "0x1::m::S<", "u8", ">", 32, BCS_REGISTRY_OF_MODULES, BCS_DONE,
      BCS_FAULT_NONE},
-    {SUI_BEFORE, OPTION_OF_SUI, "\"U8\"", "]}}", SUI_BEHIND, 32, "", "0x1::m::S", "", 0, REGISTRY_OF_MODULES, BCS_DONE,
+    {SUI_BEFORE, OPTION_OF_SUI, "\"U8\"", "]}}", SUI_BEHIND, 32, "", "0x1::m::S", "", 0, BCS_REGISTRY_OF_MODULES, BCS_DONE,
      BCS_FAULT_NONE},
-    {SUI_BEFORE, OPTION_OF_SUI, "{\"TypeParameter\":\"x\"}", "]}}", SUI_BEHIND, 32, "", "0x1::m::S", "", 0, REGISTRY_OF_MODULES,
+    {SUI_BEFORE, OPTION_OF_SUI, "{\"TypeParameter\":\"x\"}", "]}}", SUI_BEHIND, 32, "", "0x1::m::S", "", 0, BCS_REGISTRY_OF_MODULES,
      BCS_REFUSED, BCS_MOVE_BAD_TYPE},
-    {SUI_BEFORE, OPTION_OF_SUI, "{\"TypeParameter\":\"x\"}", "]}}", SUI_BEHIND, 32, "", "0x1::m::S", "", 0, MODULES_PLACE, BCS_DONE,
+    {SUI_BEFORE, OPTION_OF_SUI, "{\"TypeParameter\":\"x\"}", "]}}", SUI_BEHIND, 32, "", "0x1::m::S", "", 0, BCS_MODULES_PLACE, BCS_DONE,
      BCS_MOVE_BAD_TYPE},
-    {SUI_BEFORE, OPTION_OF_SUI, "[]", "]}}", SUI_BEHIND, 33, "", "0x1::m::S", "", 0, MODULES_PLACE, BCS_DONE, BCS_MOVE_TOO_LARGE},
+    {SUI_BEFORE, OPTION_OF_SUI, "[]", "]}}", SUI_BEHIND, 33, "", "0x1::m::S", "", 0, BCS_MODULES_PLACE, BCS_DONE, BCS_MOVE_TOO_LARGE},
 };
 
 static struct text nested_text(const char *open, const char *inner, const char *close, size_t nesting) {
@@ -443,19 +452,19 @@ static struct text bytes_of(size_t count) {
     return bytes;
 }
 
-static const struct job *of_need;
+static const struct question *of_need;
 
 static void *make_of_need(void *data) {
     struct trial *trial = data;
-    trial->answers[0][0][0] = make(of_need, output, ROOM);
+    trial->answers[0][0][0] = ask_whole(BY_QUESTION, of_need, (struct outputs){output, ROOM, message, ROOM});
     CHECK(are_untouched(trial->stack, RESERVE));
     return NULL;
 }
 
 /* The smallest stack on which the call is as with 8 MiB. On each smaller one it answers BCS_STACK. */
-static size_t need_of(const struct job *job, uint8_t *stack, uint32_t status, uint32_t fault) {
+static size_t need_of(const struct question *question, uint8_t *stack, uint32_t status, uint32_t fault) {
     struct trial wanted = {.stack = stack, .size = ENOUGH};
-    of_need = job;
+    of_need = question;
     on_thread(&wanted, make_of_need);
     const bcs_answer answer = wanted.answers[0][0][0];
     CHECK(answer.status == status && answer.fault == fault);
@@ -481,8 +490,8 @@ static size_t need_of_modules(uint8_t *stack) {
         add_words(&modules, deep_modules[row].behind);
         struct text types = nested_text(deep_modules[row].type_open, deep_modules[row].type_inner, deep_modules[row].type_close,
                                         deep_modules[row].type_nesting);
-        const struct job job = {.call = deep_modules[row].call, .input = slice_of_text(modules), .second = slice_of_text(types)};
-        const size_t need = need_of(&job, stack, deep_modules[row].status, deep_modules[row].fault);
+        const struct question question = {.call = deep_modules[row].call, .first = slice_of_text(modules), .second = slice_of_text(types)};
+        const size_t need = need_of(&question, stack, deep_modules[row].status, deep_modules[row].fault);
         most = need > most ? need : most;
         free(nested.at);
         free(modules.at);
@@ -493,9 +502,14 @@ static size_t need_of_modules(uint8_t *stack) {
 
 static size_t need_of_views(uint8_t *stack, size_t count) {
     struct text views = views_of(count), bytes = bytes_of(count);
-    const struct job job = {EXPLAIN_WITH,         OF("{}"), OF("\"BYTES\""), slice_of_text(bytes),
-                            slice_of_text(views), STANDARD, BCS_JSON};
-    const size_t need = need_of(&job, stack, BCS_DONE, BCS_FAULT_NONE);
+    const struct question question = {.call = BCS_EXPLAIN,
+                                      .registry = OF("{}"),
+                                      .format = OF("\"BYTES\""),
+                                      .first = slice_of_text(bytes),
+                                      .views = slice_of_text(views),
+                                      STANDARD,
+                                      .number = BCS_JSON};
+    const size_t need = need_of(&question, stack, BCS_DONE, BCS_FAULT_NONE);
     free(views.at);
     free(bytes.at);
     return need;
@@ -519,9 +533,14 @@ static size_t need_of_call(uint8_t *stack) {
         add(&bytes, "\0\1\1m\1S\1", 7);
     }
     add(&bytes, "\1\0", 2);
-    const struct job job = {EXPLAIN_WITH,         slice_of_text(registry), OF("{\"TYPENAME\":\"C\"}"), slice_of_text(bytes),
-                            slice_of_text(view), STANDARD,                BCS_JSON};
-    const size_t need = need_of(&job, stack, BCS_DONE, BCS_FAULT_NONE);
+    const struct question question = {.call = BCS_EXPLAIN,
+                                      .registry = slice_of_text(registry),
+                                      .format = OF("{\"TYPENAME\":\"C\"}"),
+                                      .first = slice_of_text(bytes),
+                                      .views = slice_of_text(view),
+                                      STANDARD,
+                                      .number = BCS_JSON};
+    const size_t need = need_of(&question, stack, BCS_DONE, BCS_FAULT_NONE);
     free(types.at);
     free(registry.at);
     free(bytes.at);
@@ -549,23 +568,28 @@ static struct slice example(const char *name) {
 static void *transfer(void *data) {
     (void)data;
     const struct slice registry = example("aptos_registry.json"), text = example("aptos_transfer.json");
-    struct job job = {TO_BCS, registry, OF("{\"TYPENAME\":\"RawTransaction\"}"), text, text, STANDARD, 0};
+    struct question question = {BCS_TO_BCS, registry, OF("{\"TYPENAME\":\"RawTransaction\"}"), text, text, STANDARD, 0};
     uint8_t bytes[1000], normal[1000];
-    const bcs_answer coded = make(&job, bytes, sizeof bytes);
+    const bcs_answer coded = ask(BY_NAME, &question, bytes, sizeof bytes);
     CHECK(coded.status == BCS_DONE);
-    job.call = FROM_BCS;
-    job.input = (struct slice){bytes, coded.length};
-    const bcs_answer shown = make(&job, normal, sizeof normal);
+    question.call = BCS_FROM_BCS;
+    question.first = (struct slice){bytes, coded.length};
+    const bcs_answer shown = ask(BY_NAME, &question, normal, sizeof normal);
     CHECK(shown.status == BCS_DONE);
     for (size_t call = 0; call < COUNT(calls); call++) {
+        if (calls[call] == BCS_EXAMPLE) {
+            continue; /* with a lowered depth there is none */
+        }
         const bool is_text = takes_text(calls[call]);
-        job.call = calls[call];
-        job.number = numbers[call];
-        job.input = is_text ? (struct slice){normal, shown.length} : (struct slice){bytes, coded.length};
-        job.second = job.call == PART || job.call == PART_NAMED ? (struct slice)OF(".") : text;
-        const bool is_asked_why = job.call == TEXT_PLACE || job.call == STOP_PLACE;
-        CHECK(make(&job, output, ROOM).status == (is_asked_why ? BCS_NO : BCS_DONE));
-        CHECK(make_by(ON_HANDLE, &job, output, ROOM).status == (is_asked_why ? BCS_NO : BCS_DONE));
+        question.call = calls[call];
+        question.number = numbers[call];
+        question.first = is_text ? (struct slice){normal, shown.length} : (struct slice){bytes, coded.length};
+        question.second = question.call == BCS_PART || question.call == BCS_PART_NAMED ? (struct slice)OF(".")
+                          : question.call == BCS_COMPARE                               ? text
+                                                                                       : (struct slice){NULL, 0};
+        const bool is_asked_why = question.call == BCS_TEXT_REFUSAL || question.call == BCS_STOP_REFUSAL;
+        CHECK(ask(BY_NAME, &question, output, ROOM).status == (is_asked_why ? BCS_NO : BCS_DONE));
+        CHECK(ask(BY_QUESTION, &question, output, ROOM).status == (is_asked_why ? BCS_NO : BCS_DONE));
     }
     free((void *)registry.at);
     free((void *)text.at);
@@ -608,7 +632,8 @@ static void try_main(struct trial *trials, struct chain chain) {
 
 int main(int count, char **arguments) {
     output = malloc(ROOM);
-    CHECK(output != NULL && count > 1);
+    message = malloc(ROOM);
+    CHECK(output != NULL && message != NULL && count > 1);
     if (strcmp(arguments[1], "main") == 0) {
         struct trial all = {.size = 0};
         with_chains(&all, try_main);
@@ -619,5 +644,6 @@ int main(int count, char **arguments) {
         on_threads();
     }
     free(output);
+    free(message);
     return 0;
 }

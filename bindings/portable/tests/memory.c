@@ -1,42 +1,42 @@
-/* Out of memory. Each request for memory of each job is refused in turn, alone and with all that come after it. The answer is
+/* Out of memory. Each request for memory of each question is refused in turn, alone and with all that come after it. The answer is
    BCS_MEMORY with the output untouched, or the one that there is with memory; and every block is freed. It is linked with
    -Wl,--wrap=malloc,--wrap=calloc,--wrap=realloc,--wrap=free, as GNU's linker has it. */
-#include "jobs.h"
+#include "questions.h"
 
 #define REGISTRY "{\"A\":{\"STRUCT\":[{\"x\":\"U8\"},{\"y\":{\"SEQ\":\"STR\"}}]}}"
 #define FORMAT "{\"TYPENAME\":\"A\"}"
 #define TEXT "{\"x\":7,\"y\":[\"one\",\"two\"]}"
 #define BYTES_OF_IT "\x07\x02\x03" "one\x03" "two"
 #define ON_VALUE(the_call, its_input) \
-    .call = the_call, .registry = OF(REGISTRY), .format = OF(FORMAT), .input = OF(its_input), STANDARD
+    .call = the_call, .registry = OF(REGISTRY), .format = OF(FORMAT), .first = OF(its_input), STANDARD
 #define ROOM 4000
 /* Bytes for which a box has to grow. */
 #define LARGE 1000000
 static uint8_t large[LARGE];
 
-static const struct job jobs[] = {
-    {ON_VALUE(CHECKS, "")},
-    {.call = GROWS, .input = OF(REGISTRY), .second = OF(REGISTRY)},
-    {ON_VALUE(TO_BCS, TEXT)},
-    {ON_VALUE(TO_BCS, "{")},
-    {ON_VALUE(FROM_BCS, BYTES_OF_IT)},
-    {ON_VALUE(FROM_BCS, BYTES_OF_IT "!")},
-    {ON_VALUE(NORMALISE, TEXT)},
-    {ON_VALUE(COMPARE, TEXT), .second = OF(TEXT)},
-    {ON_VALUE(SCAN, BYTES_OF_IT)},
-    {ON_VALUE(PART, BYTES_OF_IT), .second = OF("inner/1/1")},
-    {ON_VALUE(PART_NAMED, BYTES_OF_IT), .number = BCS_NAME, .second = OF(".y[1]")},
-    {ON_VALUE(EXPLAIN, BYTES_OF_IT), .number = BCS_JSON},
-    {ON_VALUE(TEXT_PLACE, "{}"), .number = BCS_WANTED},
-    {ON_VALUE(STOP_PLACE, BYTES_OF_IT "!"), .number = BCS_WHERE},
-    {.call = REGISTRY_PLACE, .input = OF("{"), .number = BCS_WHERE},
-    {.call = FAULT_NAME, .number = BCS_STOP_KEY_ORDER},
-    {.call = CHECKS, .registry = OF("{"), .format = OF("\"U8\""), STANDARD},
-    {.call = SCAN, .registry = OF("{}"), .format = OF("{\"SEQ\":\"U8\"}"), .input = {large, LARGE}, STANDARD},
+static const struct question questions[] = {
+    {ON_VALUE(BCS_CHECK, "")},
+    {.call = BCS_GROWS, .first = OF(REGISTRY), .second = OF(REGISTRY)},
+    {ON_VALUE(BCS_TO_BCS, TEXT)},
+    {ON_VALUE(BCS_TO_BCS, "{")},
+    {ON_VALUE(BCS_FROM_BCS, BYTES_OF_IT)},
+    {ON_VALUE(BCS_FROM_BCS, BYTES_OF_IT "!")},
+    {ON_VALUE(BCS_NORMALISE, TEXT)},
+    {ON_VALUE(BCS_COMPARE, TEXT), .second = OF(TEXT)},
+    {ON_VALUE(BCS_SCAN, BYTES_OF_IT)},
+    {ON_VALUE(BCS_PART, BYTES_OF_IT), .second = OF("inner/1/1")},
+    {ON_VALUE(BCS_PART_NAMED, BYTES_OF_IT), .number = BCS_NAME, .second = OF(".y[1]")},
+    {ON_VALUE(BCS_EXPLAIN, BYTES_OF_IT), .number = BCS_JSON},
+    {ON_VALUE(BCS_TEXT_REFUSAL, "{}")},
+    {ON_VALUE(BCS_STOP_REFUSAL, BYTES_OF_IT "!")},
+    {.call = BCS_REGISTRY_REFUSAL, .first = OF("{")},
+    {.call = BCS_FAULT_NAME, .number = BCS_STOP_KEY_ORDER},
+    {.call = BCS_CHECK, .registry = OF("{"), .format = OF("\"U8\""), STANDARD},
+    {.call = BCS_SCAN, .registry = OF("{}"), .format = OF("{\"SEQ\":\"U8\"}"), .first = {large, LARGE}, STANDARD},
 };
-#define JOBS (sizeof jobs / sizeof *jobs)
+#define QUESTIONS (sizeof questions / sizeof *questions)
 
-static unsigned long requests; /* since the job began */
+static unsigned long requests; /* since the question began */
 static unsigned long refused;  /* the number of the one that is refused, or 0 */
 static bool are_others_refused;
 static long blocks;            /* that weren't freed */
@@ -86,21 +86,21 @@ void __wrap_free(void *block) {
     __real_free(block);
 }
 
-static bcs_answer make_with(enum way way, const struct job *job, unsigned long refuse, uint8_t *out) {
+static bcs_answer ask_refusing(enum way way, const struct question *question, unsigned long refuse, uint8_t *out) {
     memset(out, UNTOUCHED, ROOM);
     requests = 0;
     refused = refuse;
-    const bcs_answer answer = make_by(way, job, out, ROOM);
+    const bcs_answer answer = ask(way, question, out, ROOM);
     CHECK(blocks == 0);
     return answer;
 }
 
 /* Refuses each request in turn, and answers how many were told as out of memory. */
-static unsigned long sweep(enum way way, const struct job *job, unsigned long count, bcs_answer whole, const uint8_t *output) {
+static unsigned long sweep(enum way way, const struct question *question, unsigned long count, bcs_answer whole, const uint8_t *output) {
     static uint8_t out[ROOM];
     unsigned long told = 0;
     for (unsigned long number = 1; number <= count; number++) {
-        const bcs_answer answer = make_with(way, job, number, out);
+        const bcs_answer answer = ask_refusing(way, question, number, out);
         if (answer.status == BCS_MEMORY) {
             CHECK(are_same(answer, (bcs_answer){.status = BCS_MEMORY}) && are_untouched(out, ROOM));
             told++;
@@ -115,17 +115,17 @@ int main(void) {
     unsigned long all = 0;
     memset(large, '0', LARGE);
     memcpy(large, "\xbd\x84\x3d", 3); /* a list of 999,997 bytes */
-    for (size_t row = 0; row < 2 * JOBS; row++) {
+    for (size_t row = 0; row < 2 * QUESTIONS; row++) {
         static uint8_t output[ROOM];
-        const struct job *const job = &jobs[row / 2];
-        const enum way way = row % 2 == 0 ? BY_TEXTS : ON_HANDLE;
-        const bcs_answer whole = make_with(way, job, 0, output);
+        const struct question *const question = &questions[row / 2];
+        const enum way way = row % 2 == 0 ? BY_NAME : BY_QUESTION;
+        const bcs_answer whole = ask_refusing(way, question, 0, output);
         const unsigned long count = requests;
         CHECK(whole.status != BCS_MEMORY && count > 0);
         are_others_refused = false;
-        all += sweep(way, job, count, whole, output);
+        all += sweep(way, question, count, whole, output);
         are_others_refused = true;
-        CHECK(sweep(way, job, count, whole, output) == count);
+        CHECK(sweep(way, question, count, whole, output) == count);
     }
     printf("memory: %lu requests refused, one by one\n", all);
     return 0;

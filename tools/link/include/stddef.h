@@ -5,3 +5,4 @@ typedef struct {
     long double fraction;
 } max_align_t;
 #define NULL ((void *)0)
+#define offsetof(type, member) __builtin_offsetof(type, member)

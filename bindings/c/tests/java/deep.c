@@ -3,8 +3,6 @@
 #include <jni.h>
 #include <stdlib.h>
 
-enum call { TO_BCS, FROM_BCS, SCAN };
-
 struct piece {
     jbyteArray array;
     jbyte *at;
@@ -31,24 +29,21 @@ JNIEXPORT jlong JNICALL Java_Deep_open(JNIEnv *env, jclass type, jbyteArray regi
     return (jlong)(intptr_t)handle;
 }
 
-static bcs_answer make(bcs_handle *handle, jint call, struct piece format, struct piece input) {
-    static _Thread_local uint8_t out[10000];
-    const uint8_t *const f = (const uint8_t *)format.at, *const in = (const uint8_t *)input.at;
-    switch ((enum call)call) {
-    case TO_BCS:
-        return bcs_handle_to_bcs(handle, f, format.length, BCS_DEPTH, BCS_NODES, in, input.length, out, sizeof out);
-    case FROM_BCS:
-        return bcs_handle_from_bcs(handle, f, format.length, BCS_DEPTH, BCS_NODES, in, input.length, out, sizeof out);
-    case SCAN:
-        return bcs_handle_scan(handle, f, format.length, BCS_DEPTH, BCS_NODES, in, input.length);
-    }
-    abort();
-}
-
 JNIEXPORT jint JNICALL Java_Deep_ask(JNIEnv *env, jclass type, jlong handle, jint call, jbyteArray format, jbyteArray input) {
     (void)type;
     const struct piece its_format = take(env, format), its_input = take(env, input);
-    const bcs_answer answer = make((bcs_handle *)(intptr_t)handle, call, its_format, its_input);
+    static _Thread_local uint8_t out[10000];
+    const bcs_question question = {
+        .size = sizeof question,
+        .call = (uint32_t)call,
+        .depth = BCS_DEPTH,
+        .nodes = BCS_NODES,
+        .format = (const uint8_t *)its_format.at,
+        .format_length = its_format.length,
+        .first = (const uint8_t *)its_input.at,
+        .first_length = its_input.length,
+    };
+    const bcs_answer answer = bcs_ask((bcs_handle *)(intptr_t)handle, &question, out, sizeof out, NULL, 0);
     give_back(env, its_format);
     give_back(env, its_input);
     return (jint)answer.status;
