@@ -22,9 +22,9 @@ typedef struct Registry
 } Registry;
 
 /* The arguments of a function. */
-typedef struct Question
+typedef struct Arguments
 {
-	struct ask	ask;
+	struct question question;
 	bool		is_capped;		/* bcs.max_nodes allows fewer nodes than the query does */
 	uint32		most_nodes;		/* what bcs.max_nodes allows this call */
 	struct piece input;
@@ -32,16 +32,16 @@ typedef struct Question
 	struct piece views;
 	uint32		form;			/* of pieces */
 	uint32		notation;		/* of the second input, if it names a part */
-} Question;
+} Arguments;
 
-/* question.c: the arguments. `inputs` is how many there are between the format and the limits. */
+/* arguments.c: the arguments. `inputs` is how many there are between the format and the limits. */
 extern void define_nodes(void);
-extern Question question_of_bytes(FunctionCallInfo fcinfo, int inputs);
-extern Question question_of_part(FunctionCallInfo fcinfo, uint32 notation);
-extern Question question_of_text(FunctionCallInfo fcinfo, int inputs);
-extern Question question_of_jsonb(FunctionCallInfo fcinfo, int inputs);
+extern Arguments arguments_of_bytes(FunctionCallInfo fcinfo, int inputs);
+extern Arguments arguments_of_part(FunctionCallInfo fcinfo, uint32 notation);
+extern Arguments arguments_of_text(FunctionCallInfo fcinfo, int inputs);
+extern Arguments arguments_of_jsonb(FunctionCallInfo fcinfo, int inputs);
 extern void check_stack(uint32 depth);
-extern void cap_nodes(Question *question, int weight);
+extern void cap_nodes(Arguments *arguments, int weight);
 extern struct piece utf8_of(struct piece text);
 extern struct piece format_of(struct piece word);
 extern struct piece argument(FunctionCallInfo fcinfo, int place);
@@ -51,8 +51,8 @@ extern StringInfoData text_of_jsonb(Jsonb *jsonb);
 
 /* functions.c: what a call writes, as a value with a zero behind it, which must be done or refused; and a UTF-8 text in the encoding
  * of the database. */
-typedef bcs_answer Writing(const Question *question, uint8_t *out, size_t room);
-extern struct varlena *written(const Question *question, Writing *call, size_t room);
+typedef bcs_answer Writing(const Arguments *arguments, uint8_t *out, size_t room);
+extern struct varlena *written(const Arguments *arguments, Writing *call, size_t room);
 extern struct varlena *server_text(struct varlena *utf8);
 
 /* registries.c: the registry of the first argument. */
@@ -69,12 +69,12 @@ extern void use_registry(Registry *registry);
 extern void bound_cache(const Registry *spared);
 extern void close_names(void);
 
-/* refusal.c: raises the error for what an answer refuses of a question, or of the text of a registry in UTF-8; or for a type that no
+/* refusal.c: raises the error for what an answer refuses of the arguments, or of the text of a registry in UTF-8; or for a type that no
  * call accepts. And the JSON that says why and where bytes stop being a value. */
-extern pg_attribute_noreturn() void refuse(const Question *question, bcs_answer answer);
+extern pg_attribute_noreturn() void refuse(const Arguments *arguments, bcs_answer answer);
 extern pg_attribute_noreturn() void refuse_registry(struct piece text, bcs_answer answer);
 extern pg_attribute_noreturn() void refuse_type(struct piece type, const char *message);
 extern pg_attribute_noreturn() void raise_memory(void);
-extern const char *json_of_stop(const Question *question, bcs_answer answer);
+extern const char *json_of_stop(const Arguments *arguments, bcs_answer answer);
 
 #endif

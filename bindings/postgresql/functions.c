@@ -34,21 +34,21 @@ ended(bcs_answer answer)
 
 /* The calls that write an answer. */
 static bcs_answer
-write_text(const Question *question, uint8_t *out, size_t room)
+write_text(const Arguments *arguments, uint8_t *out, size_t room)
 {
-	return bcs_handle_from_bcs(ASK(&question->ask), PIECE(question->input), out, room);
+	return bcs_handle_from_bcs(QUESTION(&arguments->question), PIECE(arguments->input), out, room);
 }
 
 static bcs_answer
-write_bytes(const Question *question, uint8_t *out, size_t room)
+write_bytes(const Arguments *arguments, uint8_t *out, size_t room)
 {
-	return bcs_handle_to_bcs(ASK(&question->ask), PIECE(question->input), out, room);
+	return bcs_handle_to_bcs(QUESTION(&arguments->question), PIECE(arguments->input), out, room);
 }
 
 static bcs_answer
-write_normal(const Question *question, uint8_t *out, size_t room)
+write_normal(const Arguments *arguments, uint8_t *out, size_t room)
 {
-	return bcs_handle_normalise(ASK(&question->ask), PIECE(question->input), out, room);
+	return bcs_handle_normalise(QUESTION(&arguments->question), PIECE(arguments->input), out, room);
 }
 
 /* Printing a piece takes as long as other calls take for eight nodes. */
@@ -56,24 +56,18 @@ write_normal(const Question *question, uint8_t *out, size_t room)
 
 /* Pieces that end where bcs.max_nodes stops them aren't those that the query needs. */
 static bcs_answer
-unless_capped(const Question *question, bcs_answer answer)
+unless_capped(const Arguments *arguments, bcs_answer answer)
 {
-	if (question->is_capped && is_beyond_nodes(answer.fault))
+	if (arguments->is_capped && is_beyond_nodes(answer.fault))
 		answer.status = BCS_REFUSED;
 	return answer;
 }
 
 static bcs_answer
-write_pieces(const Question *question, uint8_t *out, size_t room)
+write_pieces(const Arguments *arguments, uint8_t *out, size_t room)
 {
-	return unless_capped(question, bcs_handle_explain(ASK(&question->ask), question->form, PIECE(question->input), out, room));
-}
-
-static bcs_answer
-write_pieces_with(const Question *question, uint8_t *out, size_t room)
-{
-	return unless_capped(question, bcs_handle_explain_with(ASK(&question->ask), question->form + BCS_NOTES,
-														   PIECE(question->views), PIECE(question->input), out, room));
+	return unless_capped(arguments, bcs_handle_explain_with(QUESTION(&arguments->question), arguments->form + BCS_NOTES,
+															PIECE(arguments->views), PIECE(arguments->input), out, room));
 }
 
 /* The longest answer: a value of the server, with a zero behind it. */
@@ -81,7 +75,7 @@ write_pieces_with(const Question *question, uint8_t *out, size_t room)
 
 /* (If the room is too small, the call returns how much it needs.) */
 struct varlena *
-written(const Question *question, Writing *call, size_t room)
+written(const Arguments *arguments, Writing *call, size_t room)
 {
 	for (;;)
 	{
@@ -90,7 +84,7 @@ written(const Question *question, Writing *call, size_t room)
 
 		room = Min(room, MOST_ROOM);
 		out = palloc(VARHDRSZ + room + 1);
-		answer = ended(call(question, (uint8_t *) VARDATA(out), room));
+		answer = ended(call(arguments, (uint8_t *) VARDATA(out), room));
 		if (answer.status == BCS_DONE)
 		{
 			SET_VARSIZE(out, VARHDRSZ + answer.length);
@@ -99,7 +93,7 @@ written(const Question *question, Writing *call, size_t room)
 		}
 		pfree(out);
 		if (answer.status != BCS_SHORT)
-			refuse(question, answer);
+			refuse(arguments, answer);
 		if (answer.length > MOST_ROOM)
 			ereport(ERROR, (errcode(ERRCODE_PROGRAM_LIMIT_EXCEEDED), errmsg("bcs: the answer is longer than 1 GB")));
 		room = answer.length;
@@ -132,8 +126,8 @@ PG_FUNCTION_INFO_V1(bcs_pg_decode);
 Datum
 bcs_pg_decode(PG_FUNCTION_ARGS)
 {
-	Question	question = question_of_bytes(fcinfo, 1);
-	struct varlena *text = server_text(written(&question, write_text, 4 * question.input.length + 256));
+	Arguments	arguments = arguments_of_bytes(fcinfo, 1);
+	struct varlena *text = server_text(written(&arguments, write_text, 4 * arguments.input.length + 256));
 
 	PG_RETURN_DATUM(DirectFunctionCall1(jsonb_in, CStringGetDatum(VARDATA(text))));
 }
@@ -143,9 +137,9 @@ PG_FUNCTION_INFO_V1(bcs_pg_decode_json);
 Datum
 bcs_pg_decode_json(PG_FUNCTION_ARGS)
 {
-	Question	question = question_of_bytes(fcinfo, 1);
+	Arguments	arguments = arguments_of_bytes(fcinfo, 1);
 
-	PG_RETURN_POINTER(server_text(written(&question, write_text, 4 * question.input.length + 256)));
+	PG_RETURN_POINTER(server_text(written(&arguments, write_text, 4 * arguments.input.length + 256)));
 }
 
 PG_FUNCTION_INFO_V1(bcs_pg_encode);
@@ -153,9 +147,9 @@ PG_FUNCTION_INFO_V1(bcs_pg_encode);
 Datum
 bcs_pg_encode(PG_FUNCTION_ARGS)
 {
-	Question	question = question_of_jsonb(fcinfo, 1);
+	Arguments	arguments = arguments_of_jsonb(fcinfo, 1);
 
-	PG_RETURN_POINTER(written(&question, write_bytes, question.input.length + 64));
+	PG_RETURN_POINTER(written(&arguments, write_bytes, arguments.input.length + 64));
 }
 
 PG_FUNCTION_INFO_V1(bcs_pg_encode_json);
@@ -163,9 +157,9 @@ PG_FUNCTION_INFO_V1(bcs_pg_encode_json);
 Datum
 bcs_pg_encode_json(PG_FUNCTION_ARGS)
 {
-	Question	question = question_of_text(fcinfo, 1);
+	Arguments	arguments = arguments_of_text(fcinfo, 1);
 
-	PG_RETURN_POINTER(written(&question, write_bytes, question.input.length + 64));
+	PG_RETURN_POINTER(written(&arguments, write_bytes, arguments.input.length + 64));
 }
 
 PG_FUNCTION_INFO_V1(bcs_pg_normalise);
@@ -173,9 +167,9 @@ PG_FUNCTION_INFO_V1(bcs_pg_normalise);
 Datum
 bcs_pg_normalise(PG_FUNCTION_ARGS)
 {
-	Question	question = question_of_text(fcinfo, 1);
+	Arguments	arguments = arguments_of_text(fcinfo, 1);
 
-	PG_RETURN_POINTER(server_text(written(&question, write_normal, question.input.length + 256)));
+	PG_RETURN_POINTER(server_text(written(&arguments, write_normal, arguments.input.length + 256)));
 }
 
 PG_FUNCTION_INFO_V1(bcs_pg_equal);
@@ -183,11 +177,12 @@ PG_FUNCTION_INFO_V1(bcs_pg_equal);
 Datum
 bcs_pg_equal(PG_FUNCTION_ARGS)
 {
-	Question	question = question_of_text(fcinfo, 2);
-	bcs_answer	answer = ended(bcs_handle_compare(ASK(&question.ask), PIECE(question.input), PIECE(question.second)));
+	Arguments	arguments = arguments_of_text(fcinfo, 2);
+	bcs_answer	answer = ended(bcs_handle_compare(QUESTION(&arguments.question), PIECE(arguments.input),
+												  PIECE(arguments.second)));
 
 	if (answer.status != BCS_DONE && answer.status != BCS_NO)
-		refuse(&question, answer);
+		refuse(&arguments, answer);
 	PG_RETURN_BOOL(answer.status == BCS_DONE);
 }
 
@@ -195,12 +190,12 @@ bcs_pg_equal(PG_FUNCTION_ARGS)
  * value within the nodes of the query, so it is an error and no verdict: the setting changes no answer of an immutable
  * function. */
 static bcs_answer
-verdict(const Question *question)
+verdict(const Arguments *arguments)
 {
-	bcs_answer	answer = ended(bcs_handle_scan(ASK(&question->ask), PIECE(question->input)));
+	bcs_answer	answer = ended(bcs_handle_scan(QUESTION(&arguments->question), PIECE(arguments->input)));
 
-	if (answer.status != BCS_DONE && (!is_stop(answer) || (question->is_capped && is_beyond_nodes(answer.fault))))
-		refuse(question, answer);
+	if (answer.status != BCS_DONE && (!is_stop(answer) || (arguments->is_capped && is_beyond_nodes(answer.fault))))
+		refuse(arguments, answer);
 	return answer;
 }
 
@@ -209,11 +204,11 @@ PG_FUNCTION_INFO_V1(bcs_pg_scan);
 Datum
 bcs_pg_scan(PG_FUNCTION_ARGS)
 {
-	Question	question = question_of_bytes(fcinfo, 1);
-	bcs_answer	answer = verdict(&question);
+	Arguments	arguments = arguments_of_bytes(fcinfo, 1);
+	bcs_answer	answer = verdict(&arguments);
 
 	if (answer.status != BCS_DONE)
-		refuse(&question, answer);
+		refuse(&arguments, answer);
 	PG_RETURN_INT64(answer.length);
 }
 
@@ -222,8 +217,8 @@ PG_FUNCTION_INFO_V1(bcs_pg_is);
 Datum
 bcs_pg_is(PG_FUNCTION_ARGS)
 {
-	Question	question = question_of_bytes(fcinfo, 1);
-	bcs_answer	answer = of_whole(verdict(&question), question.input.length);
+	Arguments	arguments = arguments_of_bytes(fcinfo, 1);
+	bcs_answer	answer = of_whole(verdict(&arguments), arguments.input.length);
 
 	PG_RETURN_BOOL(answer.status == BCS_DONE);
 }
@@ -233,55 +228,56 @@ PG_FUNCTION_INFO_V1(bcs_pg_fault);
 Datum
 bcs_pg_fault(PG_FUNCTION_ARGS)
 {
-	Question	question = question_of_bytes(fcinfo, 1);
-	bcs_answer	answer = of_whole(verdict(&question), question.input.length);
+	Arguments	arguments = arguments_of_bytes(fcinfo, 1);
+	bcs_answer	answer = of_whole(verdict(&arguments), arguments.input.length);
 
 	if (answer.status == BCS_DONE)
 		PG_RETURN_NULL();
-	PG_RETURN_DATUM(DirectFunctionCall1(jsonb_in, CStringGetDatum(json_of_stop(&question, answer))));
+	PG_RETURN_DATUM(DirectFunctionCall1(jsonb_in, CStringGetDatum(json_of_stop(&arguments, answer))));
 }
 
 /* BCS_DONE or BCS_NO; any other answer is raised. */
 static bcs_answer
-done_or_no(const Question *question, bcs_answer answer)
+done_or_no(const Arguments *arguments, bcs_answer answer)
 {
 	if (answer.status != BCS_DONE && answer.status != BCS_NO)
-		refuse(question, answer);
+		refuse(arguments, answer);
 	return answer;
 }
 
 /* Where the part is to which a path leads. */
 static bcs_answer
-part_of(const Question *question)
+part_of(const Arguments *arguments)
 {
-	return done_or_no(question, ended(bcs_handle_part(ASK(&question->ask), PIECE(question->input), PIECE(question->second))));
+	return done_or_no(arguments, ended(bcs_handle_part(QUESTION(&arguments->question), PIECE(arguments->input),
+													   PIECE(arguments->second))));
 }
 
 /* Where the part is that has this name. */
 static bcs_answer
-part_named(const Question *question)
+part_named(const Arguments *arguments)
 {
-	return done_or_no(question, ended(bcs_handle_part_named(ASK(&question->ask), question->notation, PIECE(question->second),
-															PIECE(question->input))));
+	return done_or_no(arguments, ended(bcs_handle_part_named(QUESTION(&arguments->question), arguments->notation,
+															 PIECE(arguments->second), PIECE(arguments->input))));
 }
 
 /* Where the content of the byte string is that a path leads to, or that has this name. */
 static bcs_answer
-content_of(const Question *question)
+content_of(const Arguments *arguments)
 {
-	return done_or_no(question, ended(bcs_handle_content(ASK(&question->ask), question->notation, PIECE(question->second),
-														 PIECE(question->input))));
+	return done_or_no(arguments, ended(bcs_handle_content(QUESTION(&arguments->question), arguments->notation,
+														  PIECE(arguments->second), PIECE(arguments->input))));
 }
 
 static Datum
-bytes_of_part(FunctionCallInfo fcinfo, uint32 notation, bcs_answer (*find) (const Question *question))
+bytes_of_part(FunctionCallInfo fcinfo, uint32 notation, bcs_answer (*find) (const Arguments *arguments))
 {
-	Question	question = question_of_part(fcinfo, notation);
-	bcs_answer	answer = find(&question);
+	Arguments	arguments = arguments_of_part(fcinfo, notation);
+	bcs_answer	answer = find(&arguments);
 
 	if (answer.status == BCS_NO)
 		PG_RETURN_NULL();
-	PG_RETURN_POINTER(cstring_to_text_with_len((const char *) question.input.at + answer.place, answer.length));
+	PG_RETURN_POINTER(cstring_to_text_with_len((const char *) arguments.input.at + answer.place, answer.length));
 }
 
 PG_FUNCTION_INFO_V1(bcs_pg_part);
@@ -337,8 +333,8 @@ PG_FUNCTION_INFO_V1(bcs_pg_part_place);
 Datum
 bcs_pg_part_place(PG_FUNCTION_ARGS)
 {
-	Question	question = question_of_part(fcinfo, BCS_STEPS);
-	bcs_answer	answer = part_of(&question);
+	Arguments	arguments = arguments_of_part(fcinfo, BCS_STEPS);
+	bcs_answer	answer = part_of(&arguments);
 
 	if (answer.status == BCS_NO)
 		PG_RETURN_NULL();
@@ -346,15 +342,15 @@ bcs_pg_part_place(PG_FUNCTION_ARGS)
 }
 
 static Datum
-explained(FunctionCallInfo fcinfo, int inputs, Writing *call)
+explained(FunctionCallInfo fcinfo, int inputs)
 {
-	Question	question = question_of_bytes(fcinfo, inputs);
+	Arguments	arguments = arguments_of_bytes(fcinfo, inputs);
 
-	cap_nodes(&question, NODES_OF_PIECE);
-	if (!is_form(question.second, &question.form))
+	cap_nodes(&arguments, NODES_OF_PIECE);
+	if (!is_form(arguments.second, &arguments.form))
 		ereport(ERROR,
 				(errcode(ERRCODE_INVALID_PARAMETER_VALUE), errmsg("bcs: a form is ways, paths, tree or json")));
-	PG_RETURN_POINTER(server_text(written(&question, call, room_of_pieces(question.input.length))));
+	PG_RETURN_POINTER(server_text(written(&arguments, write_pieces, room_of_pieces(arguments.input.length))));
 }
 
 PG_FUNCTION_INFO_V1(bcs_pg_explain);
@@ -362,7 +358,7 @@ PG_FUNCTION_INFO_V1(bcs_pg_explain);
 Datum
 bcs_pg_explain(PG_FUNCTION_ARGS)
 {
-	return explained(fcinfo, 2, write_pieces);
+	return explained(fcinfo, 2);
 }
 
 PG_FUNCTION_INFO_V1(bcs_pg_explain_with);
@@ -370,5 +366,5 @@ PG_FUNCTION_INFO_V1(bcs_pg_explain_with);
 Datum
 bcs_pg_explain_with(PG_FUNCTION_ARGS)
 {
-	return explained(fcinfo, 3, write_pieces_with);
+	return explained(fcinfo, 3);
 }

@@ -44,20 +44,20 @@ lines_of(ArrayType *types)
 }
 
 static bcs_answer
-write_registry(const Question *question, uint8_t *out, size_t room)
+write_registry(const Arguments *arguments, uint8_t *out, size_t room)
 {
-	return bcs_registry_of_modules(PIECE(question->input), PIECE(question->second), out, room);
+	return bcs_registry_of_modules(PIECE(arguments->input), PIECE(arguments->second), out, room);
 }
 
 /* The registry's JSON, and its notes on a line of their own. */
 static struct varlena *
 made(FunctionCallInfo fcinfo)
 {
-	Question	question = {.input = utf8_of(argument(fcinfo, 0))};
+	Arguments	arguments = {.input = utf8_of(argument(fcinfo, 0))};
 
 	check_stack(0);
-	question.second = lines_of(PG_GETARG_ARRAYTYPE_P(1));
-	return written(&question, write_registry, 4096);
+	arguments.second = lines_of(PG_GETARG_ARRAYTYPE_P(1));
+	return written(&arguments, write_registry, 4096);
 }
 
 PG_FUNCTION_INFO_V1(bcs_pg_registry_of_modules);

@@ -24,56 +24,46 @@ raise_memory(void)
 	pg_unreachable();
 }
 
-/* What a call reports about a refusal, with a zero behind it; nothing if that is too long. */
-static const uint8_t *
-told(const struct refused *refused, telling *tell, bcs_answer *answer)
-{
-	uint8_t    *out = NULL;
-
-	*answer = (bcs_answer) {.status = BCS_SHORT, .length = PLACE_ROOM};
-	while (is_to_ask_again(*answer))
-	{
-		const size_t room = answer->length;
-
-		if (out != NULL)
-			pfree(out);
-		out = palloc(room + 1);
-		*answer = tell(refused, out, room);
-		CHECK_FOR_INTERRUPTS();
-	}
-	if (answer->status == BCS_MEMORY)
-		raise_memory();
-	out[answer->status == BCS_DONE ? answer->length : 0] = '\0';
-	return out;
-}
-
-/* What is known of a refusal. A place that is too long is left out. */
+/* What is known of a refusal. A report that is too long is left out. */
 static struct report
 report_of(const struct refused *refused)
 {
-	bcs_answer	answer;
-	const uint8_t *text = told(refused, tell_refusal, &answer);
+	uint8_t    *text = NULL;
+	bcs_answer	answer = {.status = BCS_SHORT, .length = PLACE_ROOM};
 
-	if (answer.status == BCS_SHORT)
-		text = told(refused, tell_message, &answer);
-	return report_in(text, answer.status == BCS_DONE ? answer.length : 0);
+	while (is_to_ask_again(answer))
+	{
+		const size_t room = answer.length;
+
+		if (text != NULL)
+			pfree(text);
+		text = palloc(room + 1);
+		answer = tell_refusal(refused, text, room);
+		CHECK_FOR_INTERRUPTS();
+	}
+	if (answer.status == BCS_MEMORY)
+		raise_memory();
+	if (answer.status != BCS_DONE)
+		answer.length = 0;
+	text[answer.length] = '\0';
+	return report_in(text, answer.length);
 }
 
-/* The refusal of a question, apart from its views. */
+/* The refusal of arguments, apart from their views. */
 static struct refused
-refused_of(const Question *question, bcs_answer answer)
+refused_of(const Arguments *arguments, bcs_answer answer)
 {
 	return (struct refused) {
-		.answer = answer, .ask = &question->ask, .input = question->input, .second = question->second,
-		.notation = question->notation, .format = question->ask.format,
+		.answer = answer, .question = &arguments->question, .input = arguments->input, .second = arguments->second,
+		.notation = arguments->notation, .format = arguments->question.format,
 	};
 }
 
 /* Why and where bytes stop being a value, in printable ASCII. */
 const char *
-json_of_stop(const Question *question, bcs_answer answer)
+json_of_stop(const Arguments *arguments, bcs_answer answer)
 {
-	const struct refused refused = refused_of(question, answer);
+	const struct refused refused = refused_of(arguments, answer);
 	const struct report report = report_of(&refused);
 	StringInfoData json;
 
@@ -114,8 +104,8 @@ place_told(const struct refused *refused, struct piece place)
 static const char *
 hint_of(const struct refused *refused, bool is_capped, uint32 most_nodes)
 {
-	const char *larger = larger_limit(refused->ask, refused->answer.fault);
-	const bool	is_setting_reached = is_beyond_nodes(refused->answer.fault) && refused->ask->nodes >= most_nodes;
+	const char *larger = larger_limit(refused->question, refused->answer.fault);
+	const bool	is_setting_reached = is_beyond_nodes(refused->answer.fault) && refused->question->nodes >= most_nodes;
 
 	if (larger == NULL)
 		return NULL;
@@ -155,9 +145,9 @@ raise_refusal(const struct refused *refused, const char *hint)
 
 /* Finds which of the views is refused, if it isn't the format of the value. */
 static void
-find_in_views(const Question *question, struct refused *refused)
+find_in_views(const Arguments *arguments, struct refused *refused)
 {
-	const uint32 status = find_view(&question->ask, question->views, refused->answer, &refused->view);
+	const uint32 status = find_view(&arguments->question, arguments->views, refused->answer, &refused->view);
 
 	CHECK_FOR_INTERRUPTS();
 	if (status == BCS_MEMORY)
@@ -167,13 +157,13 @@ find_in_views(const Question *question, struct refused *refused)
 }
 
 void
-refuse(const Question *question, bcs_answer answer)
+refuse(const Arguments *arguments, bcs_answer answer)
 {
-	struct refused refused = refused_of(question, answer);
+	struct refused refused = refused_of(arguments, answer);
 
-	if (question->views.length != 0 && (answer.status == BCS_FORMAT || answer.status == BCS_PATH))
-		find_in_views(question, &refused);
-	raise_refusal(&refused, hint_of(&refused, question->is_capped, question->most_nodes));
+	if (arguments->views.length != 0 && (answer.status == BCS_FORMAT || answer.status == BCS_PATH))
+		find_in_views(arguments, &refused);
+	raise_refusal(&refused, hint_of(&refused, arguments->is_capped, arguments->most_nodes));
 }
 
 void

@@ -6,9 +6,11 @@
 #include <stdbool.h>
 #include <string.h>
 
-/* How many registries a process or a connection keeps open, and the longest place of a refusal that is reported. */
+/* How many registries a process or a connection keeps open, the longest place of a refusal that is reported, and the longest report
+   that is read, which has the place and a message. */
 #define MOST_OPEN 16
 #define MOST_EXPLAINED ((size_t)16 << 20)
+#define MOST_REPORTED ((size_t)256 << 20)
 
 /* Bytes of a text or of a value. */
 struct piece {
@@ -17,7 +19,7 @@ struct piece {
 };
 
 /* What a call on an open registry is asked, apart from its input. The format is JSON. */
-struct ask {
+struct question {
     bcs_handle *handle;
     struct piece format;
     uint32_t depth, nodes;
@@ -25,7 +27,7 @@ struct ask {
 
 /* Each expands to several arguments of a call. */
 #define PIECE(piece) (piece).at, (piece).length
-#define ASK(ask) (ask)->handle, PIECE((ask)->format), (ask)->depth, (ask)->nodes
+#define QUESTION(question) (question)->handle, PIECE((question)->format), (question)->depth, (question)->nodes
 
 /* The JSON of a format: of the name of a container, or of JSON, which begins with { or ". Without an output it only counts. */
 static inline size_t write_format(struct piece format, char *out) {
@@ -52,11 +54,11 @@ static inline bool is_beyond_limits(uint32_t fault) {
 }
 
 /* What to allow so that the limit no longer refuses the value; null if the limit can't be larger. */
-static inline const char *larger_limit(const struct ask *ask, uint32_t fault) {
-    if (is_beyond_nodes(fault) && ask->nodes < BCS_NODES) {
+static inline const char *larger_limit(const struct question *question, uint32_t fault) {
+    if (is_beyond_nodes(fault) && question->nodes < BCS_NODES) {
         return "more nodes";
     }
-    return is_beyond_depth(fault) && ask->depth < BCS_DEPTH ? "a larger depth" : NULL;
+    return is_beyond_depth(fault) && question->depth < BCS_DEPTH ? "a larger depth" : NULL;
 }
 
 /* Whether the text of a registry isn't JSON and doesn't begin like a registry either: it may be the name of a file. (A byte order
@@ -114,9 +116,9 @@ static inline size_t room_of_pieces(size_t length) {
     return length < MOST_EXPLAINED / 256 ? 256 * length + 4096 : MOST_EXPLAINED;
 }
 
-/* Whether to ask again for the place of a refusal, with the room that it needs. */
+/* Whether to ask again for a report on a refusal, with the room that it needs. */
 static inline bool is_to_ask_again(bcs_answer answer) {
-    return answer.status == BCS_SHORT && answer.length <= MOST_EXPLAINED;
+    return answer.status == BCS_SHORT && answer.length <= MOST_REPORTED;
 }
 
 /* Whether modules are refused, or a type that is requested of them. */
@@ -141,7 +143,7 @@ struct view {
    has only one; or of modules, or of one of the types, which are the second. */
 struct refused {
     bcs_answer answer;
-    const struct ask *ask; /* null for a registry and for modules */
+    const struct question *question; /* null for a registry and for modules */
     struct piece input, second;
     uint32_t notation; /* of a path: enum bcs_notation */
     struct view view;
@@ -187,8 +189,10 @@ static inline struct view view_of_line(size_t number, struct piece line) {
 
 /* The answer to a call with these lines as its views. It has no room for pieces and no nodes, so it ends at once if it accepts the
    views. */
-static inline bcs_answer answer_to_views(const struct ask *ask, struct piece lines) {
-    return bcs_handle_explain_with(ask->handle, PIECE(ask->format), ask->depth, 0, BCS_WAYS, PIECE(lines), NULL, 0, NULL, 0);
+static inline bcs_answer answer_to_views(const struct question *question, struct piece lines) {
+    struct question without_nodes = *question;
+    without_nodes.nodes = 0;
+    return bcs_handle_explain_with(QUESTION(&without_nodes), BCS_WAYS, PIECE(lines), NULL, 0, NULL, 0);
 }
 
 static inline bool is_same_refusal(bcs_answer answer, bcs_answer refusal) {
@@ -210,16 +214,16 @@ static inline size_t length_of_half(struct piece lines) {
 
 /* Finds the line for which a call refuses its views, by halves: a line is valid or not whatever the others are. No line is found if
    the format of the value is refused. BCS_DONE or BCS_MEMORY. */
-static inline uint32_t find_view(const struct ask *ask, struct piece views, bcs_answer refusal, struct view *view) {
+static inline uint32_t find_view(const struct question *question, struct piece views, bcs_answer refusal, struct view *view) {
     struct piece lines = {views.at, 0};
     size_t half = 0, number = 1;
-    bcs_answer answer = answer_to_views(ask, lines);
+    bcs_answer answer = answer_to_views(question, lines);
     *view = (struct view){0};
     if (is_same_refusal(answer, refusal)) {
         return BCS_DONE;
     }
     for (lines = views; answer.status != BCS_MEMORY && (half = length_of_half(lines)) != 0;) {
-        answer = answer_to_views(ask, (struct piece){lines.at, half});
+        answer = answer_to_views(question, (struct piece){lines.at, half});
         lines = is_same_refusal(answer, refusal) ? (struct piece){lines.at, half}
                                                  : (struct piece){lines.at + half, lines.length - half};
     }
@@ -236,10 +240,6 @@ static inline uint32_t find_view(const struct ask *ask, struct piece views, bcs_
 /* The first room for the place of a refusal, which is often enough. */
 #define PLACE_ROOM 500
 
-/* What the library reports about a refusal: its place, a zero, and a message; or only the message. BCS_DONE, BCS_SHORT or
-   BCS_MEMORY; BCS_NO if there is nothing to report. */
-typedef bcs_answer telling(const struct refused *refused, uint8_t *out, size_t room);
-
 /* A message without a place, in the form of the library. */
 static inline bcs_answer tell_words(const char *words, uint8_t *out, size_t room) {
     const size_t length = strlen(words) + 1;
@@ -253,7 +253,7 @@ static inline bcs_answer tell_words(const char *words, uint8_t *out, size_t room
 
 static inline bcs_answer tell_format(const struct refused *refused, uint8_t *out, size_t room) {
     return refused->view.missing != NULL ? tell_words(refused->view.missing, out, room)
-                                         : bcs_handle_format_place(refused->ask->handle, PIECE(refused->format), out, room);
+                                         : bcs_handle_format_place(refused->question->handle, PIECE(refused->format), out, room);
 }
 
 static inline bcs_answer tell_path(const struct refused *refused, uint8_t *out, size_t room) {
@@ -273,10 +273,12 @@ static inline bcs_answer tell_path(const struct refused *refused, uint8_t *out, 
 /* (The pieces of a value may stop inside a byte string. The library reports only where the value itself does.) */
 static inline bcs_answer tell_stop(const struct refused *refused, uint8_t *out, size_t room) {
     const bcs_answer nothing = {.status = BCS_NO};
-    const bcs_answer told = bcs_handle_stop_refusal(ASK(refused->ask), PIECE(refused->input), out, room);
+    const bcs_answer told = bcs_handle_stop_refusal(QUESTION(refused->question), PIECE(refused->input), out, room);
     return told.status == BCS_DONE && told.place != refused->answer.place ? nothing : told;
 }
 
+/* What the library reports about a refusal: its place, a zero, and a message. BCS_DONE, BCS_SHORT or BCS_MEMORY; BCS_NO if there is
+   nothing to report. */
 static inline bcs_answer tell_refusal(const struct refused *refused, uint8_t *out, size_t room) {
     bcs_answer told;
     if (refused->answer.status == BCS_REGISTRY) {
@@ -294,24 +296,8 @@ static inline bcs_answer tell_refusal(const struct refused *refused, uint8_t *ou
     if (is_stop(refused->answer)) {
         return tell_stop(refused, out, room);
     }
-    told = bcs_handle_text_refusal(ASK(refused->ask), PIECE(refused->input), out, room);
-    return told.status == BCS_NO ? bcs_handle_text_refusal(ASK(refused->ask), PIECE(refused->second), out, room) : told;
-}
-
-static inline bcs_answer tell_message(const struct refused *refused, uint8_t *out, size_t room) {
-    const bcs_answer nothing = {.status = BCS_NO};
-    bcs_answer told;
-    if (refused->answer.status == BCS_REGISTRY) {
-        return bcs_registry_place(BCS_WANTED, PIECE(refused->input), out, room);
-    }
-    if (refused->answer.status != BCS_REFUSED || is_of_modules(refused->answer)) {
-        return nothing;
-    }
-    if (is_stop(refused->answer)) {
-        return bcs_handle_stop_place(ASK(refused->ask), BCS_WANTED, PIECE(refused->input), out, room);
-    }
-    told = bcs_handle_text_place(ASK(refused->ask), BCS_WANTED, PIECE(refused->input), out, room);
-    return told.status == BCS_NO ? bcs_handle_text_place(ASK(refused->ask), BCS_WANTED, PIECE(refused->second), out, room) : told;
+    told = bcs_handle_text_refusal(QUESTION(refused->question), PIECE(refused->input), out, room);
+    return told.status == BCS_NO ? bcs_handle_text_refusal(QUESTION(refused->question), PIECE(refused->second), out, room) : told;
 }
 
 /* A place, which may have zeros, and a message. Both have a zero behind them, and either may be empty. */
@@ -320,14 +306,15 @@ struct report {
     const char *message;
 };
 
-/* Takes apart what a call reported: the last zero ends the place. There is a zero behind the text. */
+/* Takes apart what a call reported: the last zero ends the place, which is left out if it is too long. There is a zero behind the
+   text. */
 static inline struct report report_in(const uint8_t *text, size_t length) {
     size_t message = length;
     while (message > 0 && text[message - 1] != '\0') {
         message--;
     }
-    return message > 0 ? (struct report){{text, message - 1}, (const char *)text + message}
-                       : (struct report){{text + length, 0}, (const char *)text};
+    return message > 0 && message <= MOST_EXPLAINED ? (struct report){{text, message - 1}, (const char *)text + message}
+                                                    : (struct report){{text + length, 0}, (const char *)text + message};
 }
 
 /* The character at the front of UTF-8, and how many bytes it has. */

@@ -8,33 +8,30 @@ SQLITE_EXTENSION_INIT1
 
 /* The calls that write an answer. */
 
-static bcs_answer write_text(const struct question *question, uint8_t *out, size_t room) {
-    return bcs_handle_from_bcs(ASK(&question->ask), PIECE(question->input), out, room);
+static bcs_answer write_text(const struct arguments *arguments, uint8_t *out, size_t room) {
+    return bcs_handle_from_bcs(QUESTION(&arguments->question), PIECE(arguments->input), out, room);
 }
 
-static bcs_answer write_bytes(const struct question *question, uint8_t *out, size_t room) {
-    return bcs_handle_to_bcs(ASK(&question->ask), PIECE(question->input), out, room);
+static bcs_answer write_bytes(const struct arguments *arguments, uint8_t *out, size_t room) {
+    return bcs_handle_to_bcs(QUESTION(&arguments->question), PIECE(arguments->input), out, room);
 }
 
-static bcs_answer write_normal(const struct question *question, uint8_t *out, size_t room) {
-    return bcs_handle_normalise(ASK(&question->ask), PIECE(question->input), out, room);
+static bcs_answer write_normal(const struct arguments *arguments, uint8_t *out, size_t room) {
+    return bcs_handle_normalise(QUESTION(&arguments->question), PIECE(arguments->input), out, room);
 }
 
-static bcs_answer write_pieces_with(const struct question *question, uint8_t *out, size_t room) {
-    return bcs_handle_explain_with(ASK(&question->ask), question->form + BCS_NOTES, PIECE(question->views), PIECE(question->input), out, room);
+static bcs_answer write_pieces(const struct arguments *arguments, uint8_t *out, size_t room) {
+    return bcs_handle_explain_with(QUESTION(&arguments->question), arguments->form + BCS_NOTES, PIECE(arguments->views),
+                                   PIECE(arguments->input), out, room);
 }
 
-static bcs_answer write_pieces(const struct question *question, uint8_t *out, size_t room) {
-    return bcs_handle_explain(ASK(&question->ask), question->form, PIECE(question->input), out, room);
-}
-
-uint8_t *written(const struct question *question, writing *call, size_t room, size_t most, bcs_answer *answer) {
+uint8_t *written(const struct arguments *arguments, writing *call, size_t room, size_t most, bcs_answer *answer) {
     for (room = room < most ? room : most;; room = answer->length) {
         uint8_t *out = NULL;
         *answer = (bcs_answer){.status = BCS_MEMORY};
         if (count_output(room)) {
             out = sqlite3_malloc64(room);
-            *answer = out != NULL ? call(question, out, room) : *answer;
+            *answer = out != NULL ? call(arguments, out, room) : *answer;
             forget_output(room);
         }
         if (answer->status != BCS_SHORT) {
@@ -58,17 +55,17 @@ void answer_owned(sqlite3_context *context, enum kind kind, uint8_t *out, size_t
     }
 }
 
-static void answer_written(sqlite3_context *context, struct question *question, writing *call, size_t room, enum kind kind) {
+static void answer_written(sqlite3_context *context, struct arguments *arguments, writing *call, size_t room, enum kind kind) {
     const int most = sqlite3_limit(sqlite3_context_db_handle(context), SQLITE_LIMIT_LENGTH, -1);
     bcs_answer answer;
-    uint8_t *out = written(question, call, room, (size_t)most, &answer);
+    uint8_t *out = written(arguments, call, room, (size_t)most, &answer);
     if (answer.status == BCS_DONE) {
         answer_owned(context, kind, out, answer.length);
     } else if (answer.status == BCS_SHORT) {
         sqlite3_result_error_toobig(context);
     } else {
         sqlite3_free(out);
-        refuse(context, question, answer);
+        refuse(context, arguments, answer);
     }
 }
 
@@ -78,75 +75,78 @@ static size_t room_of_text(size_t length) {
 }
 
 static void decode(sqlite3_context *context, int count, sqlite3_value **values) {
-    struct question question;
-    if (take_question_of_bytes(context, &question, 1, count, values)) {
-        answer_written(context, &question, write_text, room_of_text(question.input.length), A_JSON);
-        drop_question(&question);
+    struct arguments arguments;
+    if (take_arguments_of_bytes(context, &arguments, 1, count, values)) {
+        answer_written(context, &arguments, write_text, room_of_text(arguments.input.length), A_JSON);
+        drop_arguments(&arguments);
     }
 }
 
 static void encode(sqlite3_context *context, int count, sqlite3_value **values) {
-    struct question question;
-    if (take_question(context, &question, 1, count, values)) {
-        answer_written(context, &question, write_bytes, question.input.length + 64, A_BLOB);
-        drop_question(&question);
+    struct arguments arguments;
+    if (take_arguments(context, &arguments, 1, count, values)) {
+        answer_written(context, &arguments, write_bytes, arguments.input.length + 64, A_BLOB);
+        drop_arguments(&arguments);
     }
 }
 
 static void normalise(sqlite3_context *context, int count, sqlite3_value **values) {
-    struct question question;
-    if (take_question(context, &question, 1, count, values)) {
-        answer_written(context, &question, write_normal, question.input.length + 256, A_JSON);
-        drop_question(&question);
+    struct arguments arguments;
+    if (take_arguments(context, &arguments, 1, count, values)) {
+        answer_written(context, &arguments, write_normal, arguments.input.length + 256, A_JSON);
+        drop_arguments(&arguments);
     }
 }
 
 static void equal(sqlite3_context *context, int count, sqlite3_value **values) {
-    struct question question;
-    if (take_question(context, &question, 2, count, values)) {
-        const bcs_answer answer = bcs_handle_compare(ASK(&question.ask), PIECE(question.input), PIECE(question.second));
+    struct arguments arguments;
+    if (take_arguments(context, &arguments, 2, count, values)) {
+        const bcs_answer answer =
+            bcs_handle_compare(QUESTION(&arguments.question), PIECE(arguments.input), PIECE(arguments.second));
         if (answer.status == BCS_DONE || answer.status == BCS_NO) {
             sqlite3_result_int(context, answer.status == BCS_DONE);
         } else {
-            refuse(context, &question, answer);
+            refuse(context, &arguments, answer);
         }
-        drop_question(&question);
+        drop_arguments(&arguments);
     }
 }
 
-/* The call that finds a part, which the second input names in the notation of the question. */
-typedef bcs_answer finding(const struct question *question);
+/* The call that finds a part, which the second input names in the notation of the arguments. */
+typedef bcs_answer finding(const struct arguments *arguments);
 
-static bcs_answer find_by_path(const struct question *question) {
-    return bcs_handle_part(ASK(&question->ask), PIECE(question->input), PIECE(question->second));
+static bcs_answer find_by_path(const struct arguments *arguments) {
+    return bcs_handle_part(QUESTION(&arguments->question), PIECE(arguments->input), PIECE(arguments->second));
 }
 
-static bcs_answer find_by_name(const struct question *question) {
-    return bcs_handle_part_named(ASK(&question->ask), question->notation, PIECE(question->second), PIECE(question->input));
+static bcs_answer find_by_name(const struct arguments *arguments) {
+    return bcs_handle_part_named(QUESTION(&arguments->question), arguments->notation, PIECE(arguments->second),
+                                 PIECE(arguments->input));
 }
 
-static bcs_answer find_content(const struct question *question) {
-    return bcs_handle_content(ASK(&question->ask), question->notation, PIECE(question->second), PIECE(question->input));
+static bcs_answer find_content(const struct arguments *arguments) {
+    return bcs_handle_content(QUESTION(&arguments->question), arguments->notation, PIECE(arguments->second),
+                              PIECE(arguments->input));
 }
 
 /* Where a part is. False: there is no such part, or the refusal is reported. */
-static bool find_part(sqlite3_context *context, struct question *question, finding *find, uint32_t notation, bcs_answer *answer) {
-    question->notation = notation;
-    *answer = find(question);
+static bool find_part(sqlite3_context *context, struct arguments *arguments, finding *find, uint32_t notation, bcs_answer *answer) {
+    arguments->notation = notation;
+    *answer = find(arguments);
     if (answer->status != BCS_DONE && answer->status != BCS_NO) {
-        refuse(context, question, *answer);
+        refuse(context, arguments, *answer);
     }
     return answer->status == BCS_DONE;
 }
 
 static void answer_part(sqlite3_context *context, finding *find, uint32_t notation, int count, sqlite3_value **values) {
-    struct question question;
+    struct arguments arguments;
     bcs_answer answer;
-    if (take_question_of_bytes(context, &question, 2, count, values)) {
-        if (find_part(context, &question, find, notation, &answer)) {
-            sqlite3_result_blob64(context, question.input.at + answer.place, answer.length, SQLITE_TRANSIENT);
+    if (take_arguments_of_bytes(context, &arguments, 2, count, values)) {
+        if (find_part(context, &arguments, find, notation, &answer)) {
+            sqlite3_result_blob64(context, arguments.input.at + answer.place, answer.length, SQLITE_TRANSIENT);
         }
-        drop_question(&question);
+        drop_arguments(&arguments);
     }
 }
 
@@ -175,55 +175,55 @@ static void content_by_pointer(sqlite3_context *context, int count, sqlite3_valu
 }
 
 static void part_place(sqlite3_context *context, int count, sqlite3_value **values) {
-    struct question question;
+    struct arguments arguments;
     bcs_answer answer;
-    if (take_question_of_bytes(context, &question, 2, count, values)) {
-        if (find_part(context, &question, find_by_path, BCS_STEPS, &answer)) {
+    if (take_arguments_of_bytes(context, &arguments, 2, count, values)) {
+        if (find_part(context, &arguments, find_by_path, BCS_STEPS, &answer)) {
             sqlite3_result_int64(context, (sqlite3_int64)answer.place);
         }
-        drop_question(&question);
+        drop_arguments(&arguments);
     }
 }
 
-static void answer_explained(sqlite3_context *context, writing *call, int inputs, int count, sqlite3_value **values) {
-    struct question question;
-    if (take_question_of_bytes(context, &question, inputs, count, values)) {
-        if (is_form(question.second, &question.form)) {
-            answer_written(context, &question, call, room_of_pieces(question.input.length), A_TEXT);
+static void answer_explained(sqlite3_context *context, int inputs, int count, sqlite3_value **values) {
+    struct arguments arguments;
+    if (take_arguments_of_bytes(context, &arguments, inputs, count, values)) {
+        if (is_form(arguments.second, &arguments.form)) {
+            answer_written(context, &arguments, write_pieces, room_of_pieces(arguments.input.length), A_TEXT);
         } else {
             sqlite3_result_error(context, "bcs: a form is ways, paths, tree or json", -1);
         }
-        drop_question(&question);
+        drop_arguments(&arguments);
     }
 }
 
 static void explain(sqlite3_context *context, int count, sqlite3_value **values) {
-    answer_explained(context, write_pieces, 2, count, values);
+    answer_explained(context, 2, count, values);
 }
 
 static void explain_with(sqlite3_context *context, int count, sqlite3_value **values) {
-    answer_explained(context, write_pieces_with, 3, count, values);
+    answer_explained(context, 3, count, values);
 }
 
-static bcs_answer verdict(struct question *question) {
-    return bcs_handle_scan(ASK(&question->ask), PIECE(question->input));
+static bcs_answer verdict(struct arguments *arguments) {
+    return bcs_handle_scan(QUESTION(&arguments->question), PIECE(arguments->input));
 }
 
 static void scan(sqlite3_context *context, int count, sqlite3_value **values) {
-    struct question question;
-    if (take_question_of_bytes(context, &question, 1, count, values)) {
-        const bcs_answer answer = verdict(&question);
+    struct arguments arguments;
+    if (take_arguments_of_bytes(context, &arguments, 1, count, values)) {
+        const bcs_answer answer = verdict(&arguments);
         if (answer.status == BCS_DONE) {
             sqlite3_result_int64(context, (sqlite3_int64)answer.length);
         } else {
-            refuse(context, &question, answer);
+            refuse(context, &arguments, answer);
         }
-        drop_question(&question);
+        drop_arguments(&arguments);
     }
 }
 
-static void answer_fault(sqlite3_context *context, struct question *question, bcs_answer answer) {
-    char *json = json_of_stop(question, answer);
+static void answer_fault(sqlite3_context *context, struct arguments *arguments, bcs_answer answer) {
+    char *json = json_of_stop(arguments, answer);
     if (json == NULL) {
         sqlite3_result_error_nomem(context);
         return;
@@ -232,28 +232,28 @@ static void answer_fault(sqlite3_context *context, struct question *question, bc
 }
 
 static void fault(sqlite3_context *context, int count, sqlite3_value **values) {
-    struct question question;
-    if (take_question_of_bytes(context, &question, 1, count, values)) {
-        const bcs_answer answer = of_whole(verdict(&question), question.input.length);
+    struct arguments arguments;
+    if (take_arguments_of_bytes(context, &arguments, 1, count, values)) {
+        const bcs_answer answer = of_whole(verdict(&arguments), arguments.input.length);
         if (is_stop(answer)) {
-            answer_fault(context, &question, answer);
+            answer_fault(context, &arguments, answer);
         } else if (answer.status != BCS_DONE) {
-            refuse(context, &question, answer);
+            refuse(context, &arguments, answer);
         }
-        drop_question(&question);
+        drop_arguments(&arguments);
     }
 }
 
 static void is(sqlite3_context *context, int count, sqlite3_value **values) {
-    struct question question;
-    if (take_question_of_bytes(context, &question, 1, count, values)) {
-        const bcs_answer answer = of_whole(verdict(&question), question.input.length);
+    struct arguments arguments;
+    if (take_arguments_of_bytes(context, &arguments, 1, count, values)) {
+        const bcs_answer answer = of_whole(verdict(&arguments), arguments.input.length);
         if (answer.status == BCS_DONE || is_stop(answer)) {
             sqlite3_result_int(context, answer.status == BCS_DONE);
         } else {
-            refuse(context, &question, answer);
+            refuse(context, &arguments, answer);
         }
-        drop_question(&question);
+        drop_arguments(&arguments);
     }
 }
 

@@ -39,9 +39,9 @@ struct connection {
 };
 
 /* The arguments of a function. */
-struct question {
+struct arguments {
     sqlite3_context *context;
-    struct ask ask;
+    struct question question;
     struct registry *registry;
     sqlite3_int64 memory; /* of the call and its registry */
     char *format; /* its JSON, in memory of SQLite */
@@ -74,11 +74,11 @@ void limit_cache(struct connection *connection, sqlite3_int64 bytes);
 /* bcs_sqlite.c */
 
 /* A call that writes an answer. */
-typedef bcs_answer writing(const struct question *question, uint8_t *out, size_t room);
+typedef bcs_answer writing(const struct arguments *arguments, uint8_t *out, size_t room);
 
 /* What a call writes, in memory of SQLite, of which `most` bytes are the longest value. BCS_SHORT: it is longer. Null: there is
    no memory, or that. */
-uint8_t *written(const struct question *question, writing *call, size_t room, size_t most, bcs_answer *answer);
+uint8_t *written(const struct arguments *arguments, writing *call, size_t room, size_t most, bcs_answer *answer);
 
 enum kind { A_BLOB, A_TEXT, A_JSON };
 
@@ -89,7 +89,7 @@ void answer_owned(sqlite3_context *context, enum kind kind, uint8_t *out, size_t
 
 int create_functions_of_modules(sqlite3 *database, struct connection *connection, int flags);
 
-/* question.c */
+/* arguments.c */
 
 /* Which types an argument may have, as bits. */
 enum types { IS_BLOB = 1 << SQLITE_BLOB, IS_TEXT = 1 << SQLITE_TEXT, IS_INTEGER = 1 << SQLITE_INTEGER };
@@ -99,21 +99,21 @@ enum types { IS_BLOB = 1 << SQLITE_BLOB, IS_TEXT = 1 << SQLITE_TEXT, IS_INTEGER 
 bool take_piece(sqlite3_context *context, sqlite3_value *value, int types, const char *expected, struct piece *piece);
 bool are_some_null(int count, sqlite3_value **values);
 /* How much memory a call may take for its inputs, by whether it has limits. */
-sqlite3_int64 memory_of_call(const struct question *question, int inputs, bool has_limits);
+sqlite3_int64 memory_of_call(const struct arguments *arguments, int inputs, bool has_limits);
 
 /* Reads the arguments: a registry, a format, `inputs` inputs, and limits. If these return false, an argument is null, or an error
    is reported. Each argument has its type: nothing is converted that could be meant otherwise. */
-bool take_question(sqlite3_context *context, struct question *question, int inputs, int count, sqlite3_value **values);
-bool take_question_of_bytes(sqlite3_context *context, struct question *question, int inputs, int count,
+bool take_arguments(sqlite3_context *context, struct arguments *arguments, int inputs, int count, sqlite3_value **values);
+bool take_arguments_of_bytes(sqlite3_context *context, struct arguments *arguments, int inputs, int count,
                             sqlite3_value **values);
-void drop_question(struct question *question);
+void drop_arguments(struct arguments *arguments);
 
 /* refusal.c */
 
-/* Reports what a call refuses of a question, or of the text of a registry, with the place and what was expected there. */
-void refuse(sqlite3_context *context, const struct question *question, bcs_answer answer);
+/* Reports what a call refuses of the arguments, or of the text of a registry, with the place and what was expected there. */
+void refuse(sqlite3_context *context, const struct arguments *arguments, bcs_answer answer);
 void refuse_registry(sqlite3_context *context, struct piece text, bcs_answer answer);
 /* Why and where bytes stop being a value, as JSON in memory of SQLite; null if memory ran out. */
-char *json_of_stop(const struct question *question, bcs_answer answer);
+char *json_of_stop(const struct arguments *arguments, bcs_answer answer);
 
 #endif

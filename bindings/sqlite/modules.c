@@ -2,27 +2,27 @@
 #include "bcs_sqlite.h"
 SQLITE_EXTENSION_INIT3
 
-static bcs_answer write_registry(const struct question *question, uint8_t *out, size_t room) {
-    return bcs_registry_of_modules(PIECE(question->input), PIECE(question->second), out, room);
+static bcs_answer write_registry(const struct arguments *arguments, uint8_t *out, size_t room) {
+    return bcs_registry_of_modules(PIECE(arguments->input), PIECE(arguments->second), out, room);
 }
 
 /* The modules and the types. The call has the memory of others without limits. */
-static bool take_modules(sqlite3_context *context, struct question *question, sqlite3_value **values) {
-    *question = (struct question){.context = context};
+static bool take_modules(sqlite3_context *context, struct arguments *arguments, sqlite3_value **values) {
+    *arguments = (struct arguments){.context = context};
     if (are_some_null(2, values) ||
-        !take_piece(context, values[0], IS_TEXT | IS_BLOB, "the modules must be TEXT or BLOB", &question->input) ||
-        !take_piece(context, values[1], IS_TEXT, "the types must be TEXT", &question->second)) {
+        !take_piece(context, values[0], IS_TEXT | IS_BLOB, "the modules must be TEXT or BLOB", &arguments->input) ||
+        !take_piece(context, values[1], IS_TEXT, "the types must be TEXT", &arguments->second)) {
         return false;
     }
-    limit_memory(memory_of_call(question, 2, false));
+    limit_memory(memory_of_call(arguments, 2, false));
     return true;
 }
 
 /* The registry's JSON with its notes, in memory that is returned; null if an error is reported. */
-static uint8_t *made(sqlite3_context *context, const struct question *question, size_t *length) {
+static uint8_t *made(sqlite3_context *context, const struct arguments *arguments, size_t *length) {
     const int most = sqlite3_limit(sqlite3_context_db_handle(context), SQLITE_LIMIT_LENGTH, -1);
     bcs_answer answer;
-    uint8_t *out = written(question, write_registry, 4096, (size_t)most, &answer);
+    uint8_t *out = written(arguments, write_registry, 4096, (size_t)most, &answer);
     *length = answer.length;
     if (answer.status == BCS_DONE) {
         return out;
@@ -31,17 +31,17 @@ static uint8_t *made(sqlite3_context *context, const struct question *question, 
     if (answer.status == BCS_SHORT) {
         sqlite3_result_error_toobig(context);
     } else {
-        refuse(context, question, answer);
+        refuse(context, arguments, answer);
     }
     return NULL;
 }
 
 static void registry_of_modules(sqlite3_context *context, int count, sqlite3_value **values) {
-    struct question question;
+    struct arguments arguments;
     size_t length;
     (void)count;
-    if (take_modules(context, &question, values)) {
-        uint8_t *out = made(context, &question, &length);
+    if (take_modules(context, &arguments, values)) {
+        uint8_t *out = made(context, &arguments, &length);
         if (out != NULL) {
             answer_owned(context, A_JSON, out, length_of_line(out, length));
         }
@@ -50,11 +50,11 @@ static void registry_of_modules(sqlite3_context *context, int count, sqlite3_val
 }
 
 static void notes_of_modules(sqlite3_context *context, int count, sqlite3_value **values) {
-    struct question question;
+    struct arguments arguments;
     size_t length;
     (void)count;
-    if (take_modules(context, &question, values)) {
-        uint8_t *out = made(context, &question, &length);
+    if (take_modules(context, &arguments, values)) {
+        uint8_t *out = made(context, &arguments, &length);
         const size_t line = out != NULL ? length_of_line(out, length) : length;
         if (line < length) {
             sqlite3_result_text64(context, (const char *)out + line + 1, length - line - 1, SQLITE_TRANSIENT, SQLITE_UTF8);

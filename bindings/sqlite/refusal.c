@@ -2,36 +2,30 @@
 #include "bcs_sqlite.h"
 SQLITE_EXTENSION_INIT3
 
-/* What a call reports about a refusal, in memory of SQLite with a zero behind it, and nothing if that is too long; null if memory
-   ran out. */
-static uint8_t *told(const struct refused *refused, telling *tell, bcs_answer *answer) {
-    uint8_t *out = NULL;
-    *answer = (bcs_answer){.status = BCS_SHORT, .length = PLACE_ROOM};
-    while (is_to_ask_again(*answer)) {
-        const size_t room = answer->length;
-        sqlite3_free(out);
-        out = sqlite3_malloc64(room + 1);
-        *answer = out != NULL ? tell(refused, out, room) : (bcs_answer){.status = BCS_MEMORY};
+/* What is known of a refusal, in memory that is returned; null if memory ran out. A report that is too long is left out. */
+static uint8_t *take_report(const struct refused *refused, struct report *report) {
+    uint8_t *text = NULL;
+    bcs_answer answer = {.status = BCS_SHORT, .length = PLACE_ROOM};
+    while (is_to_ask_again(answer)) {
+        const size_t room = answer.length;
+        sqlite3_free(text);
+        text = NULL;
+        answer = (bcs_answer){.status = BCS_MEMORY};
+        if (count_output(room + 1)) {
+            text = sqlite3_malloc64(room + 1);
+            answer = text != NULL ? tell_refusal(refused, text, room) : answer;
+            forget_output(room + 1);
+        }
     }
-    if (answer->status == BCS_MEMORY) {
-        sqlite3_free(out);
+    if (answer.status == BCS_MEMORY) {
+        sqlite3_free(text);
         return NULL;
     }
-    out[answer->status == BCS_DONE ? answer->length : 0] = '\0';
-    return out;
-}
-
-/* What is known of a refusal, in memory that is returned; null if memory ran out. A place that is too long is left out. */
-static uint8_t *take_report(const struct refused *refused, struct report *report) {
-    bcs_answer answer;
-    uint8_t *text = told(refused, tell_refusal, &answer);
-    if (text != NULL && answer.status == BCS_SHORT) {
-        sqlite3_free(text);
-        text = told(refused, tell_message, &answer);
+    if (answer.status != BCS_DONE) {
+        answer.length = 0;
     }
-    if (text != NULL) {
-        *report = report_in(text, answer.status == BCS_DONE ? answer.length : 0);
-    }
+    text[answer.length] = '\0';
+    *report = report_in(text, answer.length);
     return text;
 }
 
@@ -66,7 +60,7 @@ static const char *advice_of(const struct refused *refused, const char *limit) {
 
 /* The text of a refusal with what is known of it; null if memory ran out. */
 static char *placed_message(const struct refused *refused, const char *name, const char *what) {
-    const char *const larger = larger_limit(refused->ask, refused->answer.fault);
+    const char *const larger = larger_limit(refused->question, refused->answer.fault);
     char *where, *text = NULL;
     struct report report;
     uint8_t *memory = take_report(refused, &report);
@@ -104,20 +98,20 @@ static void raise_refusal(sqlite3_context *context, const struct refused *refuse
     sqlite3_free(text);
 }
 
-/* The refusal of a question, apart from its views. */
-static struct refused refused_of(const struct question *question, bcs_answer answer) {
+/* The refusal of arguments, apart from their views. */
+static struct refused refused_of(const struct arguments *arguments, bcs_answer answer) {
     return (struct refused){.answer = answer,
-                            .ask = &question->ask,
-                            .input = question->input,
-                            .second = question->second,
-                            .notation = question->notation,
-                            .format = question->ask.format};
+                            .question = &arguments->question,
+                            .input = arguments->input,
+                            .second = arguments->second,
+                            .notation = arguments->notation,
+                            .format = arguments->question.format};
 }
 
 /* A call with views refuses one of them, or the format of the value. */
-static void refuse_views(sqlite3_context *context, const struct question *question, struct refused refused) {
+static void refuse_views(sqlite3_context *context, const struct arguments *arguments, struct refused refused) {
     char *json = NULL;
-    bool has_memory = find_view(&question->ask, question->views, refused.answer, &refused.view) == BCS_DONE;
+    bool has_memory = find_view(&arguments->question, arguments->views, refused.answer, &refused.view) == BCS_DONE;
     if (refused.view.format.at != NULL) {
         json = sqlite3_malloc64(write_format(refused.view.format, NULL));
         has_memory = json != NULL;
@@ -132,10 +126,10 @@ static void refuse_views(sqlite3_context *context, const struct question *questi
     sqlite3_free(json);
 }
 
-void refuse(sqlite3_context *context, const struct question *question, bcs_answer answer) {
-    const struct refused refused = refused_of(question, answer);
-    if (question->views.length != 0 && (answer.status == BCS_FORMAT || answer.status == BCS_PATH)) {
-        refuse_views(context, question, refused);
+void refuse(sqlite3_context *context, const struct arguments *arguments, bcs_answer answer) {
+    const struct refused refused = refused_of(arguments, answer);
+    if (arguments->views.length != 0 && (answer.status == BCS_FORMAT || answer.status == BCS_PATH)) {
+        refuse_views(context, arguments, refused);
     } else {
         raise_refusal(context, &refused);
     }
@@ -171,8 +165,8 @@ static char *json_with(bcs_answer answer, const char *where, const char *message
     return sqlite3_str_finish(json);
 }
 
-char *json_of_stop(const struct question *question, bcs_answer answer) {
-    const struct refused refused = refused_of(question, answer);
+char *json_of_stop(const struct arguments *arguments, bcs_answer answer) {
+    const struct refused refused = refused_of(arguments, answer);
     struct report report;
     uint8_t *const memory = take_report(&refused, &report);
     char *const json = memory != NULL ? json_with(answer, (const char *)report.place.at, report.message) : NULL;

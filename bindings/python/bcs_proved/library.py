@@ -11,15 +11,15 @@ import pathlib
 import platform
 import sys
 import weakref
-from typing import Any, Callable, Optional, Union
+from typing import Any, Optional, Union
 
 from .errors import BcsError, FormatError, PathError, RegistryError, StackError
 
-__all__ = ["Answer", "Handle", "Library", "Question", "Status", "library_of", "standard_library"]
+__all__ = ["Answer", "Call", "Handle", "Library", "Question", "Status", "library_of", "standard_library"]
 
 
 class Answer(ctypes.Structure):
-    """bcs_answer of bcs.h."""
+    """bcs_answer of bcs.h, with what the call wrote."""
 
     _fields_ = [
         ("status", ctypes.c_uint32),
@@ -32,6 +32,10 @@ class Answer(ctypes.Structure):
     fault: int
     place: int
     length: int
+
+    output = memoryview(b"")
+    # The location and the message of a refusal, with a NUL between them.
+    report = b""
 
 
 class Status(enum.IntEnum):
@@ -49,61 +53,161 @@ class Status(enum.IntEnum):
     NEWER = 9
     CLOSED = 10
     STACK = 11
+    NO_CALL = 12
 
+
+class Call(enum.IntEnum):
+    """enum bcs_call of bcs.h."""
+
+    CHECK = 1
+    TO_BCS = 2
+    FROM_BCS = 3
+    NORMALISE = 4
+    COMPARE = 5
+    SCAN = 6
+    PART = 7
+    PART_NAMED = 8
+    CONTENT = 9
+    EXPLAIN = 10
+    TEXT_REFUSAL = 11
+    STOP_REFUSAL = 12
+    SCHEMA = 13
+    EXAMPLE = 14
+    SHOW = 20
+    FORMAT_PLACE = 21
+    GROWS = 30
+    GROWTH_LIST = 31
+    GROWTH_PLACE = 32
+    REGISTRY_REFUSAL = 33
+    PATH_PLACE = 34
+    REGISTRY_OF_MODULES = 35
+    MODULES_PLACE = 36
+    FAULT_NAME = 37
+
+
+TOO_LITTLE_STACK = "the thread has too little stack left for this call"
+# Only where bytes stop being a value is there an offset: the faults from the first on, below the second.
+_STOPS = range(401, 501)
+# How long most reports on a refusal are, at most.
+_REPORT = 200
+_Message = ctypes.c_char * _REPORT
+# Outputs from this size on get memory only for what is written.
+_LARGE = 1 << 18
+
+
+class Question(ctypes.Structure):
+    """bcs_question of bcs.h: what a method asks of the library, in one call or several. It refers to the handle, so all
+    calls of the method have the same answer even if the registry is closed meanwhile."""
+
+    _fields_ = [
+        ("size", ctypes.c_uint32),
+        ("call", ctypes.c_uint32),
+        ("number", ctypes.c_uint32),
+        ("second_number", ctypes.c_uint32),
+        ("depth", ctypes.c_uint32),
+        ("nodes", ctypes.c_uint32),
+        ("format", ctypes.c_char_p),
+        ("format_length", ctypes.c_size_t),
+        ("first", ctypes.c_char_p),
+        ("first_length", ctypes.c_size_t),
+        ("second", ctypes.c_char_p),
+        ("second_length", ctypes.c_size_t),
+        ("views", ctypes.c_char_p),
+        ("views_length", ctypes.c_size_t),
+    ]
+
+    second_length: int
+    views_length: int
+
+    def __init__(
+        self, library: Library, handle: Optional[Handle] = None, format: bytes = b"", depth: int = 0, nodes: int = 0
+    ) -> None:
+        self.size, self.depth, self.nodes = _SIZE, depth, nodes
+        self.format, self.format_length = format, len(format)
+        # (a field with bytes keeps a reference to them, and returns them only up to a NUL)
+        self.library, self.handle, self.format_json = library, handle, format
+        self._ask, self._pointer = library.functions["bcs_ask"], None if handle is None else handle.pointer
+
+    def ask(
+        self, call: Call, first: bytes = b"", second: bytes = b"", *, number: int = 0, views: bytes = b"", room: int = 0
+    ) -> Answer:
+        """Makes a call with an output of this room, and once more if that is too short."""
+        self.call, self.number = call, number
+        self.first, self.first_length = first, len(first)
+        # (setting these takes longer than looking whether they are to be set)
+        if second or self.second_length:
+            self.second, self.second_length = second, len(second)
+        if views or self.views_length:
+            self.views, self.views_length = views, len(views)
+        return self._asked(room)
+
+    def _asked(self, room: int) -> Answer:
+        # (signals and finalizers make calls at any time, so each call has a message of its own)
+        out, message = _room_of(room) if room else None, _Message()
+        address = None if out is None else _address_of(out)
+        answer: Answer = self._ask(self._pointer, self, address, room, message, _REPORT)
+        status = answer.status
+        if status == Status.DONE:
+            if out is not None:
+                answer.output = memoryview(out)[: answer.length]
+        elif status == Status.SHORT:
+            return self._asked(answer.length)
+        elif status == Status.REFUSED:
+            is_whole = answer.length <= _REPORT
+            answer.report = message.raw[: answer.length] if is_whole else self._long_report(answer.length)
+        return answer
+
+    def _long_report(self, length: int) -> bytes:
+        message = _room_of(length)
+        answer: Answer = self._ask(self._pointer, self, None, 0, _address_of(message), length)
+        self.library.require_answered(answer)
+        return bytes(memoryview(message)[: answer.length])
+
+    def report(self, call: Call, first: bytes = b"", second: bytes = b"") -> bytes:
+        """What a call reports about a registry, a format or a path that is refused."""
+        answer = self.ask(call, first, second, room=_REPORT)
+        self.library.require_answered(answer)
+        return answer.output.tobytes()
+
+    def require(self, answer: Answer, refused: type[BcsError]) -> None:
+        """Raises the error that an answer means, unless it is DONE. `refused` is the error for the input."""
+        status = answer.status
+        if status == Status.DONE:
+            return
+        if status == Status.FORMAT:
+            answer.report = Question(self.library, self.handle, self.format_json).report(Call.FORMAT_PLACE)
+        self.library.require(answer, refused)
+
+
+_SIZE = ctypes.sizeof(Question)
+
+
+def _require_layout() -> None:
+    """Six numbers come first, and then pointers and lengths, without gaps."""
+    word = ctypes.sizeof(ctypes.c_void_p)
+    offsets = [getattr(Question, name).offset for name, _ in Question._fields_]
+    if [*offsets, _SIZE] != [*range(0, 24, 4), *range(24, 25 + 8 * word, word)]:
+        raise ImportError(f"ctypes lays bcs_question out unlike C: {offsets}, {_SIZE} bytes")
+
+
+_require_layout()
 
 # Bytes are a pointer and a length. A pointer to no bytes isn't null.
 _IN = [ctypes.c_char_p, ctypes.c_size_t]
 _OUT = [ctypes.c_void_p, ctypes.c_size_t]
-_HANDLE = [ctypes.c_void_p]
-# a handle, a format, a depth and a number of nodes
-_ASK = [*_HANDLE, *_IN, ctypes.c_uint32, ctypes.c_uint32]
-_CALLS: dict[str, list[Any]] = {
-    "bcs_grows": _IN + _IN,
-    "bcs_open": [ctypes.POINTER(ctypes.c_void_p)] + _IN,
-    "bcs_close": _HANDLE,
-    "bcs_handle_nodes_for": _HANDLE + [ctypes.c_size_t],
-    "bcs_handle_check": _ASK,
-    "bcs_handle_to_bcs": _ASK + _IN + _OUT,
-    "bcs_handle_from_bcs": _ASK + _IN + _OUT,
-    "bcs_handle_normalise": _ASK + _IN + _OUT,
-    "bcs_handle_compare": _ASK + _IN + _IN,
-    "bcs_handle_scan": _ASK + _IN,
-    "bcs_handle_part": _ASK + _IN + _IN,
-    "bcs_handle_part_named": _ASK + [ctypes.c_uint32] + _IN + _IN,
-    "bcs_handle_content": _ASK + [ctypes.c_uint32] + _IN + _IN,
-    "bcs_handle_explain": _ASK + [ctypes.c_uint32] + _IN + _OUT,
-    "bcs_handle_explain_with": _ASK + [ctypes.c_uint32] + _IN + _IN + _OUT,
-    "bcs_handle_text_refusal": _ASK + _IN + _OUT,
-    "bcs_handle_stop_refusal": _ASK + _IN + _OUT,
-    "bcs_handle_schema": _ASK + _OUT,
-    "bcs_handle_example": _ASK + [ctypes.c_uint32] + _IN + _OUT,
-    "bcs_handle_show": _HANDLE + [ctypes.c_uint32] + _IN + _OUT,
-    "bcs_handle_format_place": _HANDLE + _IN + _OUT,
-    "bcs_path_place": _IN + _OUT,
-    "bcs_growth_list": _IN + _IN + _OUT,
-    "bcs_growth_place": _IN + _IN + _OUT,
-    "bcs_registry_of_modules": _IN + _IN + _OUT,
-    "bcs_modules_place": _IN + _IN + _OUT,
-    "bcs_registry_refusal": _IN + _OUT,
-    "bcs_fault_name": [ctypes.c_uint32] + _OUT,
+# The parameters of each function, and its result.
+_FUNCTIONS: dict[str, tuple[list[Any], Any]] = {
+    "bcs_open": ([ctypes.POINTER(ctypes.c_void_p), *_IN], Answer),
+    "bcs_close": ([ctypes.c_void_p], None),
+    "bcs_ask": ([ctypes.c_void_p, ctypes.POINTER(Question), *_OUT, *_OUT], Answer),
+    "bcs_handle_nodes_for": ([ctypes.c_void_p, ctypes.c_size_t], ctypes.c_uint32),
+    "bcs_version": ([], ctypes.c_char_p),
 }
-_RESULTS: dict[str, Any] = {"bcs_close": None, "bcs_handle_nodes_for": ctypes.c_uint32}
-# Only where bytes stop being a value is there an offset: the faults from the first on, below the second.
-TOO_LITTLE_STACK = "the thread has too little stack left for this call"
-_STOPS = range(401, 501)
-# How long most reports on a refusal are, at most.
-_REPORT = 200
-# Outputs from this size on get memory only for what is written.
-_LARGE = 1 << 18
-
 _IS_WINDOWS = sys.platform == "win32"
 _LIBRARY, _BUILD = ("bcs.dll", "bindings/windows/build.sh") if _IS_WINDOWS else ("libbcs.so", "bindings/c/build.sh")
 
 # A mapping of memory that other processes don't see.
 _PRIVATE: dict[str, int] = {} if _IS_WINDOWS else {"flags": mmap.MAP_PRIVATE | mmap.MAP_ANONYMOUS}
-
-# Makes a call that reports where an input is refused.
-Report = Callable[[], "tuple[Answer, memoryview]"]
 
 
 def _of_clone(module: pathlib.Path) -> Optional[pathlib.Path]:
@@ -129,7 +233,8 @@ class Library:
                 f"bcs_proved needs {_LIBRARY}, which {_BUILD} makes, and can't load {self.path}: {fault}. "
                 "Say where it is by the variable BCS_LIBRARY, or put it into the module's folder"
             ) from fault
-        self.calls = {name: self._call(library, name, parameters) for name, parameters in _CALLS.items()}
+        self.functions = {name: self._function(library, name, *types) for name, types in _FUNCTIONS.items()}
+        self._fault_names: dict[int, str] = {}
 
     @staticmethod
     def _found() -> str:
@@ -143,48 +248,31 @@ class Library:
         # (Windows gets a whole path always, so that it doesn't look for the name in other folders)
         return str(beside) if _IS_WINDOWS else "libbcs.so.0"
 
-    @staticmethod
-    def _call(library: ctypes.CDLL, name: str, parameters: list[Any]) -> Any:
-        call = getattr(library, name)
-        call.argtypes = parameters
-        call.restype = _RESULTS.get(name, Answer)
-        return call
-
-    def ask(self, name: str, *arguments: Any) -> Answer:
-        """Makes a call without an output."""
-        answer: Answer = self.calls[name](*arguments)
-        return answer
-
-    def put(self, name: str, room: int, *arguments: Any) -> tuple[Answer, memoryview]:
-        """Makes a call with an output of this room, and once more if that is too short."""
-        answer, output = self._put_once(name, room, *arguments)
-        if answer.status == Status.SHORT:
-            answer, output = self._put_once(name, answer.length, *arguments)
-        return answer, output
-
-    def _put_once(self, name: str, room: int, *arguments: Any) -> tuple[Answer, memoryview]:
-        out = _room_of(room)
-        answer = self.ask(name, *arguments, ctypes.byref(ctypes.c_char.from_buffer(out)), room)
-        return answer, memoryview(out)[: answer.length if answer.status == Status.DONE else 0]
+    def _function(self, library: ctypes.CDLL, name: str, parameters: list[Any], result: Any) -> Any:
+        function = getattr(library, name, None)
+        if function is None:
+            raise ImportError(
+                f"bcs_proved needs another version of {_LIBRARY} than {self.path}, which has no {name}. "
+                f"{_BUILD} makes it"
+            )
+        function.argtypes, function.restype = parameters, result
+        return function
 
     def fault_name(self, fault: int) -> str:
         """The name of a fault by its number in bcs.h."""
-        answer, name = self.put("bcs_fault_name", 40, fault)
-        if answer.status != Status.DONE:
-            raise KeyError(fault)
-        return str(name, "ascii")
+        if fault not in self._fault_names:
+            answer = Question(self).ask(Call.FAULT_NAME, number=fault, room=40)
+            if answer.status != Status.DONE:
+                raise KeyError(fault)
+            self._fault_names[fault] = str(answer.output, "ascii")
+        return self._fault_names[fault]
 
-    def require(self, answer: Answer, refused: type[BcsError], report: Optional[Report] = None) -> None:
-        """Raises the error that an answer means, unless it is DONE. `refused` is the error for the input, and `report`
-        makes the call that says where it is refused."""
+    def require(self, answer: Answer, refused: type[BcsError]) -> None:
+        """Raises the error that an answer means, unless it is DONE. `refused` is the error for the input."""
         if answer.status == Status.DONE:
             return
-        _require_resources(answer)
-        reason, at, message = self.fault_name(answer.fault), "", ""
-        if report is not None:
-            reported, output = report()
-            _require_resources(reported)
-            at, message = _taken_apart(str(output, "utf-8"))
+        self.require_answered(answer)
+        at, message = _taken_apart(str(answer.report, "utf-8"))
         errors: dict[int, type[BcsError]] = {
             Status.REGISTRY: RegistryError,
             Status.NEWER: RegistryError,
@@ -192,27 +280,32 @@ class Library:
             Status.PATH: PathError,
             Status.REFUSED: refused,
         }
-        raise errors[answer.status](reason, answer.place if answer.fault in _STOPS else None, at, message)
+        place = answer.place if answer.fault in _STOPS else None
+        raise errors[answer.status](self.fault_name(answer.fault), place, at, message)
 
-    def report(self, name: str, *arguments: Any) -> Report:
-        return lambda: self.put(name, _REPORT, *arguments)
-
-
-def _require_resources(answer: Answer) -> None:
-    if answer.status == Status.MEMORY:
-        raise MemoryError
-    if answer.status == Status.STACK:
-        raise StackError("", message=TOO_LITTLE_STACK)
+    def require_answered(self, answer: Answer) -> None:
+        """Raises the error for a call that ended without an answer to its question."""
+        if answer.status == Status.MEMORY:
+            raise MemoryError
+        if answer.status == Status.STACK:
+            raise StackError("", message=TOO_LITTLE_STACK)
+        if answer.status == Status.NO_CALL:
+            version = self.functions["bcs_version"]().decode()
+            raise NotImplementedError(f"{self.path} has the version {version}, which has no such call")
 
 
 def _room_of(size: int) -> Union[bytearray, mmap.mmap]:
     """An array of ctypes would be a new type for each size, and a large bytearray would be written twice."""
     if size < _LARGE:
-        return bytearray(max(size, 1))
+        return bytearray(size)
     try:
         return mmap.mmap(-1, size, **_PRIVATE)
     except (OSError, OverflowError) as fault:
         raise MemoryError from fault
+
+
+def _address_of(room: Union[bytearray, mmap.mmap]) -> Any:
+    return ctypes.byref(ctypes.c_char.from_buffer(room))
 
 
 def _taken_apart(report: str) -> tuple[str, str]:
@@ -241,37 +334,14 @@ class Handle:
     def __init__(self, library: Library, text: bytes) -> None:
         self.library = library
         self.pointer = ctypes.c_void_p()
-        answer = library.ask("bcs_open", ctypes.byref(self.pointer), text, len(text))
-        library.require(answer, RegistryError, library.report("bcs_registry_refusal", text, len(text)))
+        answer = library.functions["bcs_open"](ctypes.byref(self.pointer), text, len(text))
+        if answer.status == Status.REGISTRY:
+            answer.report = Question(library).report(Call.REGISTRY_REFUSAL, text)
+        library.require(answer, RegistryError)
         # (calls of daemon threads may still run when Python exits)
-        weakref.finalize(self, library.calls["bcs_close"], self.pointer).atexit = False
+        weakref.finalize(self, library.functions["bcs_close"], self.pointer).atexit = False
 
     def nodes_for(self, length: int) -> int:
         """The limit on nodes for bytes of this length."""
-        nodes: int = self.library.calls["bcs_handle_nodes_for"](self.pointer, length)
+        nodes: int = self.library.functions["bcs_handle_nodes_for"](self.pointer, length)
         return nodes
-
-
-class Question:
-    """What a method asks about: an open registry, a format and limits. It refers to the handle, so all calls of the
-    method have the same answer even if the registry is closed meanwhile."""
-
-    def __init__(self, handle: Handle, format: bytes, depth: int, nodes: int) -> None:
-        self.handle = handle
-        self.format = format
-        self._arguments = (handle.pointer, format, len(format), depth, nodes)
-
-    def ask(self, name: str, *arguments: Any) -> Answer:
-        return self.handle.library.ask(name, *self._arguments, *arguments)
-
-    def put(self, name: str, room: int, *arguments: Any) -> tuple[Answer, memoryview]:
-        return self.handle.library.put(name, room, *self._arguments, *arguments)
-
-    def require(self, answer: Answer, refused: type[BcsError], call: str = "", data: bytes = b"") -> None:
-        """Raises the error that an answer means, unless it is DONE. `refused` is the error for the input `data`, and
-        `call` says where that is refused, if there is one."""
-        library = self.handle.library
-        if answer.status == Status.FORMAT:
-            place = library.report("bcs_handle_format_place", self.handle.pointer, self.format, len(self.format))
-            return library.require(answer, refused, place)
-        library.require(answer, refused, (lambda: self.put(call, _REPORT, data, len(data))) if call else None)

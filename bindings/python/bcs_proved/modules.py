@@ -8,7 +8,7 @@ from typing import NamedTuple, Union
 
 from .errors import ModulesError
 from .formats import Text, bytes_of_text
-from .library import Library, library_of
+from .library import Call, Library, Question, library_of
 from .values import name_of
 
 __all__ = ["MadeRegistry", "registry_of_modules"]
@@ -43,10 +43,10 @@ def registry_of_modules(
         '0107'
     """
     text, lines = bytes_of_text(modules), _lines_of(types)
-    called, words = library_of(library), (text, len(text), lines, len(lines))
-    answer, output = called.put("bcs_registry_of_modules", _ROOM, *words)
+    called = library_of(library)
+    answer = Question(called).ask(Call.REGISTRY_OF_MODULES, text, lines, room=_ROOM)
     try:
-        called.require(answer, ModulesError, called.report("bcs_modules_place", *words))
+        called.require(answer, ModulesError)
     except ModulesError as fault:
         # (modules begin with a brace or a bracket)
         if fault.reason == "NotJson" and isinstance(modules, str) and text.strip()[:1] not in (b"", b"{", b"["):
@@ -54,7 +54,7 @@ def registry_of_modules(
             raise ModulesError(fault.reason, fault.place, fault.at, f"{fault.message}; {hint}") from None
         raise
     # (the JSON has no line feed)
-    json, _, notes = str(output, "utf-8").partition("\n")
+    json, _, notes = str(answer.output, "utf-8").partition("\n")
     return MadeRegistry(json, notes)
 
 

@@ -14,7 +14,7 @@ from . import values
 from .errors import BytesError, ExampleError, FormatError, GrowthError, PathError, RegistryError, TextError
 from .errors import StackError, ValueTypeError
 from .formats import AnyName, Data, Format, Name, PlainName, Text, bytes_of, bytes_of_text, json_of
-from .library import TOO_LITTLE_STACK, Answer, Handle, Library, Question, Report, Status, library_of, standard_library
+from .library import TOO_LITTLE_STACK, Answer, Call, Handle, Library, Question, Status, library_of, standard_library
 from .limits import MOST_NODES, Limits
 from .names import own_forms
 from .reading import Read, Readers, value_of
@@ -159,40 +159,37 @@ class Registry:
     def growth_fault(self, newer: Registry) -> Optional[str]:
         """Why the newer registry doesn't keep everything that this one has, such as "VariantChanged", or None if it
         does."""
-        answer = self._library.ask("bcs_grows", *self._texts(newer))
+        answer = self._growth(Call.GROWS, newer)
         if answer.status == Status.REFUSED:
             return self._library.fault_name(answer.fault)
-        self._library.require(answer, RegistryError, self._refused_of(answer, newer))
+        self._library.require(answer, RegistryError)
         return None
 
     def require_growth(self, newer: Registry) -> None:
         """Raises GrowthError unless the newer registry keeps everything that this one has. The error says where it
         doesn't."""
-        answer = self._library.ask("bcs_grows", *self._texts(newer))
-        report = self._refused_of(answer, newer)
-        if answer.status == Status.REFUSED:
-            report = self._library.report("bcs_growth_place", *self._texts(newer))
-        self._library.require(answer, GrowthError, report)
+        self._library.require(self._growth(Call.GROWS, newer), GrowthError)
 
     def differences(self, newer: Registry) -> list[str]:
         """All differences from this registry to a newer one, a line for each, as `bcs grows --list` prints them."""
-        answer, text = self._library.put("bcs_growth_list", 1000, *self._texts(newer))
-        self._library.require(answer, RegistryError, self._refused_of(answer, newer))
-        return str(text, "utf-8").split("\n")[:-1]
+        answer = self._growth(Call.GROWTH_LIST, newer, 1000)
+        self._library.require(answer, RegistryError)
+        return str(answer.output, "utf-8").split("\n")[:-1]
 
-    def _texts(self, newer: Registry) -> tuple[Any, ...]:
-        return self._text, len(self._text), newer._text, len(newer._text)
-
-    def _refused_of(self, answer: Answer, newer: Registry) -> Report:
-        text = newer._text if answer.status == Status.NEWER else self._text
-        return self._library.report("bcs_registry_refusal", text, len(text))
+    def _growth(self, call: Call, newer: Registry, room: int = 0) -> Answer:
+        question = Question(self._library)
+        answer = question.ask(call, self._text, newer._text, room=room)
+        if answer.status in (Status.REGISTRY, Status.NEWER):
+            text = newer._text if answer.status == Status.NEWER else self._text
+            answer.report = question.report(Call.REGISTRY_REFUSAL, text)
+        return answer
 
     def schema(self, format: Format, limits: Optional[Limits] = None) -> dict[str, Any]:
         """A JSON Schema of the JSON of the format's values."""
         question = self._question(format, limits)
-        answer, text = question.put("bcs_handle_schema", 4000)
+        answer = question.ask(Call.SCHEMA, room=4000)
         question.require(answer, FormatError)
-        schema: dict[str, Any] = json.loads(bytes(text))
+        schema: dict[str, Any] = json.loads(bytes(answer.output))
         return schema
 
     def example(
@@ -217,22 +214,19 @@ class Registry:
         return str(self._example(self._question(format, limits), variant, full), "utf-8")
 
     def _example(self, question: Question, variant: str, full: bool) -> memoryview:
-        name = bytes_of_text(variant)
-        answer, text = question.put("bcs_handle_example", 1000, int(full), name, len(name))
+        answer = question.ask(Call.EXAMPLE, second=bytes_of_text(variant), number=int(full), room=1000)
         question.require(answer, ExampleError)
-        return text
+        return answer.output
 
     def show(self, name: str = "", *, as_json: bool = False) -> str:
         """The registry in readable form, as `bcs show` prints it; or only the container of this name with what it
         depends on. With `as_json` it is compact JSON. Raises FormatError if no container has the name."""
-        data, handle = bytes_of_text(name), self._open_handle()
-        answer, text = self._library.put(
-            "bcs_handle_show", 4000, handle.pointer, Form.JSON if as_json else 0, data, len(data)
-        )
+        data, question = bytes_of_text(name), Question(self._library, self._open_handle())
+        answer = question.ask(Call.SHOW, second=data, number=Form.JSON if as_json else 0, room=4000)
         if answer.status == Status.FORMAT:
             raise FormatError(self._library.fault_name(answer.fault), message=f"no container is called {name}")
-        self._library.require(answer, FormatError)
-        return str(text, "utf-8")
+        question.require(answer, FormatError)
+        return str(answer.output, "utf-8")
 
     @overload
     def encode(self, format: PlainName[_Value], value: _Value, limits: Optional[Limits] = None) -> bytes:
@@ -251,11 +245,11 @@ class Registry:
         isn't a value of the format, and ValueTypeError, which is one of these, if a part of it has a type that the
         format doesn't accept there."""
         question = self._question(format, limits)
-        return self._put_text(question, "bcs_handle_to_bcs", self._json_of(question, value, limits)).tobytes()
+        return self._put_text(question, Call.TO_BCS, self._json_of(question, value, limits)).tobytes()
 
     def encode_json(self, format: Format, text: Text, limits: Optional[Limits] = None) -> bytes:
         """The bytes of the value that a JSON document represents. Raises TextError if it represents none."""
-        return self._put_text(self._question(format, limits), "bcs_handle_to_bcs", bytes_of_text(text)).tobytes()
+        return self._put_text(self._question(format, limits), Call.TO_BCS, bytes_of_text(text)).tobytes()
 
     @overload
     def decode(
@@ -335,22 +329,22 @@ class Registry:
         return str(self._decoded(question, data[:length]), "utf-8"), length
 
     def _decoded(self, question: Question, data: bytes) -> memoryview:
-        answer, text = question.put("bcs_handle_from_bcs", 4 * len(data) + 100, data, len(data))
-        question.require(answer, BytesError, "bcs_handle_stop_refusal", data)
-        return text
+        answer = question.ask(Call.FROM_BCS, data, room=4 * len(data) + 100)
+        question.require(answer, BytesError)
+        return answer.output
 
     def normalise(
         self, format: Format, value: Any, limits: Optional[Limits] = None, *, plain_options: bool = False
     ) -> Any:
         """The value as `decode` returns it. Raises TextError if it isn't a value of the format."""
         question = self._question(format, limits)
-        text = self._put_text(question, "bcs_handle_normalise", self._json_of(question, value, limits))
+        text = self._put_text(question, Call.NORMALISE, self._json_of(question, value, limits))
         return self._read(question, text, plain_options)
 
     def normalise_json(self, format: Format, text: Text, limits: Optional[Limits] = None) -> str:
         """The one normal JSON document of the value that a JSON document represents. Raises TextError if it represents
         none."""
-        return str(self._put_text(self._question(format, limits), "bcs_handle_normalise", bytes_of_text(text)), "utf-8")
+        return str(self._put_text(self._question(format, limits), Call.NORMALISE, bytes_of_text(text)), "utf-8")
 
     def equal(self, format: Format, first: Any, second: Any, limits: Optional[Limits] = None) -> bool:
         """Whether two values are equal, maps being finite maps. Raises TextError if one isn't a value of the format."""
@@ -362,13 +356,9 @@ class Registry:
         return self._equal(self._question(format, limits), bytes_of_text(first), bytes_of_text(second))
 
     def _equal(self, question: Question, first: bytes, second: bytes) -> bool:
-        answer = question.ask("bcs_handle_compare", first, len(first), second, len(second))
+        answer = question.ask(Call.COMPARE, first, second)
         if answer.status == Status.NO:
             return False
-        if answer.status == Status.REFUSED:
-            # (the call doesn't say which of the two it refuses)
-            for text in (first, second):
-                self._put_text(question, "bcs_handle_normalise", text)
         question.require(answer, TextError)
         return True
 
@@ -378,8 +368,8 @@ class Registry:
         return self._scanned(self._question(format, limits, data), data)
 
     def _scanned(self, question: Question, data: bytes) -> int:
-        answer = question.ask("bcs_handle_scan", data, len(data))
-        question.require(answer, BytesError, "bcs_handle_stop_refusal", data)
+        answer = question.ask(Call.SCAN, data)
+        question.require(answer, BytesError)
         return answer.length
 
     def part(self, format: Format, data: Data, path: str, limits: Optional[Limits] = None) -> Optional[Part]:
@@ -387,7 +377,7 @@ class Registry:
         the whole, or steps such as "2/inner/key:0161/0". Raises BytesError, or PathError if the path is invalid."""
         data, steps = bytes_of(data), bytes_of_text(path)
         question = self._question(format, limits, data)
-        answer = question.ask("bcs_handle_part", data, len(data), steps, len(steps))
+        answer = question.ask(Call.PART, data, steps)
         self._require_name(answer, _STEPS, steps)
         return self._part(question, answer, data)
 
@@ -406,7 +396,7 @@ class Registry:
     ) -> Optional[Part]:
         data, text = bytes_of(data), bytes_of_text(name)
         question = self._question(format, limits, data)
-        answer = question.ask("bcs_handle_part_named", notation, text, len(text), data, len(data))
+        answer = question.ask(Call.PART_NAMED, data, text, number=notation)
         self._require_name(answer, notation, text)
         return self._part(question, answer, data)
 
@@ -430,7 +420,7 @@ class Registry:
     ) -> Optional[Part]:
         data, text = bytes_of(data), bytes_of_text(name)
         question = self._question(format, limits, data)
-        answer = question.ask("bcs_handle_content", notation, text, len(text), data, len(data))
+        answer = question.ask(Call.CONTENT, data, text, number=notation)
         self._require_name(answer, notation, text)
         if answer.status == Status.REFUSED and self._library.fault_name(answer.fault) == "NoContent":
             raise PathError("NoContent", None, name, "only a BYTES, a STR, and a list or an array of U8 have a content")
@@ -439,14 +429,15 @@ class Registry:
     def _require_name(self, answer: Answer, notation: int, text: bytes) -> None:
         """Raises PathError if the name of a part is invalid."""
         if answer.status == Status.PATH and notation == _STEPS:
-            self._library.require(answer, BytesError, self._library.report("bcs_path_place", text, len(text)))
+            answer.report = Question(self._library).report(Call.PATH_PLACE, second=text)
+            self._library.require(answer, BytesError)
         if answer.status == Status.PATH:
             raise PathError("BadPath", message=f"expected {_NOTATIONS[notation]}")
 
     def _part(self, question: Question, answer: Answer, data: bytes) -> Optional[Part]:
         if answer.status == Status.NO:
             return None
-        question.require(answer, BytesError, "bcs_handle_stop_refusal", data)
+        question.require(answer, BytesError)
         return Part(answer.place, data[answer.place : answer.place + answer.length])
 
     def explain(
@@ -503,18 +494,17 @@ class Registry:
         data, lines = bytes_of(data), lines_of(views)
         question = self._question(format, limits, data)
         room = min(100 * len(data) + 1000, 1000000)
-        words = (form + _WITH_NOTES, lines, len(lines), data, len(data))
-        answer, text = question.put("bcs_handle_explain_with", room, *words)
+        answer = question.ask(Call.EXPLAIN, data, number=form + _WITH_NOTES, views=lines, room=room)
         if answer.status in (Status.PATH, Status.FORMAT):
             self._check(question)
             for view in views:
                 self._require_view(question, view)
         question.require(answer, BytesError)
-        return str(text, "utf-8")
+        return str(answer.output, "utf-8")
 
     def _require_view(self, question: Question, view: View) -> None:
         """Raises the error for a view that is refused."""
-        answer, _ = question.put("bcs_handle_explain_with", 1000, 0, view.line, len(view.line), b"", 0)
+        answer = question.ask(Call.EXPLAIN, views=view.line, room=1000)
         if answer.status == Status.PATH:
             raise PathError("BadPath", None, view.name, f"{view.word}: {EXPECTED_NAME}")
         if answer.status != Status.FORMAT:
@@ -522,7 +512,7 @@ class Registry:
         reason, at, message = self._library.fault_name(answer.fault), "", MISSING[view.word]
         if view.format is not None:
             try:
-                self._check(Question(question.handle, view.format, 0, 0))
+                self._check(Question(self._library, question.handle, view.format))
             except FormatError as fault:
                 at, message = fault.at, fault.message
         raise FormatError(reason, None, at, f"{view.word} {view.name}: {message}")
@@ -533,7 +523,7 @@ class Registry:
         with text:
             document = str(text, "utf-8")
         try:
-            return value_of(self._reader_of(question.format, plain_options), document)
+            return value_of(self._reader_of(question.format_json, plain_options), document)
         except RecursionError:
             raise StackError("", message=TOO_LITTLE_STACK) from None
 
@@ -549,13 +539,13 @@ class Registry:
 
     def _json_of(self, question: Question, value: Any, limits: Optional[Limits]) -> bytes:
         """The JSON of a value. The library's answer about the format comes before what is wrong with the value."""
-        known = self._known_formats.get(question.format)
+        known = self._known_formats.get(question.format_json)
         if known is None:
             self._check(question)
             if len(self._known_formats) >= _MOST_FORMATS:
                 self._known_formats.clear()
-            known = self._formats.format(json.loads(question.format.decode()))
-            self._known_formats[question.format] = known
+            known = self._formats.format(json.loads(question.format_json.decode()))
+            self._known_formats[question.format_json] = known
         try:
             return values.json_of(known, value, None if limits is None else limits.nodes)
         except values.Rejected as fault:
@@ -569,7 +559,7 @@ class Registry:
         nodes = None if limits is None else limits.nodes
         if nodes is None:
             nodes = MOST_NODES if read is None else handle.nodes_for(len(read))
-        return Question(handle, json_of(format), depth, nodes)
+        return Question(self._library, handle, json_of(format), depth, nodes)
 
     def _open_handle(self) -> Handle:
         handle = self._handle
@@ -578,9 +568,9 @@ class Registry:
         return handle
 
     def _check(self, question: Question) -> None:
-        question.require(question.ask("bcs_handle_check"), FormatError)
+        question.require(question.ask(Call.CHECK), FormatError)
 
-    def _put_text(self, question: Question, call: str, text: bytes) -> memoryview:
-        answer, output = question.put(call, 2 * len(text) + 100, text, len(text))
-        question.require(answer, TextError, "bcs_handle_text_refusal", text)
-        return output
+    def _put_text(self, question: Question, call: Call, text: bytes) -> memoryview:
+        answer = question.ask(call, text, room=2 * len(text) + 100)
+        question.require(answer, TextError)
+        return answer.output

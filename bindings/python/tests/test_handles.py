@@ -11,7 +11,7 @@ import unittest.mock
 from typing import Any, Callable
 
 from bcs_proved import BcsError, FormatError, Library, Registry, RegistryError, ValueTypeError
-from bcs_proved.library import Answer
+from bcs_proved.library import Answer, Call, Question
 
 HERE = pathlib.Path(__file__).resolve().parent
 NUMBER = '"U8"'
@@ -68,7 +68,7 @@ class CountingLibrary(Library):
     def __init__(self) -> None:
         super().__init__(os.environ["BCS_LIBRARY"])
         self.opened = self.closed = 0
-        open_one, close_one = self.calls["bcs_open"], self.calls["bcs_close"]
+        open_one, close_one = self.functions["bcs_open"], self.functions["bcs_close"]
 
         def counted_open(*words: Any) -> Any:
             answer = open_one(*words)
@@ -79,7 +79,7 @@ class CountingLibrary(Library):
             self.closed += 1
             close_one(*words)
 
-        self.calls["bcs_open"], self.calls["bcs_close"] = counted_open, counted_close
+        self.functions["bcs_open"], self.functions["bcs_close"] = counted_open, counted_close
 
     @property
     def counts(self) -> tuple[int, int]:
@@ -103,9 +103,9 @@ class Outputs(unittest.TestCase):
                 return b""
 
         library = CountingLibrary()
-        library.ask = lambda *_: Answer(status=0, length=2**32 + 3)  # type: ignore[assignment]
+        library.functions["bcs_ask"] = lambda *_: Answer(status=0, length=2**32 + 3)
         with unittest.mock.patch("bcs_proved.library.memoryview", Copied, create=True):
-            library.put("bcs_fault_name", 40, 1)
+            Question(library).ask(Call.FAULT_NAME, number=1, room=40)
         self.assertEqual(asked, [2**32 + 3])
 
 
@@ -125,13 +125,13 @@ class Handles(unittest.TestCase):
     def test_calls_at_once_share_one(self) -> None:
         registry = Registry("{}", self.library)
         all_are_there = threading.Barrier(8)
-        scan = self.library.calls["bcs_handle_scan"]
+        ask = self.library.functions["bcs_ask"]
 
-        def scan_together(*words: Any) -> Any:
+        def ask_together(*words: Any) -> Any:
             all_are_there.wait(60)
-            return scan(*words)
+            return ask(*words)
 
-        self.library.calls["bcs_handle_scan"] = scan_together
+        self.library.functions["bcs_ask"] = ask_together
         for _ in range(2):
             threads = [threading.Thread(target=registry.scan, args=(NUMBER, b"\x07")) for _ in range(8)]
             for thread in threads:
@@ -184,14 +184,14 @@ class Handles(unittest.TestCase):
 
     def test_closing_while_a_call_runs(self) -> None:
         registry = Registry("{}", self.library)
-        scan = self.library.calls["bcs_handle_scan"]
+        ask = self.library.functions["bcs_ask"]
 
-        def close_and_scan(*words: Any) -> Any:
+        def close_and_ask(*words: Any) -> Any:
             registry.close()
             self.assertEqual(self.library.counts, (1, 0))
-            return scan(*words)
+            return ask(*words)
 
-        self.library.calls["bcs_handle_scan"] = close_and_scan
+        self.library.functions["bcs_ask"] = close_and_ask
         self.assertEqual(registry.scan(NUMBER, b"\x07"), 1)
         self.assertEqual(self.library.counts, (1, 1))
 
@@ -201,15 +201,15 @@ class Handles(unittest.TestCase):
         for number, call in enumerate(CALLS):
             library = CountingLibrary()
             registry = Registry("{}", library)
-            ask = library.ask
+            ask = library.functions["bcs_ask"]
 
-            def closing(name: str, *words: Any, registry: Registry = registry, ask: Any = ask) -> Any:
+            def closing(*words: Any, registry: Registry = registry, ask: Any = ask) -> Any:
                 registry.close()
-                answer = ask(name, *words)
+                answer = ask(*words)
                 registry.close()
                 return answer
 
-            library.ask = closing  # type: ignore[assignment]
+            library.functions["bcs_ask"] = closing
             with self.subTest(call=number):
                 self.assertEqual(told(call, registry), told(call, Registry("{}")))
                 self.assertIsNone(registry._handle)
@@ -228,15 +228,15 @@ class Handles(unittest.TestCase):
         """The last of eight calls frees the handle, and later ones raise."""
         registry = Registry("{}", self.library)
         all_are_there, may_go = threading.Barrier(9), threading.Event()
-        scan = self.library.calls["bcs_handle_scan"]
+        ask = self.library.functions["bcs_ask"]
         scanned: list[int] = []
 
-        def scan_late(*words: Any) -> Any:
+        def ask_late(*words: Any) -> Any:
             all_are_there.wait(60)
             may_go.wait(60)
-            return scan(*words)
+            return ask(*words)
 
-        self.library.calls["bcs_handle_scan"] = scan_late
+        self.library.functions["bcs_ask"] = ask_late
         threads = [threading.Thread(target=lambda: scanned.append(registry.scan(NUMBER, b"\x07"))) for _ in range(8)]
         for thread in threads:
             thread.start()

@@ -79,6 +79,13 @@ class Places(unittest.TestCase):
         self.assertIn("/nowhere/libbcs.so", told.stderr)
         self.assertIn("bindings/c/build.sh", told.stderr)
 
+    def test_an_older_version(self) -> None:
+        """It lacks a function, as any other library does."""
+        told = run(self.folder, ", library='libc.so.6'")
+        self.assertNotEqual(told.returncode, 0)
+        self.assertIn("ImportError: bcs_proved needs another version of libbcs.so than libc.so.6", told.stderr)
+        self.assertNotIn("AttributeError", told.stderr)
+
 
 if __name__ == "__main__":
     unittest.main()

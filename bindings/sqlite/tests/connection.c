@@ -254,12 +254,13 @@ static void hostile(void) {
     is_error(database, "select bcs_is('','\"U8\"',x'07')", "bcs: refused: NotJson in the registry: line 1, column 1: the document is empty");
     is_error(database, "select bcs_is('{}','examples/registry.json',x'07')",
              "bcs: refused: UnknownName in the format: no container is called examples/registry.json");
-    /* What takes more than 16 MB is left out. */
+    /* A place that takes more than 16 MB is left out. */
     is_error(database, OF_NAME("printf('%.*c',17000000,'b')"),
              "bcs: refused: BadShape: found true, expected an integer from 0 to 255 (U8)");
     is_error(database, "select bcs_scan('{\"A\":{\"STRUCT\":[{\"' || printf('%.*c',17000000,'b') || '\":\"U8\"}]}}','A',x'')",
              "bcs: refused: EndOfInput at byte 0: expected U8, found the end of the input");
-    is_error(database, "select bcs_part('{}','\"U8\"',x'07',printf('%.*c',17000000,'b'))", "bcs: refused: BadPath in the path");
+    is_error(database, "select bcs_part('{}','\"U8\"',x'07',printf('%.*c',17000000,'b'))",
+             "bcs: refused: BadPath in the path: expected a number, inner, or key: and hexadecimal digits");
     /* A format, a path and views with control characters, with characters beyond ASCII, that are too long, or that aren't Unicode. */
     is_error(database, "select bcs_is('{}',char(233,10,128512),x'07')",
              "bcs: refused: UnknownName in the format: no container is called \\u00e9\\u000a\\ud83d\\ude00");

@@ -59,73 +59,73 @@ static bool take_limit(int count, sqlite3_value **values, int place, uint32_t mo
     return true;
 }
 
-static bool take_limits(sqlite3_context *context, struct ask *ask, int place, int count, sqlite3_value **values) {
-    ask->nodes = STANDARD_NODES;
-    ask->depth = STANDARD_DEPTH;
-    return (take_limit(count, values, place, BCS_NODES, &ask->nodes) &&
-            take_limit(count, values, place + 1, BCS_DEPTH, &ask->depth)) ||
+static bool take_limits(sqlite3_context *context, struct question *question, int place, int count, sqlite3_value **values) {
+    question->nodes = STANDARD_NODES;
+    question->depth = STANDARD_DEPTH;
+    return (take_limit(count, values, place, BCS_NODES, &question->nodes) &&
+            take_limit(count, values, place + 1, BCS_DEPTH, &question->depth)) ||
            refuse_argument(context, "bcs: nodes are from 0 to 4294967295, and a depth is from 0 to 500");
 }
 
 /* The registry comes last, since nothing here may close it again. */
-static bool take_ask(sqlite3_context *context, struct question *question, sqlite3_value **values) {
+static bool take_question(sqlite3_context *context, struct arguments *arguments, sqlite3_value **values) {
     struct piece registry, format;
     if (!take_piece(context, values[0], IS_TEXT | IS_BLOB, "the registry must be TEXT or BLOB", &registry) ||
         !take_piece(context, values[1], IS_TEXT, "the format must be TEXT", &format)) {
         return false;
     }
-    question->format = sqlite3_malloc64(write_format(format, NULL));
-    if (question->format == NULL) {
+    arguments->format = sqlite3_malloc64(write_format(format, NULL));
+    if (arguments->format == NULL) {
         return refuse_argument(context, NULL);
     }
-    question->ask.format = (struct piece){(const uint8_t *)question->format, write_format(format, question->format)};
-    question->registry = take_registry(context, registry, question->memory);
-    if (question->registry == NULL) {
-        sqlite3_free(question->format);
+    arguments->question.format = (struct piece){(const uint8_t *)arguments->format, write_format(format, arguments->format)};
+    arguments->registry = take_registry(context, registry, arguments->memory);
+    if (arguments->registry == NULL) {
+        sqlite3_free(arguments->format);
         return false;
     }
-    question->ask.handle = question->registry->handle;
+    arguments->question.handle = arguments->registry->handle;
     return true;
 }
 
-sqlite3_int64 memory_of_call(const struct question *question, int inputs, bool has_limits) {
-    const size_t length = question->input.length + (inputs >= 2 ? question->second.length : 0) + question->views.length;
+sqlite3_int64 memory_of_call(const struct arguments *arguments, int inputs, bool has_limits) {
+    const size_t length = arguments->input.length + (inputs >= 2 ? arguments->second.length : 0) + arguments->views.length;
     return has_limits ? NO_LIMIT : STANDARD_MEMORY + MEMORY_OF_BYTE * (sqlite3_int64)length;
 }
 
 /* `types` are those of the first input. A second one is a text, which with bytes is a path or a form. A third one is views. */
-static bool take_inputs(sqlite3_context *context, struct question *question, int inputs, int types, const char *expected,
+static bool take_inputs(sqlite3_context *context, struct arguments *arguments, int inputs, int types, const char *expected,
                         int count, sqlite3_value **values) {
-    *question = (struct question){.context = context};
-    if (are_some_null(count, values) || !take_limits(context, &question->ask, 2 + inputs, count, values) ||
-        !take_piece(context, values[2], types, expected, &question->input)) {
+    *arguments = (struct arguments){.context = context};
+    if (are_some_null(count, values) || !take_limits(context, &arguments->question, 2 + inputs, count, values) ||
+        !take_piece(context, values[2], types, expected, &arguments->input)) {
         return false;
     }
-    question->second = question->input;
+    arguments->second = arguments->input;
     if (inputs >= 2 && types == IS_BLOB) {
         types = IS_TEXT;
         expected = "the path or the form must be TEXT";
     }
-    if (inputs >= 2 && !take_piece(context, values[3], types, expected, &question->second)) {
+    if (inputs >= 2 && !take_piece(context, values[3], types, expected, &arguments->second)) {
         return false;
     }
-    if (inputs == 3 && !take_piece(context, values[4], IS_TEXT, "the views must be TEXT", &question->views)) {
+    if (inputs == 3 && !take_piece(context, values[4], IS_TEXT, "the views must be TEXT", &arguments->views)) {
         return false;
     }
-    question->memory = memory_of_call(question, inputs, count > 2 + inputs);
-    return take_ask(context, question, values);
+    arguments->memory = memory_of_call(arguments, inputs, count > 2 + inputs);
+    return take_question(context, arguments, values);
 }
 
-bool take_question(sqlite3_context *context, struct question *question, int inputs, int count, sqlite3_value **values) {
-    return take_inputs(context, question, inputs, IS_TEXT | IS_INTEGER, "the value must be TEXT or INTEGER", count, values);
+bool take_arguments(sqlite3_context *context, struct arguments *arguments, int inputs, int count, sqlite3_value **values) {
+    return take_inputs(context, arguments, inputs, IS_TEXT | IS_INTEGER, "the value must be TEXT or INTEGER", count, values);
 }
 
-bool take_question_of_bytes(sqlite3_context *context, struct question *question, int inputs, int count,
+bool take_arguments_of_bytes(sqlite3_context *context, struct arguments *arguments, int inputs, int count,
                             sqlite3_value **values) {
-    return take_inputs(context, question, inputs, IS_BLOB, "bytes must be a BLOB such as x'07'", count, values);
+    return take_inputs(context, arguments, inputs, IS_BLOB, "bytes must be a BLOB such as x'07'", count, values);
 }
 
-void drop_question(struct question *question) {
-    sqlite3_free(question->format);
-    give_registry_back(question->context, question->registry, question->memory);
+void drop_arguments(struct arguments *arguments) {
+    sqlite3_free(arguments->format);
+    give_registry_back(arguments->context, arguments->registry, arguments->memory);
 }

@@ -80,15 +80,15 @@ format_of(struct piece word)
 
 /* Lowers the nodes of a call of which one takes as long as `weight` nodes of the others. */
 void
-cap_nodes(Question *question, int weight)
+cap_nodes(Arguments *arguments, int weight)
 {
 	const int64 most = max_nodes < 0 ? BCS_NODES : max_nodes / weight;
 
-	question->most_nodes = most;
-	if (question->ask.nodes > most)
+	arguments->most_nodes = most;
+	if (arguments->question.nodes > most)
 	{
-		question->ask.nodes = most;
-		question->is_capped = true;
+		arguments->question.nodes = most;
+		arguments->is_capped = true;
 	}
 }
 
@@ -96,10 +96,10 @@ cap_nodes(Question *question, int weight)
  * memory, and the call itself finds it. A format that is refused isn't kept, and the call refuses it again. Then the registry has
  * all the memory that the call leaves to it. */
 static void
-keep_format(const struct ask *ask, const Registry *registry)
+keep_format(const struct question *question, const Registry *registry)
 {
 	MemoryContext outer = MemoryContextSwitchTo(registry->context);
-	bcs_answer	answer = bcs_handle_check(ASK(ask));
+	bcs_answer	answer = bcs_handle_check(QUESTION(question));
 
 	MemoryContextSwitchTo(outer);
 	bound_cache(registry);
@@ -107,12 +107,12 @@ keep_format(const struct ask *ask, const Registry *registry)
 		raise_memory();
 }
 
-static Question
-question_of_call(FunctionCallInfo fcinfo, int inputs)
+static Arguments
+arguments_of_call(FunctionCallInfo fcinfo, int inputs)
 {
 	const int64 nodes = PG_GETARG_INT64(2 + inputs);
 	const int32 depth = PG_GETARG_INT32(3 + inputs);
-	Question	question = {.ask = {.depth = depth, .nodes = nodes}};
+	Arguments	arguments = {.question = {.depth = depth, .nodes = nodes}};
 	const Registry *registry;
 
 	if (nodes < 0 || nodes > BCS_NODES || depth < 0 || depth > BCS_DEPTH)
@@ -121,58 +121,58 @@ question_of_call(FunctionCallInfo fcinfo, int inputs)
 				 errmsg("bcs: nodes are from 0 to 4294967295, and a depth is from 0 to 500")));
 	CHECK_FOR_INTERRUPTS();
 	check_stack(depth);
-	cap_nodes(&question, 1);
-	question.ask.format = format_of(utf8_of(argument(fcinfo, 1)));
+	cap_nodes(&arguments, 1);
+	arguments.question.format = format_of(utf8_of(argument(fcinfo, 1)));
 	registry = registry_of_call(fcinfo);
-	question.ask.handle = registry->handle;
-	keep_format(&question.ask, registry);
-	return question;
+	arguments.question.handle = registry->handle;
+	keep_format(&arguments.question, registry);
+	return arguments;
 }
 
 /* If there are two inputs, the second is a text, and so is a third one, which is views. */
-Question
-question_of_bytes(FunctionCallInfo fcinfo, int inputs)
+Arguments
+arguments_of_bytes(FunctionCallInfo fcinfo, int inputs)
 {
 	const struct piece input = argument(fcinfo, 2);
 	const struct piece second = inputs >= 2 ? utf8_of(argument(fcinfo, 3)) : input;
 	const struct piece views = inputs == 3 ? utf8_of(argument(fcinfo, 4)) : (struct piece) {0};
-	Question	question = question_of_call(fcinfo, inputs);
+	Arguments	arguments = arguments_of_call(fcinfo, inputs);
 
-	question.input = input;
-	question.second = second;
-	question.views = views;
-	return question;
+	arguments.input = input;
+	arguments.second = second;
+	arguments.views = views;
+	return arguments;
 }
 
 /* Of the part that the second input names in this notation. */
-Question
-question_of_part(FunctionCallInfo fcinfo, uint32 notation)
+Arguments
+arguments_of_part(FunctionCallInfo fcinfo, uint32 notation)
 {
-	Question	question = question_of_bytes(fcinfo, 2);
+	Arguments	arguments = arguments_of_bytes(fcinfo, 2);
 
-	question.notation = notation;
-	return question;
+	arguments.notation = notation;
+	return arguments;
 }
 
-Question
-question_of_text(FunctionCallInfo fcinfo, int inputs)
+Arguments
+arguments_of_text(FunctionCallInfo fcinfo, int inputs)
 {
 	const struct piece input = utf8_of(argument(fcinfo, 2));
 	const struct piece second = inputs == 2 ? utf8_of(argument(fcinfo, 3)) : input;
-	Question	question = question_of_call(fcinfo, inputs);
+	Arguments	arguments = arguments_of_call(fcinfo, inputs);
 
-	question.input = input;
-	question.second = second;
-	return question;
+	arguments.input = input;
+	arguments.second = second;
+	return arguments;
 }
 
-Question
-question_of_jsonb(FunctionCallInfo fcinfo, int inputs)
+Arguments
+arguments_of_jsonb(FunctionCallInfo fcinfo, int inputs)
 {
 	Jsonb	   *value = PG_GETARG_JSONB_P(2);
-	Question	question = question_of_call(fcinfo, inputs);
+	Arguments	arguments = arguments_of_call(fcinfo, inputs);
 	const StringInfoData text = text_of_jsonb(value);
 
-	question.input = question.second = utf8_of((struct piece) {(const uint8_t *) text.data, text.len});
-	return question;
+	arguments.input = arguments.second = utf8_of((struct piece) {(const uint8_t *) text.data, text.len});
+	return arguments;
 }
