@@ -26,8 +26,8 @@ MODULES = [
     "reading",
     "interruptions",
 ]
-MODULES += ["calls", "limits", "holder", "refusals", "views", "format_calls", "registry", "support", "modules"]
-MODULES += ["loader", "own_module"]
+MODULES += ["question", "calls", "limits", "holder", "refusals", "views", "format_calls", "registry", "support"]
+MODULES += ["modules", "loader", "own_module"]
 ADDRESS = "require('node:url').pathToFileURL(__filename).href"
 
 

@@ -75,7 +75,7 @@ tsc --noEmit --strict --target es2022 --lib es2022 --module nodenext --moduleRes
     "$room/bare_types.cts" || fail "the declarations for TypeScript, without those of browsers"
 echo "web: the declarations for TypeScript accept right calls, and no wrong ones"
 "$here/tests/typed.sh" "$web" || fail "the types of registries' values"
-for name in loader values reentry heap examples parts; do
+for name in loader values reentry question heap examples parts; do
     tested "$name" bcs.wasm node --expose-gc
 done
 
@@ -95,7 +95,7 @@ python3 "$here/tests/against_native.py" "$CHANGED_INPUTS" node "$here/tests/driv
     || fail "the module beside C"
 
 export BCS_BITS=64
-for name in loader values reentry heap examples; do
+for name in loader values reentry question heap examples; do
     tested "$name" bcs64.wasm node ${wide:+"$wide"}
 done
 python3 "$here/../../tests/rows" --without changes web64 \

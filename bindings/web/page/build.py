@@ -25,8 +25,8 @@ EXAMPLES = HERE.parent.parent.parent / "examples"
 
 # Each module comes after those that it imports.
 WORKER = ["../errors", "../hex", "../octets", "../texts", "../move_types", "../shapes", "../json_output", "../writing"]
-WORKER += ["../reading", "../interruptions", "../calls", "../limits", "../holder", "../refusals", "../views"]
-WORKER += ["../format_calls", "../registry", "../support", "../modules", "../loader"]
+WORKER += ["../reading", "../interruptions", "../question", "../calls", "../limits", "../holder", "../refusals"]
+WORKER += ["../views", "../format_calls", "../registry", "../support", "../modules", "../loader"]
 WORKER += ["names", "wrong_digits", "coding", "advice", "roots", "layout", "blank", "outline", "arguments"]
 WORKER += ["joined_registry", "worker"]
 SCRIPT = ["../hex", "../octets", "../support", "names", "wrong_digits", "coding", "reasons", "lights", "link", "pane"]

@@ -63,14 +63,15 @@ class Heap {
     return [place, BigInt(bytes.length)];
   }
 
-  /** What a call on a handle is asked, as proved.h lays it out. */
-  putAsk(format) {
-    const words = this.put(format);
-    const place = this.exports.take_memory(24n);
-    const view = new DataView(this.exports.memory.buffer, Number(place), 24);
-    words.forEach((word, i) => view.setBigUint64(8 * i, word, true));
-    view.setUint32(16, 500, true);
-    view.setUint32(20, 0xffffffff, true);
+  /** A question to encode a text, as the module of 64-bit addresses has it. */
+  putQuestion(format, text) {
+    const [toBcs, depth, nodes] = [2, 500, 0xffffffff];
+    const place = this.exports.take_memory(88n);
+    const [atFormat, atText] = [this.put(format), this.put(text)];
+    const view = new DataView(this.exports.memory.buffer, Number(place), 88);
+    for (let at = 0; at < 88; at += 8) view.setBigUint64(at, 0n, true);
+    [88, toBcs, 0, 0, depth, nodes].forEach((number, i) => view.setUint32(4 * i, number, true));
+    [...atFormat, ...atText].forEach((word, i) => view.setBigUint64(24 + 8 * i, word, true));
     return place;
   }
 
@@ -122,14 +123,14 @@ test('all the memory is given out, in blocks apart from one another, and then no
 
 test('a call in a full memory answers that, and before and behind it the bytes', () => {
   const heap = new Heap();
-  const ask = heap.putAsk('{"SEQ":"U16"}');
-  const [text, answer, out] = [heap.put('[1,2,3]'), heap.put(' '.repeat(24)), heap.put(' '.repeat(9))];
+  const question = heap.putQuestion('{"SEQ":"U16"}', '[1,2,3]');
+  const [answer, out] = [heap.put(' '.repeat(24)), heap.put(' '.repeat(9))];
   const [handle] = heap.put('\0'.repeat(8));
   const [DONE, MEMORY] = [0, 6];
   heap.exports.bcs_c_open(answer[0], handle, ...heap.put('{}'));
   assert.equal(new DataView(heap.exports.memory.buffer).getUint32(Number(answer[0]), true), DONE);
   const isAnswered = (status) => {
-    heap.exports.bcs_c_handle_to_bcs(answer[0], handle, ask, ...text, ...out);
+    heap.exports.bcs_c_ask(answer[0], handle, question, ...out, out[0], 0n);
     assert.equal(new DataView(heap.exports.memory.buffer).getUint32(Number(answer[0]), true), status);
     if (status === DONE) assert.deepEqual([...heap.bytes({ place: Number(out[0]), length: 7 })], [3, 1, 0, 2, 0, 3, 0]);
   };

@@ -3,6 +3,7 @@
 import { readFileSync } from 'node:fs';
 import { load } from '../bcs.mjs';
 import { Calls, Opened } from '../calls.mjs';
+import { CALL, Question } from '../question.mjs';
 
 const module = await WebAssembly.compile(readFileSync(process.argv[2]));
 const read = (name) => readFileSync(new URL(`../../../examples/${name}`, import.meta.url), 'utf8');
@@ -19,8 +20,8 @@ function time(count, job) {
 }
 
 function asked(registry, format, text) {
-  const ask = { registry: new Opened(encoder.encode(registry)), format: encoder.encode(format), depth: 500, nodes: 0xffffffff };
-  return [ask, encoder.encode(text)];
+  const texts = { format: encoder.encode(format), first: encoder.encode(text) };
+  return [new Question(CALL.toBcs, { ...texts, depth: 500, nodes: 0xffffffff }), new Opened(encoder.encode(registry))];
 }
 
 const small = asked('{}', '"U8"', '7');
@@ -28,9 +29,9 @@ const transfer = asked(read('aptos_registry.json'), '{"TYPENAME":"RawTransaction
 const kept = new Calls(module);
 
 console.log(`${time(20, () => new WebAssembly.Instance(module, {}))} microseconds for an instance`);
-for (const [name, [ask, text]] of Object.entries({ 'a U8': small, 'a transfer of Aptos': transfer })) {
-  console.log(`${time(100, () => kept.toBcs(ask, text))} to encode ${name} in an instance that is kept`);
-  console.log(`${time(20, () => new Calls(module).toBcs(ask, text))} to encode ${name} in one of its own`);
+for (const [name, [question, opened]] of Object.entries({ 'a U8': small, 'a transfer of Aptos': transfer })) {
+  console.log(`${time(100, () => kept.ask(question, opened))} to encode ${name} in an instance that is kept`);
+  console.log(`${time(20, () => new Calls(module).ask(question, opened))} to encode ${name} in one of its own`);
 }
 
 const bcs = await load(module);
