@@ -91,7 +91,7 @@ func Open(registry []byte, names ...Names) (*Registry, error) {
 	var handle *C.bcs_handle
 	answer := C.bcs_open(&handle, at(registry), size(registry))
 	if answer.status != C.BCS_DONE {
-		return nil, refusalOfRegistry(answer, KindRegistry, registry)
+		return nil, refusalOfRegistry(answer.status, answer.fault, KindRegistry, registry)
 	}
 	s := &shared{handle: handle, names: own.orDefault()}
 	runtime.SetFinalizer(s, (*shared).close)
@@ -141,7 +141,7 @@ func (r *Registry) Check(format string) error {
 }
 
 func (q *question) check() error {
-	return q.refusal(C.bcs_handle_check(q.handle, at(q.format), size(q.format), q.depth, q.nodes), KindFormat, nil)
+	return q.refusal(q.ask(q.about(C.BCS_CHECK, nil, nil), nil), KindFormat)
 }
 
 // EncodeJSON returns the bytes of the value that a JSON document represents.
@@ -155,10 +155,8 @@ func (r *Registry) EncodeJSON(format string, json []byte) ([]byte, error) {
 }
 
 func (q *question) encodeJSON(json []byte) ([]byte, error) {
-	out, answer := output(guess(len(json), 1), func(out *C.uint8_t, length C.size_t) C.bcs_answer {
-		return C.bcs_handle_to_bcs(q.handle, at(q.format), size(q.format), q.depth, q.nodes, at(json), size(json), out, length)
-	})
-	return out, q.refusal(answer, KindText, json)
+	out, answer := q.output(q.about(C.BCS_TO_BCS, json, nil), guess(len(json), 1))
+	return out, q.refusal(answer, KindText)
 }
 
 // DecodeJSON returns the one normal JSON document of the value that the whole of data encodes.
@@ -172,10 +170,8 @@ func (r *Registry) DecodeJSON(format string, data []byte) ([]byte, error) {
 }
 
 func (q *question) decodeJSON(data []byte) ([]byte, error) {
-	out, answer := output(guess(len(data), 4), func(out *C.uint8_t, length C.size_t) C.bcs_answer {
-		return C.bcs_handle_from_bcs(q.handle, at(q.format), size(q.format), q.depth, q.nodes, at(data), size(data), out, length)
-	})
-	return out, q.refusal(answer, KindBytes, data)
+	out, answer := q.output(q.about(C.BCS_FROM_BCS, data, nil), guess(len(data), 4))
+	return out, q.refusal(answer, KindBytes)
 }
 
 // DecodePrefixJSON returns the normal JSON document of the value at the beginning of data, and how many bytes it has. What
@@ -201,10 +197,8 @@ func (r *Registry) NormaliseJSON(format string, json []byte) ([]byte, error) {
 		return nil, err
 	}
 	defer q.end()
-	out, answer := output(guess(len(json), 1), func(out *C.uint8_t, length C.size_t) C.bcs_answer {
-		return C.bcs_handle_normalise(q.handle, at(q.format), size(q.format), q.depth, q.nodes, at(json), size(json), out, length)
-	})
-	return out, q.refusal(answer, KindText, json)
+	out, answer := q.output(q.about(C.BCS_NORMALISE, json, nil), guess(len(json), 1))
+	return out, q.refusal(answer, KindText)
 }
 
 // EqualJSON reports whether two JSON documents represent equal values.
@@ -214,16 +208,11 @@ func (r *Registry) EqualJSON(format string, first, second []byte) (bool, error) 
 		return false, err
 	}
 	defer q.end()
-	answer := C.bcs_handle_compare(q.handle, at(q.format), size(q.format), q.depth, q.nodes, at(first), size(first),
-		at(second), size(second))
+	answer := q.ask(q.about(C.BCS_COMPARE, first, second), nil)
 	if answer.status == C.BCS_NO {
 		return false, nil
 	}
-	refused := first
-	if answer.status == C.BCS_REFUSED && q.place(KindText, first, nil, 0).status == C.BCS_NO {
-		refused = second
-	}
-	err = q.refusal(answer, KindText, refused)
+	err = q.refusal(answer, KindText)
 	return err == nil, err
 }
 
@@ -238,100 +227,82 @@ func (r *Registry) Scan(format string, data []byte) (int, error) {
 }
 
 func (q *question) scan(data []byte) (int, error) {
-	answer := C.bcs_handle_scan(q.handle, at(q.format), size(q.format), q.depth, q.nodes, at(data), size(data))
-	return int(answer.length), q.refusal(answer, KindBytes, data)
+	answer := q.ask(q.about(C.BCS_SCAN, data, nil), nil)
+	if err := q.refusal(answer, KindBytes); err != nil {
+		return 0, err
+	}
+	return int(answer.length), nil
 }
 
 // Part returns the part to which the path leads, in the value at the beginning of data. It returns nil if the path leads
 // nowhere. Paths are those of `bcs part`: "." for the whole value, or steps such as inner/2/inner or key:0161, where the key's
 // bytes are hexadecimal digits.
 func (r *Registry) Part(format string, data []byte, path string) (*Part, error) {
-	q, err := r.askAbout(format, data)
-	if err != nil {
-		return nil, err
-	}
-	defer q.end()
-	steps := []byte(path)
-	answer := C.bcs_handle_part(q.handle, at(q.format), size(q.format), q.depth, q.nodes, at(data), size(data), at(steps),
-		size(steps))
-	return q.part(answer, data, C.BCS_STEPS, steps)
+	return r.find(C.BCS_PART, format, data, C.BCS_STEPS, path)
 }
 
 // PartByName is Part with the name of the part, as [Registry.Explain] prints it: .payload::EntryFunction.args[0].
 func (r *Registry) PartByName(format string, data []byte, name string) (*Part, error) {
-	return r.partNamed(format, data, C.BCS_NAME, name)
+	return r.find(C.BCS_PART_NAMED, format, data, C.BCS_NAME, name)
 }
 
 // PartByPointer is Part with a JSON Pointer into the value's JSON document, such as /payload/EntryFunction/args/0.
 func (r *Registry) PartByPointer(format string, data []byte, pointer string) (*Part, error) {
-	return r.partNamed(format, data, C.BCS_POINTER, pointer)
-}
-
-func (r *Registry) partNamed(format string, data []byte, notation C.uint32_t, name string) (*Part, error) {
-	q, err := r.askAbout(format, data)
-	if err != nil {
-		return nil, err
-	}
-	defer q.end()
-	text := []byte(name)
-	answer := C.bcs_handle_part_named(q.handle, at(q.format), size(q.format), q.depth, q.nodes, notation, at(text), size(text),
-		at(data), size(data))
-	return q.part(answer, data, notation, text)
+	return r.find(C.BCS_PART_NAMED, format, data, C.BCS_POINTER, pointer)
 }
 
 // Content returns the content of the byte string to which the path leads: its bytes without the length before them. The part has to
 // be of the format BYTES, STR, or a list or an array of U8; for any other the reason of the error is NoContent.
 func (r *Registry) Content(format string, data []byte, path string) (*Part, error) {
-	return r.content(format, data, C.BCS_STEPS, path)
+	return r.find(C.BCS_CONTENT, format, data, C.BCS_STEPS, path)
 }
 
 // ContentByName is Content with the name of the part, as [Registry.Explain] prints it.
 func (r *Registry) ContentByName(format string, data []byte, name string) (*Part, error) {
-	return r.content(format, data, C.BCS_NAME, name)
+	return r.find(C.BCS_CONTENT, format, data, C.BCS_NAME, name)
 }
 
 // ContentByPointer is Content with a JSON Pointer into the value's JSON document.
 func (r *Registry) ContentByPointer(format string, data []byte, pointer string) (*Part, error) {
-	return r.content(format, data, C.BCS_POINTER, pointer)
+	return r.find(C.BCS_CONTENT, format, data, C.BCS_POINTER, pointer)
 }
 
-func (r *Registry) content(format string, data []byte, notation C.uint32_t, name string) (*Part, error) {
+// find returns the part that a call finds by this name.
+func (r *Registry) find(call C.uint32_t, format string, data []byte, notation C.uint32_t, name string) (*Part, error) {
 	q, err := r.askAbout(format, data)
 	if err != nil {
 		return nil, err
 	}
 	defer q.end()
 	text := []byte(name)
-	answer := C.bcs_handle_content(q.handle, at(q.format), size(q.format), q.depth, q.nodes, notation, at(text), size(text),
-		at(data), size(data))
-	return q.part(answer, data, notation, text)
+	asked := q.about(call, data, text)
+	asked.number = notation
+	return q.part(q.ask(asked, nil), data, notation, text)
 }
 
-// part returns the part that a call found by this name, or nil.
-func (q *question) part(answer C.bcs_answer, data []byte, notation C.uint32_t, name []byte) (*Part, error) {
+// part returns the part of an answer, or nil.
+func (q *question) part(answer answer, data []byte, notation C.uint32_t, name []byte) (*Part, error) {
 	switch {
 	case answer.status == C.BCS_NO:
 		return nil, nil
 	case answer.status == C.BCS_PATH && notation == C.BCS_STEPS:
-		return nil, refusalOf(KindPath, answer, func(out *C.uint8_t, length C.size_t) C.bcs_answer {
-			return C.bcs_path_place(at(name), size(name), out, length)
-		})
+		return nil, q.refusalOf(KindPath, answer.fault, plain(C.BCS_PATH_PLACE, nil, name))
 	case answer.status == C.BCS_PATH && notation == C.BCS_NAME:
-		return nil, badPath(answer, "expected a name such as .payload.args[1]")
+		return nil, badPath(answer.fault, "expected a name such as .payload.args[1]")
 	case answer.status == C.BCS_PATH:
-		return nil, badPath(answer, "expected a JSON Pointer such as /payload/args/1")
+		return nil, badPath(answer.fault, "expected a JSON Pointer such as /payload/args/1")
 	case answer.status == C.BCS_REFUSED && answer.fault == C.BCS_PATH_NO_CONTENT:
-		return nil, badPath(answer, "expected a part that is BYTES, STR, or a list or an array of U8")
+		return nil, badPath(answer.fault, "expected a part that is BYTES, STR, or a list or an array of U8")
 	}
-	if err := q.refusal(answer, KindBytes, data); err != nil {
+	if err := q.refusal(answer, KindBytes); err != nil {
 		return nil, err
 	}
 	place, end := int(answer.place), int(answer.place)+int(answer.length)
 	return &Part{Place: place, Data: data[place:end:end]}, nil
 }
 
-func badPath(answer C.bcs_answer, message string) *Error {
-	refused := newError(KindPath, answer)
+func badPath(fault C.uint32_t, message string) *Error {
+	refused := newError(KindPath, fault)
 	refused.Message = message
 	return refused
 }
@@ -343,27 +314,34 @@ func (r *Registry) Explain(format string, data []byte, form Form) (*Explanation,
 		return nil, err
 	}
 	defer q.end()
-	out, answer := output(guess(len(data), 64), func(out *C.uint8_t, length C.size_t) C.bcs_answer {
-		return C.bcs_handle_explain(q.handle, at(q.format), size(q.format), q.depth, q.nodes, C.uint32_t(form), at(data),
-			size(data), out, length)
-	})
+	out, answer := q.output(q.explains(data, C.uint32_t(form), nil), guess(len(data), 64))
 	return q.explanation(out, answer, data)
 }
 
-func (q *question) explanation(out []byte, answer C.bcs_answer, data []byte) (*Explanation, error) {
-	if err := q.refusal(answer, KindBytes, data); err != nil {
+// explains returns the question for an explanation.
+func (q *question) explains(data []byte, form C.uint32_t, views []byte) C.bcs_question {
+	asked := q.about(C.BCS_EXPLAIN, data, nil)
+	asked.number, asked.views, asked.views_length = form, at(views), size(views)
+	return asked
+}
+
+func (q *question) explanation(out []byte, answer answer, data []byte) (*Explanation, error) {
+	if err := q.refusal(answer, KindBytes); err != nil {
 		return nil, err
 	}
 	explanation := &Explanation{Text: string(out)}
 	if answer.fault == C.BCS_FAULT_NONE {
 		return explanation, nil
 	}
-	err := q.refused(answer, KindBytes, data)
-	if damage, is := err.(*Error); is && damage.Kind == KindBytes {
-		explanation.Damage = damage
-		return explanation, nil
+	report, stop := q.output(q.about(C.BCS_STOP_REFUSAL, data, nil), 256)
+	if err := failure(stop.status); err != nil {
+		return nil, err
 	}
-	return nil, err
+	if stop.place == answer.place { // of bytes inside of a byte string, C reports nothing
+		answer.report = string(report)
+	}
+	explanation.Damage = refusalOfInput(answer, KindBytes)
+	return explanation, nil
 }
 
 // Grows returns an error unless the newer registry keeps everything that the older one has, so that every old value stays
@@ -372,18 +350,16 @@ func Grows(older, newer []byte) error {
 	if !isSupported {
 		return ErrUnsupported
 	}
-	answer := C.bcs_grows(at(older), size(older), at(newer), size(newer))
+	answer := new(question).ask(plain(C.BCS_GROWS, older, newer), nil)
 	switch answer.status {
 	case C.BCS_DONE:
 		return nil
 	case C.BCS_REFUSED:
-		return refusalOf(KindGrowth, answer, func(out *C.uint8_t, length C.size_t) C.bcs_answer {
-			return C.bcs_growth_place(at(older), size(older), at(newer), size(newer), out, length)
-		})
+		return refusalOfInput(answer, KindGrowth)
 	case C.BCS_NEWER:
-		return refusalOfRegistry(answer, KindNewer, newer)
+		return refusalOfRegistry(answer.status, answer.fault, KindNewer, newer)
 	default:
-		return refusalOfRegistry(answer, KindRegistry, older)
+		return refusalOfRegistry(answer.status, answer.fault, KindRegistry, older)
 	}
 }
 
@@ -392,16 +368,14 @@ func Differences(older, newer []byte) ([]string, error) {
 	if !isSupported {
 		return nil, ErrUnsupported
 	}
-	out, answer := output(4096, func(out *C.uint8_t, length C.size_t) C.bcs_answer {
-		return C.bcs_growth_list(at(older), size(older), at(newer), size(newer), out, length)
-	})
+	out, answer := new(question).output(plain(C.BCS_GROWTH_LIST, older, newer), 4096)
 	switch answer.status {
 	case C.BCS_DONE:
 		return strings.FieldsFunc(string(out), func(r rune) bool { return r == '\n' }), nil
 	case C.BCS_NEWER:
-		return nil, refusalOfRegistry(answer, KindNewer, newer)
+		return nil, refusalOfRegistry(answer.status, answer.fault, KindNewer, newer)
 	default:
-		return nil, refusalOfRegistry(answer, KindRegistry, older)
+		return nil, refusalOfRegistry(answer.status, answer.fault, KindRegistry, older)
 	}
 }
 
@@ -412,10 +386,8 @@ func (r *Registry) Schema(format string) ([]byte, error) {
 		return nil, err
 	}
 	defer q.end()
-	out, answer := output(4096, func(out *C.uint8_t, length C.size_t) C.bcs_answer {
-		return C.bcs_handle_schema(q.handle, at(q.format), size(q.format), q.depth, q.nodes, out, length)
-	})
-	return out, q.refusal(answer, KindFormat, nil)
+	out, answer := q.output(q.about(C.BCS_SCHEMA, nil, nil), 4096)
+	return out, q.refusal(answer, KindFormat)
 }
 
 // ExampleOptions say which example Example makes.
@@ -431,18 +403,12 @@ func (r *Registry) Example(format string, options ExampleOptions) ([]byte, error
 		return nil, err
 	}
 	defer q.end()
-	form, variant := C.uint32_t(C.BCS_LEAST), []byte(options.Variant)
+	asked := q.about(C.BCS_EXAMPLE, nil, []byte(options.Variant))
 	if options.Full {
-		form = C.BCS_FULL
+		asked.number = C.BCS_FULL
 	}
-	out, answer := output(1024, func(out *C.uint8_t, length C.size_t) C.bcs_answer {
-		return C.bcs_handle_example(q.handle, at(q.format), size(q.format), q.depth, q.nodes, form, at(variant), size(variant),
-			out, length)
-	})
-	if answer.status == C.BCS_REFUSED {
-		return nil, newError(KindExample, answer)
-	}
-	return out, q.refusal(answer, KindExample, nil)
+	out, answer := q.output(asked, 1024)
+	return out, q.refusal(answer, KindExample)
 }
 
 // Show returns the registry in readable form, as `bcs show` prints it; or, if name isn't empty, only that container with what
@@ -457,14 +423,13 @@ func (r *Registry) Show(name string, form Form) (string, error) {
 }
 
 func (q *question) show(name string, form Form) (string, error) {
-	word := []byte(name)
-	out, answer := output(4096, func(out *C.uint8_t, length C.size_t) C.bcs_answer {
-		return C.bcs_handle_show(q.handle, C.uint32_t(form), at(word), size(word), out, length)
-	})
+	asked := plain(C.BCS_SHOW, nil, []byte(name))
+	asked.number = C.uint32_t(form)
+	out, answer := q.output(asked, 4096)
 	if answer.status == C.BCS_FORMAT {
-		refused := newError(KindFormat, answer)
+		refused := newError(KindFormat, answer.fault)
 		refused.Message = "no container is called " + shortened(name)
 		return "", refused
 	}
-	return string(out), q.refusal(answer, KindFormat, nil)
+	return string(out), q.refusal(answer, KindFormat)
 }

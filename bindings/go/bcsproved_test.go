@@ -95,6 +95,26 @@ func TestRefusals(t *testing.T) {
 	}
 }
 
+// Most refusals fit into the room that a call begins with.
+func TestLongPlaces(t *testing.T) {
+	for length := 190; length <= 260; length++ {
+		name := strings.Repeat("a", length)
+		if length == 260 {
+			name = strings.Repeat(name, 300)
+		}
+		registry := open(t, `{"S":{"STRUCT":[{"`+name+`":"BOOL"}]}}`)
+		var text, data *Error
+		_, err := registry.EncodeJSON("S", []byte(`{"`+name+`":7}`))
+		if !errors.As(err, &text) || text.At != "/"+name || text.Message == "" {
+			t.Fatal(length, err)
+		}
+		_, err = registry.Scan("S", []byte{2})
+		if !errors.As(err, &data) || data.At != "."+name || data.Message != "expected BOOL, 00 or 01, found 02" {
+			t.Fatal(length, err)
+		}
+	}
+}
+
 // Five bytes encode a list of 4294967295 values that need no bytes.
 func TestDefaultLimits(t *testing.T) {
 	registry := open(t, "{}")

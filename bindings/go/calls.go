@@ -1,12 +1,40 @@
 package bcsproved
 
-// #include <stdlib.h>
-// #include "bcs.h"
+/*
+#include <stddef.h>
+#include <stdlib.h>
+#include "bcs.h"
+
+#define AT(member, offset) _Static_assert(offsetof(bcs_question, member) == (offset), "bcs_question." #member)
+AT(size, 0);
+AT(call, 4);
+AT(number, 8);
+AT(second_number, 12);
+AT(depth, 16);
+AT(nodes, 20);
+AT(format, 24);
+AT(format_length, 24 + sizeof(void *));
+AT(first, 24 + 2 * sizeof(void *));
+AT(first_length, 24 + 3 * sizeof(void *));
+AT(second, 24 + 4 * sizeof(void *));
+AT(second_length, 24 + 5 * sizeof(void *));
+AT(views, 24 + 6 * sizeof(void *));
+AT(views_length, 24 + 7 * sizeof(void *));
+_Static_assert(sizeof(bcs_question) == 24 + 8 * sizeof(void *), "bcs_question");
+
+// Go passes no pointer to a struct with pointers to its memory. So it passes the struct, and the pointer to that is C's.
+static bcs_answer ask(bcs_handle *handle, bcs_question question, uint8_t *out, size_t out_length, uint8_t *message,
+                      size_t message_length) {
+    question.size = sizeof question;
+    return bcs_ask(handle, &question, out, out_length, message, message_length);
+}
+*/
 import "C"
 
 import (
 	"math"
 	"runtime"
+	"sync"
 	"unsafe"
 )
 
@@ -19,6 +47,14 @@ type question struct {
 	format       []byte // its JSON
 	depth, nodes C.uint32_t
 	nodesOfValue uint32 // that a value of Go may have
+}
+
+// answer is what C answers.
+type answer struct {
+	status, fault C.uint32_t
+	place         C.uint64_t
+	length        C.size_t
+	report        string // of a refusal: a place, a NUL, and a message
 }
 
 // defaultNodesOfValue is low, since few objects have any number of nodes if pointers share them.
@@ -35,7 +71,10 @@ func (r *Registry) ask(format string) (*question, error) {
 		r.shared.lock.RUnlock()
 		return nil, ErrClosed
 	}
-	return &question{r.shared, r.shared.handle, format, formatJSON(format), C.uint32_t(limits.Depth), C.uint32_t(limits.Nodes), nodesOfValue}, nil
+	return &question{
+		shared: r.shared, handle: r.shared.handle, word: format, format: formatJSON(format),
+		depth: C.uint32_t(limits.Depth), nodes: C.uint32_t(limits.Nodes), nodesOfValue: nodesOfValue,
+	}, nil
 }
 
 // askAbout begins a call that reads bytes. By default it limits the nodes, since few bytes can encode many.
@@ -51,6 +90,21 @@ func (r *Registry) askAbout(format string, data []byte) (*question, error) {
 func (q *question) end() {
 	q.shared.lock.RUnlock()
 	runtime.KeepAlive(q.shared)
+}
+
+// about returns a question about these inputs as values of the format.
+func (q *question) about(call C.uint32_t, first, second []byte) C.bcs_question {
+	asked := plain(call, first, second)
+	asked.format, asked.format_length = at(q.format), size(q.format)
+	asked.depth, asked.nodes = q.depth, q.nodes
+	return asked
+}
+
+// plain returns a question without a format.
+func plain(call C.uint32_t, first, second []byte) C.bcs_question {
+	return C.bcs_question{
+		call: call, first: at(first), first_length: size(first), second: at(second), second_length: size(second),
+	}
 }
 
 // formatJSON returns the JSON of a format. A character of a name needs at most six bytes there.
@@ -83,14 +137,36 @@ func guess(length, times int) C.size_t {
 	return C.size_t(times*length + 256)
 }
 
-// output makes a call that writes output: once with room for this length, and again if that is too short.
-func output(room C.size_t, call func(out *C.uint8_t, length C.size_t) C.bcs_answer) ([]byte, C.bcs_answer) {
+// messages are room for what most refusals report.
+var messages = sync.Pool{New: func() any { return new([256]byte) }}
+
+// ask asks C, and if a refusal has a longer message, once more with room for that.
+func (q *question) ask(asked C.bcs_question, out []byte) answer {
+	kept := messages.Get().(*[256]byte)
+	defer messages.Put(kept)
+	message := kept[:]
+	for {
+		told := C.ask(q.handle, asked, at(out), size(out), at(message), size(message))
+		whole := answer{told.status, told.fault, told.place, told.length, ""}
+		if told.status != C.BCS_REFUSED || !hasMemory(told.length) {
+			return whole
+		}
+		if told.length <= size(message) {
+			whole.report = string(message[:told.length])
+			return whole
+		}
+		message = make([]byte, told.length)
+	}
+}
+
+// output asks for an output: once with room for this length, and again if that is too short.
+func (q *question) output(asked C.bcs_question, room C.size_t) ([]byte, answer) {
 	for {
 		if !hasMemory(room) {
-			return nil, C.bcs_answer{status: C.BCS_MEMORY}
+			return nil, answer{status: C.BCS_MEMORY}
 		}
 		out := make([]byte, room)
-		answer := call(at(out), room)
+		answer := q.ask(asked, out)
 		switch {
 		case answer.status == C.BCS_SHORT:
 			room = answer.length

@@ -95,9 +95,9 @@ func printable(s string) string {
 	return out.String()
 }
 
-// newError returns an error with the name of the answer's fault.
-func newError(kind Kind, answer C.bcs_answer) *Error {
-	return &Error{Kind: kind, Reason: reason(answer.fault), Place: -1}
+// newError returns an error with the name of the fault.
+func newError(kind Kind, fault C.uint32_t) *Error {
+	return &Error{Kind: kind, Reason: reason(fault), Place: -1}
 }
 
 func reason(fault C.uint32_t) string {
@@ -108,26 +108,24 @@ func reason(fault C.uint32_t) string {
 }
 
 // refusal returns the error of an answer, or nil if the call succeeded. The kind is what BCS_REFUSED refuses.
-func (q *question) refusal(answer C.bcs_answer, kind Kind, input []byte) error {
+func (q *question) refusal(answer answer, kind Kind) error {
 	switch answer.status {
 	case C.BCS_DONE:
 		return nil
 	case C.BCS_FORMAT:
-		return refusalOf(KindFormat, answer, func(out *C.uint8_t, length C.size_t) C.bcs_answer {
-			return C.bcs_handle_format_place(q.handle, at(q.format), size(q.format), out, length)
-		})
+		return q.refusalOfFormat(answer.fault, q.format)
 	case C.BCS_LIMITS:
 		return &Error{Kind: KindLimits, Place: -1, Message: "the depth is above 500"}
 	case C.BCS_REFUSED:
-		return q.refused(answer, kind, input)
+		return refusalOfInput(answer, kind)
 	default:
-		return failure(answer)
+		return failure(answer.status)
 	}
 }
 
 // failure returns the error of a call that didn't finish, or nil.
-func failure(answer C.bcs_answer) error {
-	switch answer.status {
+func failure(status C.uint32_t) error {
+	switch status {
 	case C.BCS_DONE, C.BCS_NO:
 		return nil
 	case C.BCS_MEMORY:
@@ -135,48 +133,39 @@ func failure(answer C.bcs_answer) error {
 	case C.BCS_STACK:
 		return &Error{Kind: KindStack, Place: -1, Message: "the thread has too little stack left"}
 	default:
-		return fmt.Errorf("bcs: unknown status %d", uint32(answer.status))
+		return fmt.Errorf("bcs: unknown status %d", uint32(status))
 	}
 }
 
-// refused returns the error for JSON or bytes that are refused.
-func (q *question) refused(answer C.bcs_answer, kind Kind, input []byte) error {
-	err := refusalOf(kind, answer, func(out *C.uint8_t, length C.size_t) C.bcs_answer {
-		place := q.place(kind, input, out, length)
-		if place.status == C.BCS_DONE && place.place != answer.place { // of bytes inside of a byte string, C reports nothing
-			place.status, place.length = C.BCS_NO, 0
-		}
-		return place
-	})
-	if refused, is := err.(*Error); is && refused.Kind == KindBytes && answer.fault != C.BCS_SHOWN_TOO_NESTED {
+// refusalOfInput returns the error for an input that is refused, with what the answer reports.
+func refusalOfInput(answer answer, kind Kind) *Error {
+	refused := newError(kind, answer.fault)
+	if kind == KindBytes && answer.fault != C.BCS_SHOWN_TOO_NESTED {
 		refused.Place = int(answer.place)
 	}
-	return err
+	refused.locate(answer.report)
+	return refused
 }
 
-func (q *question) place(kind Kind, input []byte, out *C.uint8_t, length C.size_t) C.bcs_answer {
-	if kind == KindBytes {
-		return C.bcs_handle_stop_refusal(q.handle, at(q.format), size(q.format), q.depth, q.nodes, at(input), size(input), out,
-			length)
+func refusalOfRegistry(status, fault C.uint32_t, kind Kind, registry []byte) error {
+	if status != C.BCS_REGISTRY && status != C.BCS_NEWER {
+		return failure(status)
 	}
-	return C.bcs_handle_text_refusal(q.handle, at(q.format), size(q.format), q.depth, q.nodes, at(input), size(input), out,
-		length)
+	return new(question).refusalOf(kind, fault, plain(C.BCS_REGISTRY_REFUSAL, registry, nil))
 }
 
-func refusalOfRegistry(answer C.bcs_answer, kind Kind, registry []byte) error {
-	if answer.status != C.BCS_REGISTRY && answer.status != C.BCS_NEWER {
-		return failure(answer)
-	}
-	return refusalOf(kind, answer, func(out *C.uint8_t, length C.size_t) C.bcs_answer {
-		return C.bcs_registry_refusal(at(registry), size(registry), out, length)
-	})
+// refusalOfFormat returns the error for a format, without a message if it isn't the one that is refused.
+func (q *question) refusalOfFormat(fault C.uint32_t, format []byte) error {
+	asked := plain(C.BCS_FORMAT_PLACE, nil, nil)
+	asked.format, asked.format_length = at(format), size(format)
+	return q.refusalOf(KindFormat, fault, asked)
 }
 
-// refusalOf returns an error with what a call reports about it.
-func refusalOf(kind Kind, answer C.bcs_answer, ask func(out *C.uint8_t, length C.size_t) C.bcs_answer) error {
-	refused := newError(kind, answer)
-	report, place := output(256, ask)
-	if err := failure(place); err != nil {
+// refusalOf returns an error with what C reports about it when it is asked this.
+func (q *question) refusalOf(kind Kind, fault C.uint32_t, asked C.bcs_question) error {
+	refused := newError(kind, fault)
+	report, answer := q.output(asked, 256)
+	if err := failure(answer.status); err != nil {
 		return err
 	}
 	refused.locate(string(report))

@@ -25,15 +25,9 @@ func RegistryOfModules(modules []byte, types []string) (*MadeRegistry, error) {
 	if err != nil {
 		return nil, err
 	}
-	out, answer := output(4096, func(out *C.uint8_t, length C.size_t) C.bcs_answer {
-		return C.bcs_registry_of_modules(at(modules), size(modules), at(lines), size(lines), out, length)
-	})
-	if answer.status == C.BCS_REFUSED {
-		return nil, refusalOf(KindModules, answer, func(out *C.uint8_t, length C.size_t) C.bcs_answer {
-			return C.bcs_modules_place(at(modules), size(modules), at(lines), size(lines), out, length)
-		})
-	}
-	if err := failure(answer); err != nil {
+	q := new(question)
+	out, answer := q.output(plain(C.BCS_REGISTRY_OF_MODULES, modules, lines), 4096)
+	if err := q.refusal(answer, KindModules); err != nil {
 		return nil, err
 	}
 	json, notes, _ := bytes.Cut(out, []byte{'\n'}) // the JSON has no line feed
@@ -54,7 +48,7 @@ func linesOf(types []string) ([]byte, error) {
 }
 
 func badType(text, message string) error {
-	refused := newError(KindModules, C.bcs_answer{fault: C.BCS_MOVE_BAD_TYPE})
+	refused := newError(KindModules, C.BCS_MOVE_BAD_TYPE)
 	refused.At, refused.Message = text, message
 	return refused
 }

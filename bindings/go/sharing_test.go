@@ -233,7 +233,7 @@ func TestMemory(t *testing.T) {
 	if !hasMemory(1<<20) || hasMemory(1<<30) || hasMemory(1<<63) {
 		t.Fatal("an output of that length")
 	}
-	if out, answer := output(1<<30, nil); out != nil || answer.status != 6 {
+	if out, answer := new(question).output(plain(0, nil, nil), 1<<30); out != nil || answer.status != 6 {
 		t.Fatal(len(out), answer)
 	}
 	if length, err := registry.Scan(`{"SEQ":"UNIT"}`, units); length != 5 || err != nil {

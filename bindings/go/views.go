@@ -37,41 +37,34 @@ func (r *Registry) ExplainWith(format string, data []byte, form Form, views View
 		return nil, err
 	}
 	defer q.end()
-	out, answer := output(guess(len(data), 64), func(out *C.uint8_t, length C.size_t) C.bcs_answer {
-		return q.explainWith(form, lines, data, out, length)
-	})
+	out, answer := q.output(q.explains(data, C.uint32_t(form)+C.BCS_NOTES, lines), guess(len(data), 64))
 	if answer.status == C.BCS_PATH || answer.status == C.BCS_FORMAT {
-		return nil, q.refusalOfViews(answer, all)
+		return nil, q.refusalOfViews(answer.fault, all)
 	}
 	return q.explanation(out, answer, data)
 }
 
-func (q *question) explainWith(form Form, lines, data []byte, out *C.uint8_t, length C.size_t) C.bcs_answer {
-	return C.bcs_handle_explain_with(q.handle, at(q.format), size(q.format), q.depth, q.nodes, C.uint32_t(form)+C.BCS_NOTES, at(lines),
-		size(lines), at(data), size(data), out, length)
-}
-
 // refusalOfViews returns the error for the format of the value, if it is refused, or else for the first view that is refused.
-func (q *question) refusalOfViews(answer C.bcs_answer, views []view) error {
-	err := q.refusalOfFormat(answer, q.format)
+func (q *question) refusalOfViews(fault C.uint32_t, views []view) error {
+	err := q.refusalOfFormat(fault, q.format)
 	if refused, is := err.(*Error); !is || refused.Message != "" {
 		return err
 	}
 	for _, v := range views {
-		alone := q.explainWith(FormJSON, []byte(v.line()), nil, nil, 0)
+		alone := q.ask(q.explains(nil, C.BCS_JSON, []byte(v.line())), nil)
 		switch alone.status {
 		case C.BCS_PATH:
 			return badView(v.name, v.word+": expected a name such as .payload.args[1]")
 		case C.BCS_FORMAT:
-			return q.refusalOfView(alone, v)
+			return q.refusalOfView(alone.fault, v)
 		}
 	}
-	return newError(KindFormat, answer)
+	return newError(KindFormat, fault)
 }
 
 // refusalOfView returns the error for a view whose format, function or container isn't in the registry.
-func (q *question) refusalOfView(answer C.bcs_answer, v view) error {
-	err := q.refusalOfFormat(answer, v.format)
+func (q *question) refusalOfView(fault C.uint32_t, v view) error {
+	err := q.refusalOfFormat(fault, v.format)
 	if refused, is := err.(*Error); is {
 		if v.format == nil {
 			refused.Message = v.missing
@@ -79,13 +72,6 @@ func (q *question) refusalOfView(answer C.bcs_answer, v view) error {
 		refused.Message = v.word + " " + v.name + ": " + refused.Message
 	}
 	return err
-}
-
-// refusalOfFormat returns the error for a format, without a message if it isn't the one that is refused.
-func (q *question) refusalOfFormat(answer C.bcs_answer, format []byte) error {
-	return refusalOf(KindFormat, answer, func(out *C.uint8_t, length C.size_t) C.bcs_answer {
-		return C.bcs_handle_format_place(q.handle, at(format), size(format), out, length)
-	})
 }
 
 // view is one of the views, as C takes it.
@@ -153,7 +139,7 @@ func endsOutsideQuotes(name string) bool {
 }
 
 func badView(name, message string) error {
-	refused := badPath(C.bcs_answer{fault: C.BCS_PATH_BAD_PATH}, message)
+	refused := badPath(C.BCS_PATH_BAD_PATH, message)
 	refused.At = name
 	return refused
 }
