@@ -1,7 +1,15 @@
 //! What the library answers, as results: outputs, refusals with their location, and texts.
 use crate::error::{Error, ErrorKind};
 use crate::places::location_and_message;
-use crate::sys::{self, Answer};
+use crate::sys::{self, Answer, Open, Question};
+
+/// Most refusals say no more than that.
+const ROOM_OF_MESSAGE: usize = 256;
+
+/// Asks what has no output.
+pub(crate) fn ask(open: Option<&Open>, question: &Question) -> Result<Answer, Error> {
+    ask_with(open, question, &mut [], &mut [0; ROOM_OF_MESSAGE])
+}
 
 /// The answer of a call that is done.
 pub(crate) fn done(answer: Answer) -> Result<Answer, Error> {
@@ -20,20 +28,24 @@ pub(crate) fn done_unless_no(answer: Answer) -> Result<Option<Answer>, Error> {
 }
 
 /// The output of a call that is done.
-pub(crate) fn fill(room: usize, call: impl Fn(&mut [u8]) -> Answer) -> Result<(Vec<u8>, Answer), Error> {
-    let (out, answer) = put(room, call)?;
+pub(crate) fn fill(open: Option<&Open>, question: &Question, room: usize) -> Result<(Vec<u8>, Answer), Error> {
+    let (out, answer) = put(open, question, room)?;
     Ok((out, done(answer)?))
 }
 
-/// Makes a call with an output of `room` bytes, and, if that is too short, once more with as many as it needs.
-fn put(room: usize, call: impl Fn(&mut [u8]) -> Answer) -> Result<(Vec<u8>, Answer), Error> {
+/// The error with the location and the message that this question's output has, if it has one.
+pub(crate) fn found(error: Error, open: Option<&Open>, question: &Question) -> Error {
+    let report = put(open, question, ROOM_OF_MESSAGE).ok().filter(|(_, answer)| answer.status == sys::DONE);
+    error.found(report.and_then(|(report, _)| location_and_message(&report)))
+}
+
+/// Asks with an output of `room` bytes, and, if that is too short, once more with as many as it needs.
+fn put(open: Option<&Open>, question: &Question, room: usize) -> Result<(Vec<u8>, Answer), Error> {
     let mut out = Vec::new();
     let mut room = room;
     loop {
-        let missing = room.saturating_sub(out.len());
-        out.try_reserve_exact(missing).map_err(|_| ErrorKind::Memory)?;
-        out.resize(room, 0);
-        let answer = call(&mut out);
+        extend(&mut out, room)?;
+        let answer = ask_with(open, question, &mut out, &mut [0; ROOM_OF_MESSAGE])?;
         if answer.status != sys::SHORT {
             out.truncate(answer.length);
             return Ok((out, answer));
@@ -42,16 +54,28 @@ fn put(room: usize, call: impl Fn(&mut [u8]) -> Answer) -> Result<(Vec<u8>, Answ
     }
 }
 
-/// What a call writes about a refusal, if it does.
-fn written(call: impl Fn(&mut [u8]) -> Answer) -> Option<String> {
-    let (text, answer) = put(200, call).ok()?;
-    (answer.status == sys::DONE).then(|| into_text(text))
+/// Asks, and if a refusal has a longer message, once more with as much room as that needs, if there is memory.
+fn ask_with(open: Option<&Open>, question: &Question, out: &mut [u8], message: &mut [u8]) -> Result<Answer, Error> {
+    let answer = sys::ask(open, question, out, message);
+    match answer.status {
+        sys::DONE | sys::SHORT | sys::NO => Ok(answer),
+        sys::REFUSED if answer.length > message.len() => {
+            let mut longer = Vec::new();
+            match extend(&mut longer, answer.length) {
+                Ok(()) => ask_with(open, question, out, &mut longer),
+                Err(_) => Err(Error::of(answer)),
+            }
+        }
+        sys::REFUSED => Err(Error::of(answer).found(location_and_message(&message[..answer.length]))),
+        _ => Err(Error::of(answer)),
+    }
 }
 
-/// The error with the location and the message that a call reports.
-pub(crate) fn found(error: Error, call: impl Fn(&mut [u8]) -> Answer) -> Error {
-    let found = written(call).and_then(|report| location_and_message(&report));
-    error.found(found)
+/// Makes the room that long, if there is memory.
+fn extend(room: &mut Vec<u8>, length: usize) -> Result<(), Error> {
+    room.try_reserve_exact(length.saturating_sub(room.len())).map_err(|_| ErrorKind::Memory)?;
+    room.resize(length, 0);
+    Ok(())
 }
 
 /// A text of the library.

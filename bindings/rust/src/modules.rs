@@ -1,7 +1,7 @@
-use crate::answers::{fill, found, into_text};
+use crate::answers::{fill, into_text};
 use crate::error::{Error, ErrorKind};
 use crate::faults::ModulesFault;
-use crate::sys;
+use crate::sys::{Call, Question};
 
 /// A registry that was made from modules of a Move chain.
 #[derive(Clone, Debug, PartialEq, Eq)]
@@ -36,12 +36,8 @@ pub fn registry_of_modules(
     types: impl IntoIterator<Item = impl AsRef<str>>,
 ) -> Result<MadeRegistry, Error> {
     let (modules, types) = (modules.as_ref(), lines_of(types)?);
-    let made = fill(4096, |out| sys::registry_of_modules(modules, types.as_bytes(), out));
-    let (output, _) = made.map_err(|error| match error.kind() {
-        ErrorKind::Modules(_) => found(error, |out| sys::modules_place(modules, types.as_bytes(), out)),
-        _ => error,
-    })?;
-    let text = into_text(output);
+    let question = Question::new(Call::RegistryOfModules).first(modules).second(types.as_bytes());
+    let text = into_text(fill(None, &question, 4096)?.0);
     // (the JSON has no line feed)
     let (json, notes) = text.split_once('\n').unwrap_or((&text, ""));
     Ok(MadeRegistry { json: json.to_owned(), notes: notes.to_owned() })

@@ -2,8 +2,9 @@
 
 /// The location and the message of a report, which has a NUL between them. A name in the location may contain others. A report is
 /// empty if there is nothing to say besides the fault.
-pub(crate) fn location_and_message(report: &str) -> Option<(String, String)> {
-    let (at, message) = report.rsplit_once('\0')?;
+pub(crate) fn location_and_message(report: &[u8]) -> Option<(String, String)> {
+    let text = std::str::from_utf8(report).expect("texts of the library are UTF-8");
+    let (at, message) = text.rsplit_once('\0')?;
     Some((at.to_owned(), message.to_owned()))
 }
 
@@ -21,7 +22,7 @@ mod tests {
         ];
         for (report, expected) in rows {
             let expected = expected.map(|(at, message)| (at.to_owned(), message.to_owned()));
-            assert_eq!(location_and_message(report), expected, "{report}");
+            assert_eq!(location_and_message(report.as_bytes()), expected, "{report}");
         }
     }
 }

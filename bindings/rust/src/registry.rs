@@ -1,10 +1,10 @@
-use crate::answers::{done, done_unless_no, fill, found, into_text};
+use crate::answers::{ask, done, done_unless_no, fill, found, into_text};
 use crate::error::{Error, ErrorKind, stop};
 use crate::explanation::{Explanation, Form, Pieces};
 use crate::format::Format;
 use crate::json;
 use crate::limits::Limits;
-use crate::sys::{self, Answer, Open, Question};
+use crate::sys::{self, Answer, Call, Open, Question};
 use crate::views::{EXPECTED_NAME, View, Views};
 use std::collections::HashSet;
 use std::fmt;
@@ -42,8 +42,8 @@ impl Registry {
     /// ```
     pub fn read(text: impl AsRef<[u8]>) -> Result<Registry, Error> {
         let text = text.as_ref();
-        let refused = |answer| found(Error::of(answer), |out| sys::registry_refusal(text, out));
-        let open = Open::read(text).map_err(refused)?;
+        let refusal = Question::new(Call::RegistryRefusal).first(text);
+        let open = Open::read(text).map_err(|answer| found(Error::of(answer), None, &refusal))?;
         Ok(Registry {
             open: Arc::new(open),
             limits: Limits::default(),
@@ -99,7 +99,7 @@ impl Registry {
     /// ```
     pub fn check(&self, format: impl Into<Format>) -> Result<(), Error> {
         let format = format.into();
-        done(self.open.check(self.of_text(&format))).map(drop).map_err(|error| self.in_format(error, &format))
+        done(self.answer(&self.of_text(Call::Check, &format))?).map(drop)
     }
 
     /// Says whether a newer registry keeps all that this one has, so that every old value stays one. Enums may have more
@@ -115,8 +115,7 @@ impl Registry {
     /// # Ok::<(), Error>(())
     /// ```
     pub fn grows(&self, newer: &Registry) -> Result<(), Error> {
-        let grown = done(self.open.grows(&newer.open)).map(drop);
-        grown.map_err(|error| found(error, |out| self.open.growth_place(&newer.open, out)))
+        done(ask(None, &self.with_newer(Call::Grows, newer))?).map(drop)
     }
 
     /// All differences from this registry to a newer one, a line for each, as `bcs grows --list` prints them.
@@ -129,8 +128,12 @@ impl Registry {
     /// # Ok::<(), bcs_proved::Error>(())
     /// ```
     pub fn differences(&self, newer: &Registry) -> Result<Vec<String>, Error> {
-        let (text, _) = fill(1024, |out| self.open.growth_list(&newer.open, out))?;
+        let (text, _) = fill(None, &self.with_newer(Call::GrowthList, newer), 1024)?;
         Ok(into_text(text).lines().map(String::from).collect())
+    }
+
+    fn with_newer<'a>(&'a self, call: Call, newer: &'a Registry) -> Question<'a> {
+        Question::new(call).first(self.open.text()).second(newer.open.text())
     }
 
     /// A JSON Schema of the JSON of the format's values.
@@ -142,8 +145,7 @@ impl Registry {
     /// ```
     pub fn schema(&self, format: impl Into<Format>) -> Result<String, Error> {
         let format = format.into();
-        let made = fill(4096, |out| self.open.schema(self.of_text(&format), out));
-        Ok(into_text(made.map_err(|error| self.in_format(error, &format))?.0))
+        Ok(into_text(self.output(&self.of_text(Call::Schema, &format), 4096)?.0))
     }
 
     /// The JSON text of a value of the format, to start from, as `bcs example` prints it.
@@ -159,8 +161,8 @@ impl Registry {
     pub fn example(&self, format: impl Into<Format>, example: Example) -> Result<String, Error> {
         let format = format.into();
         let form = if example.full { sys::FULL } else { sys::LEAST };
-        let made = fill(1024, |out| self.open.example(self.of_text(&format), form, example.variant.as_bytes(), out));
-        Ok(into_text(made.map_err(|error| self.in_format(error, &format))?.0))
+        let question = self.of_text(Call::Example, &format).number(form).second(example.variant.as_bytes());
+        Ok(into_text(self.output(&question, 1024)?.0))
     }
 
     /// The registry in readable form, as `bcs show` prints it; or only the container of this name with what it depends on.
@@ -186,7 +188,7 @@ impl Registry {
     }
 
     fn shown(&self, form: u32, name: &str) -> Result<String, Error> {
-        let shown = fill(4096, |out| self.open.show(form, name.as_bytes(), out));
+        let shown = fill(Some(&self.open), &Question::new(Call::Show).number(form).second(name.as_bytes()), 4096);
         let missing = || Some((String::new(), format!("no container is called {name}")));
         let refused = |error: Error| if error.reason().is_some() { error.found(missing()) } else { error };
         Ok(into_text(shown.map_err(refused)?.0))
@@ -206,8 +208,7 @@ impl Registry {
         let (format, text) = (format.into(), text.as_ref());
         // Digits and names make most texts longer than their bytes.
         let room = text.len().saturating_add(64);
-        let encoded = fill(room, |out| self.open.encode(self.of_text(&format), text, out));
-        Ok(encoded.map_err(|error| self.in_text(error, &format, text))?.0)
+        Ok(self.output(&self.of_text(Call::ToBcs, &format).first(text), room)?.0)
     }
 
     /// The one normal JSON text of the value whose bytes these are, all of them.
@@ -223,8 +224,7 @@ impl Registry {
     pub fn decode_json(&self, format: impl Into<Format>, bytes: impl AsRef<[u8]>) -> Result<String, Error> {
         let (format, bytes) = (format.into(), bytes.as_ref());
         let room = bytes.len().saturating_mul(4).saturating_add(256);
-        let decoded = fill(room, |out| self.open.decode(self.of_bytes(&format, bytes), bytes, out));
-        Ok(into_text(decoded.map_err(|error| self.in_bytes(error, &format, bytes))?.0))
+        Ok(into_text(self.output(&self.of_bytes(Call::FromBcs, &format, bytes), room)?.0))
     }
 
     /// The normal JSON text of the value at the beginning of the bytes, and how many bytes it has. What follows isn't read.
@@ -265,8 +265,7 @@ impl Registry {
     pub fn normalise_json(&self, format: impl Into<Format>, text: impl AsRef<[u8]>) -> Result<String, Error> {
         let (format, text) = (format.into(), text.as_ref());
         let room = text.len().saturating_add(64);
-        let normal = fill(room, |out| self.open.normalise(self.of_text(&format), text, out));
-        Ok(into_text(normal.map_err(|error| self.in_text(error, &format, text))?.0))
+        Ok(into_text(self.output(&self.of_text(Call::Normalise, &format).first(text), room)?.0))
     }
 
     /// Whether two JSON texts denote equal values, which are those with equal bytes.
@@ -287,12 +286,8 @@ impl Registry {
         second: impl AsRef<[u8]>,
     ) -> Result<bool, Error> {
         let (format, first, second) = (format.into(), first.as_ref(), second.as_ref());
-        let answer = self.open.equal(self.of_text(&format), first, second);
-        let compared = done_unless_no(answer).map_err(|error| {
-            let in_first = self.in_text(error.clone(), &format, first);
-            if in_first.at().is_some() { in_first } else { self.in_text(error, &format, second) }
-        });
-        Ok(compared?.is_some())
+        let question = self.of_text(Call::Compare, &format).first(first).second(second);
+        Ok(done_unless_no(self.answer(&question)?)?.is_some())
     }
 
     /// How many bytes the value at the front has. Any may stand behind it.
@@ -306,8 +301,7 @@ impl Registry {
     /// ```
     pub fn scan(&self, format: impl Into<Format>, bytes: impl AsRef<[u8]>) -> Result<usize, Error> {
         let (format, bytes) = (format.into(), bytes.as_ref());
-        let answer = done(self.open.scan(self.of_bytes(&format, bytes), bytes));
-        Ok(answer.map_err(|error| self.in_bytes(error, &format, bytes))?.length)
+        Ok(done(self.answer(&self.of_bytes(Call::Scan, &format, bytes))?)?.length)
     }
 
     /// The part of the value at the front to which a path leads, or `None` where it leads nowhere.
@@ -332,9 +326,7 @@ impl Registry {
         bytes: &'b (impl AsRef<[u8]> + ?Sized),
         path: impl AsRef<[u8]>,
     ) -> Result<Option<Part<'b>>, Error> {
-        let (format, bytes, path) = (format.into(), bytes.as_ref(), path.as_ref());
-        let answer = self.open.part(self.of_bytes(&format, bytes), bytes, path);
-        self.part_of(answer, &format, bytes, sys::STEPS, path)
+        self.find(Call::Part, &format.into(), bytes.as_ref(), sys::STEPS, path.as_ref())
     }
 
     /// Like [`Registry::part`], with the name of the part, as [`Registry::explain`] prints it. `.` is the whole value.
@@ -354,7 +346,7 @@ impl Registry {
         bytes: &'b (impl AsRef<[u8]> + ?Sized),
         name: impl AsRef<[u8]>,
     ) -> Result<Option<Part<'b>>, Error> {
-        self.part_named(&format.into(), bytes.as_ref(), sys::NAME, name.as_ref())
+        self.find(Call::PartNamed, &format.into(), bytes.as_ref(), sys::NAME, name.as_ref())
     }
 
     /// Like [`Registry::part`], with a JSON Pointer into the value's JSON, such as `/payload/args/0`. An empty one is the
@@ -374,18 +366,7 @@ impl Registry {
         bytes: &'b (impl AsRef<[u8]> + ?Sized),
         pointer: impl AsRef<[u8]>,
     ) -> Result<Option<Part<'b>>, Error> {
-        self.part_named(&format.into(), bytes.as_ref(), sys::POINTER, pointer.as_ref())
-    }
-
-    fn part_named<'b>(
-        &self,
-        format: &Format,
-        bytes: &'b [u8],
-        notation: u32,
-        name: &[u8],
-    ) -> Result<Option<Part<'b>>, Error> {
-        let answer = self.open.part_named(self.of_bytes(format, bytes), notation, name, bytes);
-        self.part_of(answer, format, bytes, notation, name)
+        self.find(Call::PartNamed, &format.into(), bytes.as_ref(), sys::POINTER, pointer.as_ref())
     }
 
     /// The content of the byte string to which a path leads: its bytes without the length before them. The part has to be of
@@ -408,7 +389,7 @@ impl Registry {
         bytes: &'b (impl AsRef<[u8]> + ?Sized),
         path: impl AsRef<[u8]>,
     ) -> Result<Option<Part<'b>>, Error> {
-        self.content_named(&format.into(), bytes.as_ref(), sys::STEPS, path.as_ref())
+        self.find(Call::Content, &format.into(), bytes.as_ref(), sys::STEPS, path.as_ref())
     }
 
     /// Like [`Registry::content`], with the name of the part, as [`Registry::explain`] prints it.
@@ -425,7 +406,7 @@ impl Registry {
         bytes: &'b (impl AsRef<[u8]> + ?Sized),
         name: impl AsRef<[u8]>,
     ) -> Result<Option<Part<'b>>, Error> {
-        self.content_named(&format.into(), bytes.as_ref(), sys::NAME, name.as_ref())
+        self.find(Call::Content, &format.into(), bytes.as_ref(), sys::NAME, name.as_ref())
     }
 
     /// Like [`Registry::content`], with a JSON Pointer into the value's JSON.
@@ -442,36 +423,26 @@ impl Registry {
         bytes: &'b (impl AsRef<[u8]> + ?Sized),
         pointer: impl AsRef<[u8]>,
     ) -> Result<Option<Part<'b>>, Error> {
-        self.content_named(&format.into(), bytes.as_ref(), sys::POINTER, pointer.as_ref())
+        self.find(Call::Content, &format.into(), bytes.as_ref(), sys::POINTER, pointer.as_ref())
     }
 
-    fn content_named<'b>(
+    /// The part that has this name, if it leads to one.
+    fn find<'b>(
         &self,
+        call: Call,
         format: &Format,
         bytes: &'b [u8],
         notation: u32,
         name: &[u8],
     ) -> Result<Option<Part<'b>>, Error> {
-        let answer = self.open.content(self.of_bytes(format, bytes), notation, name, bytes);
-        self.part_of(answer, format, bytes, notation, name)
-    }
-
-    /// The part that a call found by this name, or its error.
-    fn part_of<'b>(
-        &self,
-        answer: Answer,
-        format: &Format,
-        bytes: &'b [u8],
-        notation: u32,
-        name: &[u8],
-    ) -> Result<Option<Part<'b>>, Error> {
-        let part = done_unless_no(answer).map_err(|error| match (error.kind(), notation) {
-            (ErrorKind::Path, sys::STEPS) => found(error, |out| sys::path_place(name, out)),
+        let question = self.of_bytes(call, format, bytes).number(notation).second(name);
+        let answer = self.answer(&question).map_err(|error| match (error.kind(), notation) {
+            (ErrorKind::Path, sys::STEPS) => found(error, None, &Question::new(Call::PathPlace).second(name)),
             (ErrorKind::Path, sys::NAME) => error.expected("a name such as .payload.args[1]"),
             (ErrorKind::Path, _) => error.expected("a JSON Pointer such as /payload/args/1"),
-            _ => self.in_bytes(error, format, bytes),
-        });
-        Ok(part?.map(|answer| Part::of(answer, bytes)))
+            _ => error,
+        })?;
+        Ok(done_unless_no(answer)?.map(|answer| Part::of(answer, bytes)))
     }
 
     /// The bytes, piece by piece. Invalid bytes aren't an error here: the stop follows the pieces before it.
@@ -509,11 +480,13 @@ impl Registry {
         form: Form,
     ) -> Result<Explanation, Error> {
         let (format, bytes) = (format.into(), bytes.as_ref());
+        self.explained(&self.of_bytes(Call::Explain, &format, bytes).number(form.number()), bytes.len())
+    }
+
+    fn explained(&self, question: &Question, length: usize) -> Result<Explanation, Error> {
         // A line of some 110 characters describes at least one byte, and mostly more.
-        let room = bytes.len().saturating_mul(24).saturating_add(1024);
-        let question = self.of_bytes(&format, bytes);
-        let explained = fill(room, |out| self.open.explain(question, form.number(), bytes, out));
-        let (text, answer) = explained.map_err(|error| self.in_format(error, &format))?;
+        let room = length.saturating_mul(24).saturating_add(1024);
+        let (text, answer) = self.output(question, room)?;
         Ok(Explanation { text: into_text(text), stop: stop(answer) })
     }
 
@@ -548,12 +521,8 @@ impl Registry {
         views: &Views,
     ) -> Result<Explanation, Error> {
         let (format, bytes, lines) = (format.into(), bytes.as_ref(), views.lines()?);
-        let room = bytes.len().saturating_mul(24).saturating_add(1024);
-        let question = self.of_bytes(&format, bytes);
-        let form = form.number() + sys::NOTES;
-        let explained = fill(room, |out| self.open.explain_with(question, form, &lines, bytes, out));
-        let (text, answer) = explained.map_err(|error| self.in_views(error, question, &format, views))?;
-        Ok(Explanation { text: into_text(text), stop: stop(answer) })
+        let question = self.of_bytes(Call::Explain, &format, bytes).number(form.number() + sys::NOTES).views(&lines);
+        self.explained(&question, bytes.len()).map_err(|error| self.in_views(error, &format, views))
     }
 
     /// The registry's JSON text.
@@ -561,68 +530,59 @@ impl Registry {
         std::str::from_utf8(self.open.text()).expect("a registry is read from UTF-8")
     }
 
-    /// The error of a text, with where it is rejected.
-    fn in_text(&self, error: Error, format: &Format, text: &[u8]) -> Error {
-        match error.kind() {
-            ErrorKind::Text(_) => found(error, |out| self.open.text_refusal(self.of_text(format), text, out)),
-            _ => self.in_format(error, format),
-        }
+    /// The answer to a question about a format, which has no output.
+    fn answer(&self, question: &Question) -> Result<Answer, Error> {
+        ask(Some(&self.open), question).map_err(|error| self.in_format(error, question))
     }
 
-    /// The error of bytes, with the field path to where they stop.
-    fn in_bytes(&self, error: Error, format: &Format, bytes: &[u8]) -> Error {
-        match error.kind() {
-            ErrorKind::Bytes(_) => {
-                let question = self.of_bytes(format, bytes);
-                found(error, |out| self.open.stop_refusal(question, bytes, out))
-            }
-            _ => self.in_format(error, format),
-        }
+    /// The output for a question about a format, and the answer.
+    fn output(&self, question: &Question, room: usize) -> Result<(Vec<u8>, Answer), Error> {
+        fill(Some(&self.open), question, room).map_err(|error| self.in_format(error, question))
     }
 
-    /// The error of a format, with where it is rejected. Any other stays as it is.
-    fn in_format(&self, error: Error, format: &Format) -> Error {
+    /// The error of the question's format, with where it is rejected. Any other stays as it is.
+    fn in_format(&self, error: Error, question: &Question) -> Error {
         match error.kind() {
-            ErrorKind::Format(_) => found(error, |out| self.open.format_place(format.as_json(), out)),
+            ErrorKind::Format(_) => found(error, Some(&self.open), &question.about_format()),
             _ => error,
         }
     }
 
-    /// The error of the format, or if that isn't refused, of the first view that is.
-    fn in_views(&self, error: Error, question: Question, format: &Format, views: &Views) -> Error {
-        let error = self.in_format(error, format);
+    /// The error of the value's format, or if that isn't refused, of the first view that is.
+    fn in_views(&self, error: Error, format: &Format, views: &Views) -> Error {
         let is_of_view = match error.kind() {
             ErrorKind::Path => true,
             ErrorKind::Format(_) => error.at().is_none(),
             _ => false,
         };
-        let refused = is_of_view.then(|| views.iter().find_map(|view| self.in_view(question, view)));
+        let refused = is_of_view.then(|| views.iter().find_map(|view| self.in_view(format, view)));
         refused.flatten().unwrap_or(error)
     }
 
     /// The error of a view, if it is refused alone.
-    fn in_view(&self, question: Question, view: &View) -> Option<Error> {
+    fn in_view(&self, format: &Format, view: &View) -> Option<Error> {
         let line = view.line();
-        let alone = fill(1024, |out| self.open.explain_with(question, Form::Json.number(), &line, &[], out));
-        let error = alone.err()?;
+        let alone = self.of_bytes(Call::Explain, format, &[]).views(&line);
+        let error = fill(Some(&self.open), &alone, 1024).err()?;
         match (error.kind(), view.format()) {
             (ErrorKind::Path, _) => Some(view.refused_name(EXPECTED_NAME)),
-            (ErrorKind::Format(_), Some(format)) => Some(view.refused(self.in_format(error, format))),
+            (ErrorKind::Format(_), Some(format)) => {
+                Some(view.refused(self.in_format(error, &self.of_text(Call::Check, format))))
+            }
             (ErrorKind::Format(_), None) => Some(view.refused(error)),
             _ => None,
         }
     }
 
-    /// The parameters of a call that reads JSON.
-    fn of_text<'a>(&self, format: &'a Format) -> Question<'a> {
-        let Limits { depth, .. } = self.limits;
-        Question { format: format.as_json(), depth, nodes: self.limits.nodes_of_text() }
+    /// A question that reads JSON, or no input.
+    fn of_text<'a>(&self, call: Call, format: &'a Format) -> Question<'a> {
+        Question::new(call).format(format.as_json()).limits(self.limits.depth, self.limits.nodes_of_text())
     }
 
-    /// The parameters of a call that reads these bytes.
-    fn of_bytes<'a>(&self, format: &'a Format, bytes: &[u8]) -> Question<'a> {
-        let Limits { depth, .. } = self.limits;
-        Question { format: format.as_json(), depth, nodes: self.nodes_of_bytes(bytes.len()) }
+    /// A question that reads these bytes.
+    fn of_bytes<'a>(&self, call: Call, format: &'a Format, bytes: &'a [u8]) -> Question<'a> {
+        let nodes = self.nodes_of_bytes(bytes.len());
+        Question::new(call).format(format.as_json()).limits(self.limits.depth, nodes).first(bytes)
     }
 
     /// How many nodes a value may have that is read from this many bytes.

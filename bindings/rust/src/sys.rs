@@ -1,6 +1,10 @@
 //! The library's calls, as its header `bcs.h` declares them, over slices. This module holds all unsafe code of the crate.
 #![allow(unsafe_code)]
 
+#[cfg(test)]
+use std::ffi::c_char;
+use std::marker::PhantomData;
+use std::mem::offset_of;
 use std::ptr::{self, NonNull};
 
 // How a call went: `enum bcs_status`.
@@ -36,6 +40,33 @@ pub(crate) const POINTER: u32 = 2;
 pub(crate) const SHOWN_TOO_NESTED: u32 = 501;
 pub(crate) const NO_CONTENT: u32 = 602;
 
+/// `enum bcs_call`: what is asked.
+#[repr(u32)]
+#[derive(Clone, Copy, Debug)]
+pub(crate) enum Call {
+    Check = 1,
+    ToBcs = 2,
+    FromBcs = 3,
+    Normalise = 4,
+    Compare = 5,
+    Scan = 6,
+    Part = 7,
+    PartNamed = 8,
+    Content = 9,
+    Explain = 10,
+    Schema = 13,
+    Example = 14,
+    Show = 20,
+    FormatPlace = 21,
+    Grows = 30,
+    GrowthList = 31,
+    RegistryRefusal = 33,
+    PathPlace = 34,
+    RegistryOfModules = 35,
+    #[cfg(test)]
+    FaultName = 37,
+}
+
 /// `bcs_handle`: an open registry. Only the library looks inside.
 #[repr(C)]
 struct Handle {
@@ -52,229 +83,118 @@ pub(crate) struct Answer {
     pub(crate) length: usize,
 }
 
+/// A slice as C has it. Only a slice becomes one, so these bytes are borrowed.
+#[repr(C)]
+#[derive(Clone, Copy)]
+struct Bytes<'a> {
+    start: *const u8,
+    length: usize,
+    slice: PhantomData<&'a [u8]>,
+}
+
+impl<'a> From<&'a [u8]> for Bytes<'a> {
+    fn from(slice: &'a [u8]) -> Bytes<'a> {
+        Bytes { start: slice.as_ptr(), length: slice.len(), slice: PhantomData }
+    }
+}
+
+/// `bcs_question`: what a call is asked. What it doesn't use is 0 and empty.
+#[repr(C)]
+#[derive(Clone, Copy)]
+pub(crate) struct Question<'a> {
+    size: u32,
+    call: Call,
+    number: u32,
+    second_number: u32,
+    depth: u32,
+    nodes: u32,
+    format: Bytes<'a>,
+    first: Bytes<'a>,
+    second: Bytes<'a>,
+    views: Bytes<'a>,
+}
+
+// The header's offsets: six numbers, and then pointers with their lengths.
+const WORD: usize = size_of::<usize>();
+const _: () = assert!(offset_of!(Question, size) == 0);
+const _: () = assert!(offset_of!(Question, call) == 4);
+const _: () = assert!(offset_of!(Question, number) == 8);
+const _: () = assert!(offset_of!(Question, second_number) == 12);
+const _: () = assert!(offset_of!(Question, depth) == 16);
+const _: () = assert!(offset_of!(Question, nodes) == 20);
+const _: () = assert!(offset_of!(Question, format) == 24);
+const _: () = assert!(offset_of!(Question, first) == 24 + 2 * WORD);
+const _: () = assert!(offset_of!(Question, second) == 24 + 4 * WORD);
+const _: () = assert!(offset_of!(Question, views) == 24 + 6 * WORD);
+const _: () = assert!(offset_of!(Bytes, start) == 0 && offset_of!(Bytes, length) == WORD);
+const _: () = assert!(size_of::<Question>() == 24 + 8 * WORD);
+
+impl<'a> Question<'a> {
+    pub(crate) fn new(call: Call) -> Question<'a> {
+        let (size, none) = (size_of::<Question>() as u32, Bytes::from(&[][..]));
+        let (number, second_number, depth, nodes) = (0, 0, 0, 0);
+        Question {
+            size,
+            call,
+            number,
+            second_number,
+            depth,
+            nodes,
+            format: none,
+            first: none,
+            second: none,
+            views: none,
+        }
+    }
+
+    /// The question where this one's format is refused.
+    pub(crate) fn about_format(self) -> Question<'a> {
+        Question { format: self.format, ..Question::new(Call::FormatPlace) }
+    }
+
+    /// The same question with a form, a notation or a fault.
+    pub(crate) fn number(self, number: u32) -> Question<'a> {
+        Question { number, ..self }
+    }
+
+    pub(crate) fn limits(self, depth: u32, nodes: u32) -> Question<'a> {
+        Question { depth, nodes, ..self }
+    }
+
+    pub(crate) fn format(self, format: &'a [u8]) -> Question<'a> {
+        Question { format: format.into(), ..self }
+    }
+
+    /// The same question with an input.
+    pub(crate) fn first(self, input: &'a [u8]) -> Question<'a> {
+        Question { first: input.into(), ..self }
+    }
+
+    /// The same question with another input, a path, or a name.
+    pub(crate) fn second(self, input: &'a [u8]) -> Question<'a> {
+        Question { second: input.into(), ..self }
+    }
+
+    /// The same question with views, a line for each.
+    pub(crate) fn views(self, lines: &'a [u8]) -> Question<'a> {
+        Question { views: lines.into(), ..self }
+    }
+}
+
 unsafe extern "C" {
     fn bcs_open(handle: *mut *mut Handle, registry: *const u8, registry_length: usize) -> Answer;
     fn bcs_close(handle: *mut Handle);
+    fn bcs_ask(
+        handle: *mut Handle,
+        question: *const Question,
+        out: *mut u8,
+        out_length: usize,
+        message: *mut u8,
+        message_length: usize,
+    ) -> Answer;
     fn bcs_handle_nodes_for(handle: *const Handle, bytes_length: usize) -> u32;
-    fn bcs_grows(older: *const u8, older_length: usize, newer: *const u8, newer_length: usize) -> Answer;
-    fn bcs_handle_check(handle: *mut Handle, format: *const u8, format_length: usize, depth: u32, nodes: u32)
-    -> Answer;
-    fn bcs_handle_to_bcs(
-        handle: *mut Handle,
-        format: *const u8,
-        format_length: usize,
-        depth: u32,
-        nodes: u32,
-        text: *const u8,
-        text_length: usize,
-        out: *mut u8,
-        out_length: usize,
-    ) -> Answer;
-    fn bcs_handle_from_bcs(
-        handle: *mut Handle,
-        format: *const u8,
-        format_length: usize,
-        depth: u32,
-        nodes: u32,
-        bytes: *const u8,
-        bytes_length: usize,
-        out: *mut u8,
-        out_length: usize,
-    ) -> Answer;
-    fn bcs_handle_normalise(
-        handle: *mut Handle,
-        format: *const u8,
-        format_length: usize,
-        depth: u32,
-        nodes: u32,
-        text: *const u8,
-        text_length: usize,
-        out: *mut u8,
-        out_length: usize,
-    ) -> Answer;
-    fn bcs_handle_compare(
-        handle: *mut Handle,
-        format: *const u8,
-        format_length: usize,
-        depth: u32,
-        nodes: u32,
-        first: *const u8,
-        first_length: usize,
-        second: *const u8,
-        second_length: usize,
-    ) -> Answer;
-    fn bcs_handle_scan(
-        handle: *mut Handle,
-        format: *const u8,
-        format_length: usize,
-        depth: u32,
-        nodes: u32,
-        bytes: *const u8,
-        bytes_length: usize,
-    ) -> Answer;
-    fn bcs_handle_part(
-        handle: *mut Handle,
-        format: *const u8,
-        format_length: usize,
-        depth: u32,
-        nodes: u32,
-        bytes: *const u8,
-        bytes_length: usize,
-        path: *const u8,
-        path_length: usize,
-    ) -> Answer;
-    fn bcs_handle_part_named(
-        handle: *mut Handle,
-        format: *const u8,
-        format_length: usize,
-        depth: u32,
-        nodes: u32,
-        notation: u32,
-        name: *const u8,
-        name_length: usize,
-        bytes: *const u8,
-        bytes_length: usize,
-    ) -> Answer;
-    fn bcs_handle_content(
-        handle: *mut Handle,
-        format: *const u8,
-        format_length: usize,
-        depth: u32,
-        nodes: u32,
-        notation: u32,
-        name: *const u8,
-        name_length: usize,
-        bytes: *const u8,
-        bytes_length: usize,
-    ) -> Answer;
-    fn bcs_handle_explain_with(
-        handle: *mut Handle,
-        format: *const u8,
-        format_length: usize,
-        depth: u32,
-        nodes: u32,
-        form: u32,
-        views: *const u8,
-        views_length: usize,
-        bytes: *const u8,
-        bytes_length: usize,
-        out: *mut u8,
-        out_length: usize,
-    ) -> Answer;
-    fn bcs_handle_explain(
-        handle: *mut Handle,
-        format: *const u8,
-        format_length: usize,
-        depth: u32,
-        nodes: u32,
-        form: u32,
-        bytes: *const u8,
-        bytes_length: usize,
-        out: *mut u8,
-        out_length: usize,
-    ) -> Answer;
-    fn bcs_handle_text_refusal(
-        handle: *mut Handle,
-        format: *const u8,
-        format_length: usize,
-        depth: u32,
-        nodes: u32,
-        text: *const u8,
-        text_length: usize,
-        out: *mut u8,
-        out_length: usize,
-    ) -> Answer;
-    fn bcs_handle_stop_refusal(
-        handle: *mut Handle,
-        format: *const u8,
-        format_length: usize,
-        depth: u32,
-        nodes: u32,
-        bytes: *const u8,
-        bytes_length: usize,
-        out: *mut u8,
-        out_length: usize,
-    ) -> Answer;
-    fn bcs_handle_schema(
-        handle: *mut Handle,
-        format: *const u8,
-        format_length: usize,
-        depth: u32,
-        nodes: u32,
-        out: *mut u8,
-        out_length: usize,
-    ) -> Answer;
-    fn bcs_handle_example(
-        handle: *mut Handle,
-        format: *const u8,
-        format_length: usize,
-        depth: u32,
-        nodes: u32,
-        form: u32,
-        variant: *const u8,
-        variant_length: usize,
-        out: *mut u8,
-        out_length: usize,
-    ) -> Answer;
-    fn bcs_handle_show(
-        handle: *mut Handle,
-        form: u32,
-        name: *const u8,
-        name_length: usize,
-        out: *mut u8,
-        out_length: usize,
-    ) -> Answer;
-    fn bcs_handle_format_place(
-        handle: *mut Handle,
-        format: *const u8,
-        format_length: usize,
-        out: *mut u8,
-        out_length: usize,
-    ) -> Answer;
-    fn bcs_path_place(path: *const u8, path_length: usize, out: *mut u8, out_length: usize) -> Answer;
-    fn bcs_growth_list(
-        older: *const u8,
-        older_length: usize,
-        newer: *const u8,
-        newer_length: usize,
-        out: *mut u8,
-        out_length: usize,
-    ) -> Answer;
-    fn bcs_growth_place(
-        older: *const u8,
-        older_length: usize,
-        newer: *const u8,
-        newer_length: usize,
-        out: *mut u8,
-        out_length: usize,
-    ) -> Answer;
-    fn bcs_registry_refusal(registry: *const u8, registry_length: usize, out: *mut u8, out_length: usize) -> Answer;
-    fn bcs_registry_of_modules(
-        modules: *const u8,
-        modules_length: usize,
-        types: *const u8,
-        types_length: usize,
-        out: *mut u8,
-        out_length: usize,
-    ) -> Answer;
-    fn bcs_modules_place(
-        modules: *const u8,
-        modules_length: usize,
-        types: *const u8,
-        types_length: usize,
-        out: *mut u8,
-        out_length: usize,
-    ) -> Answer;
     #[cfg(test)]
-    fn bcs_fault_name(fault: u32, out: *mut u8, out_length: usize) -> Answer;
-}
-
-/// The parameters of a call, apart from the registry and the input.
-#[derive(Clone, Copy)]
-pub(crate) struct Question<'a> {
-    pub(crate) format: &'a [u8],
-    pub(crate) depth: u32,
-    pub(crate) nodes: u32,
+    fn bcs_version() -> *const c_char;
 }
 
 // What each `SAFETY` below relies on. The header allows any input for its calls if each pointer and length describe readable
@@ -302,20 +222,6 @@ impl Drop for Open {
     }
 }
 
-/// A call on an open registry: the parameters that all of them have, and then its own.
-macro_rules! ask {
-    ($call:ident($open:ident, $question:ident $(, $parameter:expr)*)) => {
-        $call(
-            $open.handle.as_ptr(),
-            $question.format.as_ptr(),
-            $question.format.len(),
-            $question.depth,
-            $question.nodes,
-            $($parameter),*
-        )
-    };
-}
-
 impl Open {
     pub(crate) fn read(text: &[u8]) -> Result<Open, Answer> {
         let mut handle = ptr::null_mut();
@@ -327,147 +233,10 @@ impl Open {
         }
     }
 
-    pub(crate) fn grows(&self, newer: &Open) -> Answer {
-        let (older, newer) = (&self.text, &newer.text);
-        // SAFETY: both slices are borrowed for the call.
-        unsafe { bcs_grows(older.as_ptr(), older.len(), newer.as_ptr(), newer.len()) }
-    }
-
     /// The default limit on the nodes of a value that is read from this many bytes.
     pub(crate) fn nodes_for(&self, length: usize) -> u32 {
         // SAFETY: the handle is open.
         unsafe { bcs_handle_nodes_for(self.handle.as_ptr(), length) }
-    }
-
-    pub(crate) fn check(&self, question: Question) -> Answer {
-        // SAFETY: the handle is open, and the slices are borrowed for the call.
-        unsafe { ask!(bcs_handle_check(self, question)) }
-    }
-
-    pub(crate) fn encode(&self, question: Question, text: &[u8], out: &mut [u8]) -> Answer {
-        // SAFETY: the handle is open, and the slices are borrowed for the call, `out` for writing.
-        unsafe { ask!(bcs_handle_to_bcs(self, question, text.as_ptr(), text.len(), out.as_mut_ptr(), out.len())) }
-    }
-
-    pub(crate) fn decode(&self, question: Question, bytes: &[u8], out: &mut [u8]) -> Answer {
-        // SAFETY: the handle is open, and the slices are borrowed for the call, `out` for writing.
-        unsafe { ask!(bcs_handle_from_bcs(self, question, bytes.as_ptr(), bytes.len(), out.as_mut_ptr(), out.len())) }
-    }
-
-    pub(crate) fn normalise(&self, question: Question, text: &[u8], out: &mut [u8]) -> Answer {
-        // SAFETY: the handle is open, and the slices are borrowed for the call, `out` for writing.
-        unsafe { ask!(bcs_handle_normalise(self, question, text.as_ptr(), text.len(), out.as_mut_ptr(), out.len())) }
-    }
-
-    pub(crate) fn equal(&self, question: Question, first: &[u8], second: &[u8]) -> Answer {
-        // SAFETY: the handle is open, and the slices are borrowed for the call.
-        unsafe { ask!(bcs_handle_compare(self, question, first.as_ptr(), first.len(), second.as_ptr(), second.len())) }
-    }
-
-    pub(crate) fn scan(&self, question: Question, bytes: &[u8]) -> Answer {
-        // SAFETY: the handle is open, and the slices are borrowed for the call.
-        unsafe { ask!(bcs_handle_scan(self, question, bytes.as_ptr(), bytes.len())) }
-    }
-
-    pub(crate) fn part(&self, question: Question, bytes: &[u8], path: &[u8]) -> Answer {
-        // SAFETY: the handle is open, and the slices are borrowed for the call.
-        unsafe { ask!(bcs_handle_part(self, question, bytes.as_ptr(), bytes.len(), path.as_ptr(), path.len())) }
-    }
-
-    pub(crate) fn part_named(&self, question: Question, notation: u32, name: &[u8], bytes: &[u8]) -> Answer {
-        let (name, length) = (name.as_ptr(), name.len());
-        // SAFETY: the handle is open, and the slices are borrowed for the call.
-        unsafe { ask!(bcs_handle_part_named(self, question, notation, name, length, bytes.as_ptr(), bytes.len())) }
-    }
-
-    pub(crate) fn content(&self, question: Question, notation: u32, name: &[u8], bytes: &[u8]) -> Answer {
-        let (name, length) = (name.as_ptr(), name.len());
-        // SAFETY: the handle is open, and the slices are borrowed for the call.
-        unsafe { ask!(bcs_handle_content(self, question, notation, name, length, bytes.as_ptr(), bytes.len())) }
-    }
-
-    pub(crate) fn explain_with(
-        &self,
-        question: Question,
-        form: u32,
-        views: &[u8],
-        bytes: &[u8],
-        out: &mut [u8],
-    ) -> Answer {
-        let (views, length) = (views.as_ptr(), views.len());
-        let (bytes, bytes_length) = (bytes.as_ptr(), bytes.len());
-        // SAFETY: the handle is open, and the slices are borrowed for the call, `out` for writing.
-        unsafe {
-            ask!(bcs_handle_explain_with(
-                self,
-                question,
-                form,
-                views,
-                length,
-                bytes,
-                bytes_length,
-                out.as_mut_ptr(),
-                out.len()
-            ))
-        }
-    }
-
-    pub(crate) fn explain(&self, question: Question, form: u32, bytes: &[u8], out: &mut [u8]) -> Answer {
-        // SAFETY: the handle is open, and the slices are borrowed for the call, `out` for writing.
-        unsafe {
-            ask!(bcs_handle_explain(self, question, form, bytes.as_ptr(), bytes.len(), out.as_mut_ptr(), out.len()))
-        }
-    }
-
-    pub(crate) fn text_refusal(&self, question: Question, text: &[u8], out: &mut [u8]) -> Answer {
-        // SAFETY: the handle is open, and the slices are borrowed for the call, `out` for writing.
-        unsafe { ask!(bcs_handle_text_refusal(self, question, text.as_ptr(), text.len(), out.as_mut_ptr(), out.len())) }
-    }
-
-    pub(crate) fn stop_refusal(&self, question: Question, bytes: &[u8], out: &mut [u8]) -> Answer {
-        // SAFETY: the handle is open, and the slices are borrowed for the call, `out` for writing.
-        unsafe {
-            ask!(bcs_handle_stop_refusal(self, question, bytes.as_ptr(), bytes.len(), out.as_mut_ptr(), out.len()))
-        }
-    }
-
-    pub(crate) fn schema(&self, question: Question, out: &mut [u8]) -> Answer {
-        // SAFETY: the handle is open, and the slices are borrowed for the call, `out` for writing.
-        unsafe { ask!(bcs_handle_schema(self, question, out.as_mut_ptr(), out.len())) }
-    }
-
-    pub(crate) fn example(&self, question: Question, form: u32, variant: &[u8], out: &mut [u8]) -> Answer {
-        let (name, length) = (variant.as_ptr(), variant.len());
-        // SAFETY: the handle is open, and the slices are borrowed for the call, `out` for writing.
-        unsafe { ask!(bcs_handle_example(self, question, form, name, length, out.as_mut_ptr(), out.len())) }
-    }
-
-    pub(crate) fn show(&self, form: u32, name: &[u8], out: &mut [u8]) -> Answer {
-        let handle = self.handle.as_ptr();
-        // SAFETY: the handle is open, and the slices are borrowed for the call, `out` for writing.
-        unsafe { bcs_handle_show(handle, form, name.as_ptr(), name.len(), out.as_mut_ptr(), out.len()) }
-    }
-
-    pub(crate) fn format_place(&self, format: &[u8], out: &mut [u8]) -> Answer {
-        let handle = self.handle.as_ptr();
-        // SAFETY: the handle is open, and the slices are borrowed for the call, `out` for writing.
-        unsafe { bcs_handle_format_place(handle, format.as_ptr(), format.len(), out.as_mut_ptr(), out.len()) }
-    }
-
-    pub(crate) fn growth_list(&self, newer: &Open, out: &mut [u8]) -> Answer {
-        let (older, newer) = (&self.text, &newer.text);
-        // SAFETY: the slices are borrowed for the call, `out` for writing.
-        unsafe {
-            bcs_growth_list(older.as_ptr(), older.len(), newer.as_ptr(), newer.len(), out.as_mut_ptr(), out.len())
-        }
-    }
-
-    pub(crate) fn growth_place(&self, newer: &Open, out: &mut [u8]) -> Answer {
-        let (older, newer) = (&self.text, &newer.text);
-        // SAFETY: the slices are borrowed for the call, `out` for writing.
-        unsafe {
-            bcs_growth_place(older.as_ptr(), older.len(), newer.as_ptr(), newer.len(), out.as_mut_ptr(), out.len())
-        }
     }
 
     /// The registry's text.
@@ -476,39 +245,17 @@ impl Open {
     }
 }
 
-pub(crate) fn path_place(path: &[u8], out: &mut [u8]) -> Answer {
-    // SAFETY: the slices are borrowed for the call, `out` alone for writing.
-    unsafe { bcs_path_place(path.as_ptr(), path.len(), out.as_mut_ptr(), out.len()) }
-}
-
-pub(crate) fn registry_refusal(text: &[u8], out: &mut [u8]) -> Answer {
-    // SAFETY: the slices are borrowed for the call, `out` alone for writing.
-    unsafe { bcs_registry_refusal(text.as_ptr(), text.len(), out.as_mut_ptr(), out.len()) }
-}
-
-pub(crate) fn registry_of_modules(modules: &[u8], types: &[u8], out: &mut [u8]) -> Answer {
-    let (length, types_length) = (modules.len(), types.len());
-    // SAFETY: the slices are borrowed for the call, `out` alone for writing.
-    unsafe {
-        bcs_registry_of_modules(modules.as_ptr(), length, types.as_ptr(), types_length, out.as_mut_ptr(), out.len())
-    }
-}
-
-pub(crate) fn modules_place(modules: &[u8], types: &[u8], out: &mut [u8]) -> Answer {
-    let (length, types_length) = (modules.len(), types.len());
-    // SAFETY: the slices are borrowed for the call, `out` alone for writing.
-    unsafe { bcs_modules_place(modules.as_ptr(), length, types.as_ptr(), types_length, out.as_mut_ptr(), out.len()) }
+/// Asks the library. `message` gets what there is to say about a refusal, if it has room for that.
+pub(crate) fn ask(open: Option<&Open>, question: &Question, out: &mut [u8], message: &mut [u8]) -> Answer {
+    let handle = open.map_or(ptr::null_mut(), |open| open.handle.as_ptr());
+    // SAFETY: the handle is open or null. The question has its own size, and its slices are borrowed for the call; so are `out`
+    // and `message`, for writing.
+    unsafe { bcs_ask(handle, question, out.as_mut_ptr(), out.len(), message.as_mut_ptr(), message.len()) }
 }
 
 /// A place in bytes that are in memory.
 pub(crate) fn to_place(place: u64) -> usize {
     usize::try_from(place).expect("a place in a slice is a usize")
-}
-
-#[cfg(test)]
-fn fault_name(fault: u32, out: &mut [u8]) -> Answer {
-    // SAFETY: `out` is borrowed for the call, for writing.
-    unsafe { bcs_fault_name(fault, out.as_mut_ptr(), out.len()) }
 }
 
 #[cfg(test)]

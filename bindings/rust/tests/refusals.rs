@@ -71,3 +71,17 @@ fn lines_begin_alike() {
         assert_eq!((error.kind().name(), error.to_string().as_str()), (kind, line));
     }
 }
+
+/// Most refusals fit into the room that a call begins with.
+#[test]
+fn places_have_any_length() {
+    for length in (190..260).chain([100_000]) {
+        let name = "a".repeat(length);
+        let registry = Registry::read(format!(r#"{{"S":{{"STRUCT":[{{"{name}":"BOOL"}}]}}}}"#)).unwrap();
+        let text = registry.encode_json("S", format!(r#"{{"{name}":7}}"#)).unwrap_err();
+        assert_eq!(text.at(), Some(format!("/{name}").as_str()));
+        let bytes = registry.scan("S", [2]).unwrap_err();
+        assert_eq!(bytes.at(), Some(format!(".{name}").as_str()));
+        assert_eq!(bytes.message(), "expected BOOL, 00 or 01, found 02");
+    }
+}

@@ -1,8 +1,9 @@
 //! The declarations beside the library's header and its names of faults.
-use super::{Answer, Open};
+use super::{Answer, Call, Open, Question, bcs_version};
 use crate::faults::{ExampleFault, GrowthFault, ModulesFault, Reason, RegistryFault, TextFault};
 use crate::sys;
 use std::collections::BTreeMap;
+use std::ffi::CStr;
 use std::mem::{offset_of, size_of};
 use std::path::PathBuf;
 use std::process::Command;
@@ -21,11 +22,33 @@ fn layouts_are_those_of_the_header() {
         ("offsetof(bcs_answer, fault)", offset_of!(Answer, fault), 4),
         ("offsetof(bcs_answer, place)", offset_of!(Answer, place), 8),
         ("offsetof(bcs_answer, length)", offset_of!(Answer, length), 16),
+        ("sizeof(bcs_question)", size_of::<Question>(), 88),
+        ("offsetof(bcs_question, size)", offset_of!(Question, size), 0),
+        ("offsetof(bcs_question, call)", offset_of!(Question, call), 4),
+        ("offsetof(bcs_question, number)", offset_of!(Question, number), 8),
+        ("offsetof(bcs_question, second_number)", offset_of!(Question, second_number), 12),
+        ("offsetof(bcs_question, depth)", offset_of!(Question, depth), 16),
+        ("offsetof(bcs_question, nodes)", offset_of!(Question, nodes), 20),
+        ("offsetof(bcs_question, format)", offset_of!(Question, format), 24),
+        ("offsetof(bcs_question, format_length)", offset_of!(Question, format.length), 32),
+        ("offsetof(bcs_question, first)", offset_of!(Question, first), 40),
+        ("offsetof(bcs_question, first_length)", offset_of!(Question, first.length), 48),
+        ("offsetof(bcs_question, second)", offset_of!(Question, second), 56),
+        ("offsetof(bcs_question, second_length)", offset_of!(Question, second.length), 64),
+        ("offsetof(bcs_question, views)", offset_of!(Question, views), 72),
+        ("offsetof(bcs_question, views_length)", offset_of!(Question, views.length), 80),
     ];
     let told = ask_c_compiler(&layouts.map(|(expression, ..)| expression));
     for ((expression, here, wanted), told) in layouts.into_iter().zip(told) {
         assert_eq!((here, told), (wanted, wanted), "{expression}");
     }
+}
+
+#[test]
+fn version_is_that_of_the_library() {
+    // SAFETY: the header says that this C string is always there.
+    let version = unsafe { CStr::from_ptr(bcs_version()) };
+    assert_eq!(version.to_str(), Ok(env!("CARGO_PKG_VERSION")));
 }
 
 #[test]
@@ -44,8 +67,7 @@ fn declarations_are_those_of_the_header() {
     let block = source.split_once("unsafe extern \"C\" {").unwrap().1.split_once("\n}").unwrap().0;
     let calls = block.split(';').filter_map(|call| call.split_once("fn ").map(|(_, call)| c_declaration(call)));
     let calls: Vec<String> = calls.collect();
-    // Those that open, close and grow a registry, eighteen on a handle, those of places, lists and names, and two of modules.
-    assert_eq!(calls.len(), 28);
+    assert_eq!(calls.len(), 5);
     assert_eq!(calls[1], "void bcs_close(bcs_handle *);");
     run_c(&calls.concat(), "");
 }
@@ -68,6 +90,8 @@ fn c_type(of_rust: &str) -> &'static str {
     match of_rust {
         "*const u8" => "const uint8_t *",
         "*mut u8" => "uint8_t *",
+        "*const c_char" => "const char *",
+        "*const Question" => "const bcs_question *",
         "*const Handle" => "const bcs_handle *",
         "*mut Handle" => "bcs_handle *",
         "*mut *mut Handle" => "bcs_handle **",
@@ -137,14 +161,38 @@ fn numbers_are_those_of_the_header() {
             ("STACK", sys::STACK),
             // A handle of this crate is never closed.
             ("CLOSED", 10),
+            // Nor does it ask what the library that it is linked with doesn't know.
+            ("NO_CALL", 12),
+            ("CHECK", Call::Check as u32),
+            ("TO_BCS", Call::ToBcs as u32),
+            ("FROM_BCS", Call::FromBcs as u32),
+            ("NORMALISE", Call::Normalise as u32),
+            ("COMPARE", Call::Compare as u32),
+            ("SCAN", Call::Scan as u32),
+            ("PART", Call::Part as u32),
+            ("PART_NAMED", Call::PartNamed as u32),
+            ("CONTENT", Call::Content as u32),
+            ("EXPLAIN", Call::Explain as u32),
+            ("SCHEMA", Call::Schema as u32),
+            ("EXAMPLE", Call::Example as u32),
+            ("SHOW", Call::Show as u32),
+            ("FORMAT_PLACE", Call::FormatPlace as u32),
+            ("GROWS", Call::Grows as u32),
+            ("GROWTH_LIST", Call::GrowthList as u32),
+            ("REGISTRY_REFUSAL", Call::RegistryRefusal as u32),
+            ("PATH_PLACE", Call::PathPlace as u32),
+            ("REGISTRY_OF_MODULES", Call::RegistryOfModules as u32),
+            ("FAULT_NAME", Call::FaultName as u32),
+            // A refused call says this itself.
+            ("TEXT_REFUSAL", 11),
+            ("STOP_REFUSAL", 12),
+            ("GROWTH_PLACE", 32),
+            ("MODULES_PLACE", 36),
             ("WAYS", sys::WAYS),
             ("PATHS", sys::PATHS),
             ("TREE", sys::TREE),
             ("JSON", sys::JSON),
             ("NOTES", sys::NOTES),
-            // This crate always asks for the whole refusal.
-            ("WHERE", 0),
-            ("WANTED", 1),
             ("LEAST", sys::LEAST),
             ("FULL", sys::FULL),
             ("STEPS", sys::STEPS),
@@ -202,7 +250,7 @@ fn names_are_those_of_the_library() {
     let mut out = [0; 64];
     let mut named = 0;
     for number in (0..2000).chain([u32::MAX]) {
-        let answer = sys::fault_name(number, &mut out);
+        let answer = sys::ask(None, &Question::new(Call::FaultName).number(number), &mut out, &mut []);
         match name_here(number) {
             Some(name) => {
                 assert_eq!((answer.status, answer.length), (sys::DONE, name.len()), "{number}");
