@@ -3,67 +3,33 @@
 #include <bcs.h>
 #include <jni.h>
 #include <stdbool.h>
+#include <stddef.h>
 #include <stdio.h>
 #include <stdlib.h>
 
-/* In the order of Call.java. */
-enum call {
-    CHECK,
-    TO_BCS,
-    FROM_BCS,
-    NORMALISE,
-    COMPARE,
-    SCAN,
-    PART,
-    PART_NAMED,
-    CONTENT,
-    EXPLAIN,
-    EXPLAIN_WITH,
-    TEXT_REFUSAL,
-    STOP_REFUSAL,
-    SCHEMA,
-    EXAMPLE,
-    SHOW,
-    FORMAT_PLACE,
-    PATH_PLACE,
-    GROWTH_LIST,
-    GROWTH_PLACE,
-    GROWS,
-    REGISTRY_REFUSAL,
-    REGISTRY_OF_MODULES,
-    MODULES_PLACE,
-    FAULT_NAME
-};
+/* Native.java passes each field but size and second_number. */
+#define AT(field, offset) (offsetof(bcs_question, field) == (offset))
+_Static_assert(AT(size, 0) && AT(call, 4) && AT(number, 8) && AT(second_number, 12) && AT(depth, 16) && AT(nodes, 20) &&
+                   AT(format, 24) && AT(format_length, 32) && AT(first, 40) && AT(first_length, 48) && AT(second, 56) &&
+                   AT(second_length, 64) && AT(views, 72) && AT(views_length, 80) && sizeof(bcs_question) == 88,
+               "bcs_question has other fields");
 
-struct piece {
-    uint8_t *at;
-    size_t length;
-};
-
-struct job {
-    bcs_handle *handle;
-    struct piece format, first, second;
-    uint32_t depth, nodes, number;
-};
+/* Room for a refusal. If one needs more, the question is asked again. */
+#define MESSAGE 512
 
 static bcs_answer plain(uint32_t status) {
     return (bcs_answer){status, BCS_FAULT_NONE, 0, 0};
 }
 
 /* Copies an array. A null array has no bytes. Returns false if there is no memory. */
-static bool copy(JNIEnv *env, jbyteArray array, struct piece *piece) {
-    const jsize length = array != NULL ? (*env)->GetArrayLength(env, array) : 0;
-    *piece = (struct piece){NULL, 0};
-    if (length == 0) {
-        return true;
+static bool copy(JNIEnv *env, jbyteArray array, const uint8_t **text, size_t *length) {
+    *length = array != NULL ? (size_t)(*env)->GetArrayLength(env, array) : 0;
+    uint8_t *const bytes = *length > 0 ? malloc(*length) : NULL;
+    *text = bytes;
+    if (bytes != NULL) {
+        (*env)->GetByteArrayRegion(env, array, 0, (jsize)*length, (jbyte *)bytes);
     }
-    piece->at = malloc((size_t)length);
-    if (piece->at == NULL) {
-        return false;
-    }
-    piece->length = (size_t)length;
-    (*env)->GetByteArrayRegion(env, array, 0, length, (jbyte *)piece->at);
-    return true;
+    return *length == 0 || bytes != NULL;
 }
 
 static void tell(JNIEnv *env, jlongArray fields, bcs_answer answer) {
@@ -71,52 +37,26 @@ static void tell(JNIEnv *env, jlongArray fields, bcs_answer answer) {
     (*env)->SetLongArrayRegion(env, fields, 0, 4, values);
 }
 
-static bcs_answer make(enum call call, const struct job *job, uint8_t *out, size_t room) {
-#define PIECE(piece) job->piece.at, job->piece.length
-#define ASK job->handle, PIECE(format), job->depth, job->nodes
-    switch (call) {
-    case CHECK: return bcs_handle_check(ASK);
-    case TO_BCS: return bcs_handle_to_bcs(ASK, PIECE(first), out, room);
-    case FROM_BCS: return bcs_handle_from_bcs(ASK, PIECE(first), out, room);
-    case NORMALISE: return bcs_handle_normalise(ASK, PIECE(first), out, room);
-    case COMPARE: return bcs_handle_compare(ASK, PIECE(first), PIECE(second));
-    case SCAN: return bcs_handle_scan(ASK, PIECE(first));
-    case PART: return bcs_handle_part(ASK, PIECE(first), PIECE(second));
-    case PART_NAMED: return bcs_handle_part_named(ASK, job->number, PIECE(second), PIECE(first));
-    case CONTENT: return bcs_handle_content(ASK, job->number, PIECE(second), PIECE(first));
-    case EXPLAIN: return bcs_handle_explain(ASK, job->number, PIECE(first), out, room);
-    case EXPLAIN_WITH: return bcs_handle_explain_with(ASK, job->number, PIECE(second), PIECE(first), out, room);
-    case TEXT_REFUSAL: return bcs_handle_text_refusal(ASK, PIECE(first), out, room);
-    case STOP_REFUSAL: return bcs_handle_stop_refusal(ASK, PIECE(first), out, room);
-    case SCHEMA: return bcs_handle_schema(ASK, out, room);
-    case EXAMPLE: return bcs_handle_example(ASK, job->number, PIECE(first), out, room);
-    case SHOW: return bcs_handle_show(job->handle, job->number, PIECE(first), out, room);
-    case FORMAT_PLACE: return bcs_handle_format_place(job->handle, PIECE(format), out, room);
-    case PATH_PLACE: return bcs_path_place(PIECE(first), out, room);
-    case GROWTH_LIST: return bcs_growth_list(PIECE(first), PIECE(second), out, room);
-    case GROWTH_PLACE: return bcs_growth_place(PIECE(first), PIECE(second), out, room);
-    case GROWS: return bcs_grows(PIECE(first), PIECE(second));
-    case REGISTRY_REFUSAL: return bcs_registry_refusal(PIECE(first), out, room);
-    case REGISTRY_OF_MODULES: return bcs_registry_of_modules(PIECE(first), PIECE(second), out, room);
-    case MODULES_PLACE: return bcs_modules_place(PIECE(first), PIECE(second), out, room);
-    case FAULT_NAME: return bcs_fault_name(job->number, out, room);
-    }
-    return plain(BCS_CLOSED);
-}
-
-/* Makes a call with room for its output, and again if that is too short. The output is freed by the caller. */
-static bcs_answer make_with_output(enum call call, const struct job *job, size_t room, uint8_t **out) {
+/* Asks, and again if the output or the message is longer than its buffer. The reply is the output with BCS_DONE, and the message
+   with BCS_REFUSED. The caller frees the block that holds both buffers. */
+static bcs_answer ask(bcs_handle *handle, const bcs_question *question, size_t room, uint8_t **block, uint8_t **reply) {
+    size_t message = MESSAGE;
     for (;;) {
-        *out = malloc(room);
-        if (*out == NULL) {
+        *block = malloc(room + message);
+        if (*block == NULL) {
             return plain(BCS_MEMORY);
         }
-        const bcs_answer answer = make(call, job, *out, room);
-        if (answer.status != BCS_SHORT) {
+        const bcs_answer answer = bcs_ask(handle, question, *block, room, *block + room, message);
+        const bool is_refused = answer.status == BCS_REFUSED;
+        if (answer.status == BCS_SHORT) {
+            room = answer.length;
+        } else if (is_refused && answer.length > message) {
+            message = answer.length;
+        } else {
+            *reply = *block + (is_refused ? room : 0);
             return answer;
         }
-        free(*out);
-        room = answer.length;
+        free(*block);
     }
 }
 
@@ -146,10 +86,11 @@ JNIEXPORT jboolean JNICALL Java_bcsproved_Native_isSupported(JNIEnv *env, jclass
 
 JNIEXPORT jlong JNICALL Java_bcsproved_Native_open(JNIEnv *env, jclass type, jbyteArray registry, jlongArray fields) {
     (void)type;
-    struct piece text;
+    const uint8_t *text;
+    size_t length;
     bcs_handle *handle = NULL;
-    tell(env, fields, copy(env, registry, &text) ? bcs_open(&handle, text.at, text.length) : plain(BCS_MEMORY));
-    free(text.at);
+    tell(env, fields, copy(env, registry, &text, &length) ? bcs_open(&handle, text, length) : plain(BCS_MEMORY));
+    free((void *)text);
     return (jlong)(intptr_t)handle;
 }
 
@@ -165,23 +106,28 @@ JNIEXPORT jint JNICALL Java_bcsproved_Native_nodesFor(JNIEnv *env, jclass type, 
     return (jint)bcs_handle_nodes_for((const bcs_handle *)(intptr_t)handle, (size_t)length);
 }
 
-JNIEXPORT jbyteArray JNICALL Java_bcsproved_Native_call(JNIEnv *env, jclass type, jint call, jlong handle, jbyteArray format,
-                                                        jint depth, jint nodes, jint number, jbyteArray first,
-                                                        jbyteArray second, jlong room, jlongArray fields) {
+JNIEXPORT jbyteArray JNICALL Java_bcsproved_Native_ask(JNIEnv *env, jclass type, jlong handle, jint call, jint number,
+                                                       jint depth, jint nodes, jbyteArray format, jbyteArray first,
+                                                       jbyteArray second, jbyteArray views, jlong room,
+                                                       jlongArray fields) {
     (void)type;
-    struct job job = {.handle = (bcs_handle *)(intptr_t)handle, .depth = (uint32_t)depth, .nodes = (uint32_t)nodes,
-                      .number = (uint32_t)number};
-    uint8_t *out = NULL;
+    bcs_question question = {.size = sizeof question, .call = (uint32_t)call, .number = (uint32_t)number,
+                             .depth = (uint32_t)depth, .nodes = (uint32_t)nodes};
+    uint8_t *block = NULL, *reply = NULL;
     bcs_answer answer = plain(BCS_MEMORY);
-    if (copy(env, format, &job.format) && copy(env, first, &job.first) && copy(env, second, &job.second)) {
-        answer = room < 0 ? make((enum call)call, &job, NULL, 0)
-                          : make_with_output((enum call)call, &job, (size_t)room, &out);
+    if (copy(env, format, &question.format, &question.format_length) &&
+        copy(env, first, &question.first, &question.first_length) &&
+        copy(env, second, &question.second, &question.second_length) &&
+        copy(env, views, &question.views, &question.views_length)) {
+        answer = ask((bcs_handle *)(intptr_t)handle, &question, room > 0 ? (size_t)room : 0, &block, &reply);
     }
-    free(job.format.at);
-    free(job.first.at);
-    free(job.second.at);
+    free((void *)question.format);
+    free((void *)question.first);
+    free((void *)question.second);
+    free((void *)question.views);
     tell(env, fields, answer);
-    const jbyteArray output = out != NULL && answer.status == BCS_DONE ? array_of(env, out, answer.length) : NULL;
-    free(out);
-    return output;
+    const bool has_reply = answer.status == BCS_REFUSED || (answer.status == BCS_DONE && room >= 0);
+    const jbyteArray array = has_reply ? array_of(env, reply, answer.length) : NULL;
+    free(block);
+    return array;
 }

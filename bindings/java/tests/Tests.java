@@ -1,3 +1,4 @@
+import static java.nio.charset.StandardCharsets.UTF_8;
 import static java.util.stream.Collectors.joining;
 
 import bcsproved.BcsException;
@@ -9,14 +10,19 @@ import bcsproved.MadeRegistry;
 import bcsproved.Prefix;
 import bcsproved.Registry;
 import bcsproved.Views;
-import java.nio.charset.StandardCharsets;
+import java.lang.reflect.Field;
+import java.lang.reflect.Modifier;
 import java.nio.file.Files;
 import java.nio.file.Path;
 import java.util.ArrayList;
 import java.util.Arrays;
 import java.util.HexFormat;
 import java.util.List;
+import java.util.Map;
+import java.util.TreeMap;
 import java.util.concurrent.atomic.AtomicInteger;
+import java.util.regex.Matcher;
+import java.util.regex.Pattern;
 import java.util.stream.IntStream;
 
 /** Tests the calls: {@code java Tests EXAMPLES}. */
@@ -34,6 +40,49 @@ public final class Tests extends Check {
         equal(registry.decodeJson(format, data), normal);
         equal(registry.normaliseJson(format, json), normal);
         equal(registry.equalJson(format, json, normal), true);
+    }
+
+    /** The constants of enums in bcs.h. */
+    private static Map<String, Integer> constants(String header, String enums) {
+        Map<String, Integer> found = new TreeMap<>();
+        Matcher bodies = Pattern.compile("enum bcs_(?:" + enums + ") \\{(.*?)\\};", Pattern.DOTALL).matcher(header);
+        while (bodies.find()) {
+            Matcher constants = Pattern.compile("BCS_(\\w+) = (\\d+)").matcher(bodies.group(1));
+            constants.results().forEach(it -> found.put(it.group(1), Integer.valueOf(it.group(2))));
+        }
+        return found;
+    }
+
+    /** The constants of bcs.h that the package has, too. */
+    private static Map<String, Integer> ownConstants() throws ReflectiveOperationException {
+        Map<String, Integer> own = new TreeMap<>();
+        for (Field field : Class.forName("bcsproved.Answer").getDeclaredFields()) {
+            if (Modifier.isStatic(field.getModifiers())) {
+                field.setAccessible(true);
+                own.put(field.getName(), field.getInt(null));
+            }
+        }
+        Field number = Class.forName("bcsproved.Call").getDeclaredField("number");
+        number.setAccessible(true);
+        for (Object call : number.getDeclaringClass().getEnumConstants()) {
+            own.put(call.toString(), number.getInt(call));
+        }
+        for (Form form : Form.values()) {
+            own.put(form.name(), form.ordinal());
+        }
+        return own;
+    }
+
+    private static void numbers() throws Exception {
+        String header = Files.readString(examples.resolve("../bindings/c/include/bcs.h"));
+        Map<String, Integer> own = ownConstants();
+        Map<String, Integer> known = constants(header, "call|status|form|notation");
+        // Calls whose answers come with refusals, and statuses that the package handles in C, or never gets.
+        known.keySet().removeAll(List.of("TEXT_REFUSAL", "GROWTH_PLACE", "MODULES_PLACE", "SHORT", "CLOSED", "NO_CALL"));
+        Map<String, Integer> faults = constants(header, "fault");
+        faults.keySet().retainAll(own.keySet());
+        known.putAll(faults);
+        equal(own, known);
     }
 
     /** The calls that take a string of Java. The rows of tests/rows go through the others. */
@@ -215,6 +264,26 @@ public final class Tests extends Check {
         });
     }
 
+    /** The first buffer for a refusal is too short for these. */
+    private static void longRefusals() throws Exception {
+        String name = "n".repeat(1000), json = "{\"" + name + "\":{\"STRUCT\":[{\"" + name + "\":\"U8\"}]}}";
+        String small = "{\"" + name + "\":1}", large = "{\"" + name + "\":256}", type = "0x1::m::N<" + "u8, ".repeat(300) + "u8>";
+        byte[] older = json.getBytes(UTF_8), newer = json.replace("U8", "U16").getBytes(UTF_8);
+        Registry registry = Registry.open(json);
+        String found = "found 256, expected an integer from 0 to 255 (U8)", ended = "expected U8, found the end of the input";
+        String missing = "add these modules: 0x1::m for " + type + ": on Aptos from /v1/accounts/0x1/module/m, on Sui by sui_getNormalizedMoveModule";
+        onThreads(8, 0, () -> {
+            for (int round = 0; round < 50; round++) {
+                refused(Kind.TEXT, "BadNumber", -1, "/" + name, found, () -> registry.encodeJson(name, large));
+                refused(Kind.TEXT, "BadNumber", -1, "/" + name, found, () -> registry.equalJson(name, small, large));
+                refused(Kind.BYTES, "EndOfInput", 0, "." + name, ended, () -> registry.decodeJson(name, NOTHING));
+                refused(Kind.GROWTH, "Changed", -1, name, "the newer registry has another container of that name",
+                        () -> Registry.grows(older, newer));
+                refused(Kind.MODULES, "MissingModule", -1, type, missing, () -> Registry.registryOfModules("[]", List.of(type)));
+            }
+        });
+    }
+
     /** Calls that make several calls of C, with the answers that each has. */
     private static List<Test> answers(Registry registry) {
         byte[] damaged = unhex("07010205"), more = unhex("0007");
@@ -328,8 +397,8 @@ public final class Tests extends Check {
     public static void main(String[] words) throws Exception {
         examples = Path.of(words[0]);
         List<Test> tests = words.length > 1 ? List.of(Tests::memory)
-                : List.of(Tests::strings, Tests::refusals, Tests::modules, Tests::views, Tests::contents, Tests::arguments,
-                        Tests::limits, Tests::sharing, Tests::closing, Tests::collecting, Tests::stacks);
+                : List.of(Tests::numbers, Tests::strings, Tests::refusals, Tests::modules, Tests::views, Tests::contents, Tests::arguments,
+                        Tests::limits, Tests::sharing, Tests::longRefusals, Tests::closing, Tests::collecting, Tests::stacks);
         for (Test test : tests) {
             test.run();
         }

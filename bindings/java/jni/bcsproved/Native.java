@@ -55,9 +55,10 @@ final class Native {
     static native int nodesFor(long handle, long length);
 
     /**
-     * Makes a call, and returns its output, or null if there is none. The call is the ordinal of a {@link Call}. It is made with
-     * this room for its output, and again if that is too short; with a room below 0 it has no output.
+     * Asks a question, whose fields these are, and returns the output of the call; or, if it refuses its input, the place, a NUL, and
+     * the message; or null. The call is asked with this room for its output, and again if that is too short; with a room below 0 it
+     * has no output.
      */
-    static native byte[] call(int call, long handle, byte[] format, int depth, int nodes, int number, byte[] first, byte[] second,
-            long room, long[] fields);
+    static native byte[] ask(long handle, int call, int number, int depth, int nodes, byte[] format, byte[] first, byte[] second,
+            byte[] views, long room, long[] fields);
 }

@@ -9,9 +9,9 @@ final class Modules {
 
     static MadeRegistry registry(byte[] modules, List<String> types) throws BcsException {
         byte[] lines = Question.utf8(lines(types));
-        Answer answer = Answer.of(Call.REGISTRY_OF_MODULES, modules, lines, 0, 4096);
+        Answer answer = Answer.of(Call.REGISTRY_OF_MODULES, modules, lines);
         if (answer.status() != Answer.DONE) {
-            throw Refusals.ofModules(answer, modules, lines);
+            throw Refusals.ofInput(Kind.MODULES, answer);
         }
         String text = Question.text(answer.output());
         int end = text.indexOf('\n'); // the JSON has no line feed

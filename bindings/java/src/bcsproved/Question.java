@@ -6,12 +6,31 @@ import java.nio.charset.CharacterCodingException;
 import java.nio.charset.StandardCharsets;
 import java.util.Objects;
 
-/** The JSON of a format, and the limits of a call. */
-record Question(byte[] format, Limits limits) {
-    static final Question NONE = new Question(new byte[0], Limits.STANDARD);
+/** What a call of C is asked, besides a handle: the fields of bcs_question. What a call doesn't use is 0, or null. */
+record Question(Call call, int number, Limits limits, byte[] format, byte[] first, byte[] second, byte[] views) {
+    private static final Limits NO_LIMITS = new Limits(0, 0);
 
-    static Question of(String format, Limits limits) {
-        return new Question(utf8(json(format)), limits);
+    /** A question without a format. */
+    static Question of(Call call, byte[] first, byte[] second, int number) {
+        return new Question(call, number, NO_LIMITS, null, first, second, null);
+    }
+
+    /** A question on a format, which is the name of a container or JSON. */
+    static Question of(Call call, String format, Limits limits, byte[] first) {
+        return new Question(call, 0, limits, utf8(json(format)), first, null, null);
+    }
+
+    /** A question on the same format, with the same limits. */
+    Question with(Call call, byte[] first) {
+        return new Question(call, 0, limits, format, first, null, null);
+    }
+
+    Question withSecond(byte[] second, int number) {
+        return new Question(call, number, limits, format, first, second, views);
+    }
+
+    Question withViews(byte[] views, int number) {
+        return new Question(call, number, limits, format, first, second, views);
     }
 
     /** A word that begins with { or " is JSON, and any other is the name of a container. */

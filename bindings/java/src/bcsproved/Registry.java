@@ -17,8 +17,6 @@ import java.util.Optional;
  * Unicode, an {@link IllegalArgumentException}.
  */
 public final class Registry implements AutoCloseable {
-    private static final byte[] NOTHING = new byte[0];
-
     private final Shared shared;
     private final Limits limits; // null: the default
 
@@ -123,7 +121,7 @@ public final class Registry implements AutoCloseable {
         Objects.requireNonNull(data, "data");
         Objects.requireNonNull(type, "type");
         try (Session session = begin()) {
-            return (T) Values.decode(session, session.question(format, data.length), format, data, type);
+            return (T) Values.decode(session, session.question(Call.FROM_BCS, format, data), format, type);
         }
     }
 
@@ -131,9 +129,8 @@ public final class Registry implements AutoCloseable {
     public Prefix<Object> decodePrefix(String format, byte[] data) throws BcsException {
         Objects.requireNonNull(data, "data");
         try (Session session = begin()) {
-            Question question = session.question(format, data.length); // for all of the data, so both steps have the same limits
-            byte[] prefix = session.prefix(question, data);
-            return new Prefix<>(Values.decode(session, question, format, prefix, Object.class), prefix.length);
+            Question prefix = session.prefix(Call.FROM_BCS, format, data);
+            return new Prefix<>(Values.decode(session, prefix, format, Object.class), prefix.first().length);
         }
     }
 
@@ -149,7 +146,7 @@ public final class Registry implements AutoCloseable {
     public byte[] encodeJson(String format, byte[] json) throws BcsException {
         Objects.requireNonNull(json, "json");
         try (Session session = begin()) {
-            return session.output(Call.TO_BCS, session.question(format), json, 1);
+            return session.output(session.question(Call.TO_BCS, format, json));
         }
     }
 
@@ -162,7 +159,7 @@ public final class Registry implements AutoCloseable {
     public String decodeJson(String format, byte[] data) throws BcsException {
         Objects.requireNonNull(data, "data");
         try (Session session = begin()) {
-            return Question.text(session.output(Call.FROM_BCS, session.question(format, data.length), data, 4));
+            return Question.text(session.output(session.question(Call.FROM_BCS, format, data)));
         }
     }
 
@@ -170,9 +167,8 @@ public final class Registry implements AutoCloseable {
     public Prefix<String> decodePrefixJson(String format, byte[] data) throws BcsException {
         Objects.requireNonNull(data, "data");
         try (Session session = begin()) {
-            Question question = session.question(format, data.length); // for all of the data, so both steps have the same limits
-            byte[] prefix = session.prefix(question, data);
-            return new Prefix<>(Question.text(session.output(Call.FROM_BCS, question, prefix, 4)), prefix.length);
+            Question prefix = session.prefix(Call.FROM_BCS, format, data);
+            return new Prefix<>(Question.text(session.output(prefix)), prefix.first().length);
         }
     }
 
@@ -180,7 +176,7 @@ public final class Registry implements AutoCloseable {
     public String normaliseJson(String format, byte[] json) throws BcsException {
         Objects.requireNonNull(json, "json");
         try (Session session = begin()) {
-            return Question.text(session.output(Call.NORMALISE, session.question(format), json, 1));
+            return Question.text(session.output(session.question(Call.NORMALISE, format, json)));
         }
     }
 
@@ -194,7 +190,8 @@ public final class Registry implements AutoCloseable {
         Objects.requireNonNull(first, "first");
         Objects.requireNonNull(second, "second");
         try (Session session = begin()) {
-            return session.ask(Call.COMPARE, session.question(format), first, second).status() == Answer.DONE;
+            Question question = session.question(Call.COMPARE, format, first).withSecond(second, 0);
+            return session.ask(question).status() == Answer.DONE;
         }
     }
 
@@ -206,7 +203,7 @@ public final class Registry implements AutoCloseable {
     /** A JSON Schema of the JSON documents of the format's values. */
     public String schema(String format) throws BcsException {
         try (Session session = begin()) {
-            return Question.text(session.ask(Call.SCHEMA, session.question(format), NOTHING, null, 0, 4096).output());
+            return Question.text(session.output(session.question(Call.SCHEMA, format, null)));
         }
     }
 
@@ -222,7 +219,8 @@ public final class Registry implements AutoCloseable {
     public String example(String format, String variant, boolean isFull) throws BcsException {
         byte[] name = Question.utf8(variant);
         try (Session session = begin()) {
-            return Question.text(session.ask(Call.EXAMPLE, session.question(format), name, null, isFull ? 1 : 0, 1024).output());
+            Question question = session.question(Call.EXAMPLE, format, null).withSecond(name, isFull ? 1 : 0);
+            return Question.text(session.output(question));
         }
     }
 
@@ -241,7 +239,7 @@ public final class Registry implements AutoCloseable {
     public int scan(String format, byte[] data) throws BcsException {
         Objects.requireNonNull(data, "data");
         try (Session session = begin()) {
-            return (int) session.ask(Call.SCAN, session.question(format, data.length), data, null).length();
+            return (int) session.ask(session.question(Call.SCAN, format, data)).length();
         }
     }
 
@@ -286,8 +284,7 @@ public final class Registry implements AutoCloseable {
         Objects.requireNonNull(data, "data");
         byte[] steps = Question.utf8(where);
         try (Session session = begin()) {
-            Question question = session.question(format, data.length);
-            Answer answer = session.ask(call, question, data, steps, notation, Answer.NO_OUTPUT);
+            Answer answer = session.ask(session.question(call, format, data).withSecond(steps, notation));
             if (answer.status() == Answer.NO) {
                 return Optional.empty();
             }
@@ -298,12 +295,7 @@ public final class Registry implements AutoCloseable {
 
     /** The data piece by piece, as {@code bcs explain} prints it. Damaged bytes don't throw an exception. */
     public Explanation explain(String format, byte[] data, Form form) throws BcsException {
-        Objects.requireNonNull(data, "data");
-        try (Session session = begin()) {
-            Question question = session.question(format, data.length);
-            Answer answer = session.ask(Call.EXPLAIN, question, data, null, form.ordinal(), Answer.guess(data, 64));
-            return new Explanation(Question.text(answer.output()), session.damage(question, answer, data));
-        }
+        return explain(format, data, form, Views.NONE);
     }
 
     /**
@@ -316,9 +308,7 @@ public final class Registry implements AutoCloseable {
         Objects.requireNonNull(data, "data");
         Objects.requireNonNull(views, "views");
         try (Session session = begin()) {
-            Question question = session.question(format, data.length);
-            Answer answer = session.explain(question, data, form, views);
-            return new Explanation(Question.text(answer.output()), session.damage(question, answer, data));
+            return session.explain(format, data, form, views);
         }
     }
 

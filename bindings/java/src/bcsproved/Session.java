@@ -12,8 +12,6 @@ final class Session implements AutoCloseable {
     private static final Limits ANY = Limits.STANDARD;
     private static final long MOST_OF_VALUE = 1 << 24;
     private static final byte[] NOTHING = new byte[0];
-    /** What is added to a form of explanations with views: notes about these. */
-    private static final int WITH_NOTES = 4;
 
     private final Shared shared;
     private final long handle;
@@ -35,14 +33,14 @@ final class Session implements AutoCloseable {
         return shared.codec(this);
     }
 
-    /** The question of a call that reads JSON, or no input. */
-    Question question(String format) {
-        return Question.of(format, limits != null ? limits : ANY);
+    Question question(Call call, String format, byte[] first) {
+        return Question.of(call, format, limits != null ? limits : limitsFor(call, first), first);
     }
 
-    /** The question of a call that reads this many bytes. */
-    Question question(String format, int length) {
-        return Question.of(format, limits != null ? limits : new Limits(ANY.depth(), nodesFor(length)));
+    /** The default. Bytes may only have as many nodes as an ordinary value of their length. */
+    private Limits limitsFor(Call call, byte[] first) {
+        boolean readsBytes = call.refused == Kind.BYTES;
+        return readsBytes ? new Limits(ANY.depth(), Integer.toUnsignedLong(Native.nodesFor(handle, first.length))) : ANY;
     }
 
     /** How many nodes a value of Java may have. By default they are few, since few objects have any number if they are shared. */
@@ -50,65 +48,59 @@ final class Session implements AutoCloseable {
         return limits != null ? limits.nodes() : MOST_OF_VALUE;
     }
 
-    private long nodesFor(int length) {
-        return Integer.toUnsignedLong(Native.nodesFor(handle, length));
-    }
-
     /** Throws an exception if the format isn't one of the registry. */
     void check(String format) throws BcsException {
-        ask(Call.CHECK, question(format), NOTHING, null);
-    }
-
-    /** Makes a call without output. Its status is DONE or NO; any other is thrown. */
-    Answer ask(Call call, Question question, byte[] first, byte[] second) throws BcsException {
-        return ask(call, question, first, second, 0, Answer.NO_OUTPUT);
-    }
-
-    /** Makes a call with an input and an output, which is returned. */
-    byte[] output(Call call, Question question, byte[] input, int times) throws BcsException {
-        return ask(call, question, input, null, 0, Answer.guess(input, times)).output();
+        ask(question(Call.CHECK, format, null));
     }
 
     /** The registry, or a container and what it depends on, in readable form or as JSON. */
     byte[] show(byte[] name, Form form) throws BcsException {
-        return ask(Call.SHOW, Question.NONE, name, null, form.ordinal(), 4096).output();
+        return output(Question.of(Call.SHOW, null, name, form.ordinal()));
     }
 
-    /** The bytes of the value at the beginning of the data. */
-    byte[] prefix(Question question, byte[] data) throws BcsException {
-        return Arrays.copyOf(data, (int) ask(Call.SCAN, question, data, null).length());
+    /** A question on the value at the beginning of the data: on its bytes alone, with the limits for all of the data. */
+    Question prefix(Call call, String format, byte[] data) throws BcsException {
+        Question question = question(Call.SCAN, format, data);
+        return question.with(call, Arrays.copyOf(data, (int) ask(question).length()));
     }
 
-    Answer ask(Call call, Question question, byte[] first, byte[] second, int number, long room) throws BcsException {
-        Answer answer = Answer.of(call, handle, question, first, second, number, room);
+    byte[] output(Question question) throws BcsException {
+        return ask(question).output();
+    }
+
+    /** Asks a question. The answer's status is DONE or NO; any other is thrown. */
+    Answer ask(Question question) throws BcsException {
+        Answer answer = Answer.of(handle, question);
         if (answer.status() != Answer.DONE && answer.status() != Answer.NO) {
-            throw refusal(call, question, answer, first, second, number);
+            throw refusal(question, answer);
         }
         return answer;
     }
 
-    private BcsException refusal(Call call, Question question, Answer answer, byte[] first, byte[] second, int number)
-            throws BcsException {
+    private BcsException refusal(Question question, Answer answer) throws BcsException {
         return switch (answer.status()) {
-            case Answer.FORMAT -> call == Call.SHOW
-                    ? Refusals.of(Kind.FORMAT, answer, new Place("", "no container is called " + Question.text(first)))
+            case Answer.FORMAT -> question.call() == Call.SHOW
+                    ? Refusals.of(Kind.FORMAT, answer, new Place("", "no container is called " + Question.text(question.second())))
                     : Refusals.ofFormat(handle, question, answer);
             case Answer.LIMITS -> new BcsException(Kind.LIMITS, null, -1, null, "the depth is above 500");
-            case Answer.PATH -> call == Call.EXPLAIN_WITH
+            case Answer.PATH -> question.call() == Call.EXPLAIN
                     ? Refusals.ofPath(answer, "views with names such as .payload.args[1]")
-                    : Refusals.ofName(answer, second, number);
-            case Answer.REFUSED -> answer.fault() == Answer.NO_CONTENT
+                    : Refusals.ofName(answer, question.second(), question.number());
+            case Answer.REFUSED -> answer.fault() == Answer.PATH_NO_CONTENT
                     ? Refusals.ofPath(answer, "a part that is BYTES, STR, or a list or an array of U8")
-                    : Refusals.ofInput(handle, call.refused, question, answer, first, call == Call.COMPARE ? second : null);
+                    : Refusals.ofInput(question.call().refused, answer);
             default -> throw new AssertionError("unknown status " + answer.status());
         };
     }
 
     /** Explains bytes with views. What is refused is the format of the value, or the first view that is refused. */
-    Answer explain(Question question, byte[] data, Form form, Views views) throws BcsException {
+    Explanation explain(String format, byte[] data, Form form, Views views) throws BcsException {
         byte[] lines = Question.utf8(views.lines());
+        Question question = question(Call.EXPLAIN, format, data).withViews(lines, form.ordinal() + Answer.NOTES);
         try {
-            return ask(Call.EXPLAIN_WITH, question, data, lines, form.ordinal() + WITH_NOTES, Answer.guess(data, 64));
+            Answer answer = ask(question);
+            BcsException damage = answer.fault() == 0 ? null : Refusals.ofExplained(handle, question, answer);
+            return new Explanation(Question.text(answer.output()), damage);
         } catch (BcsException e) {
             boolean isOfView = e.kind() == Kind.PATH || e.kind() == Kind.FORMAT && e.message() == null;
             throw isOfView ? ofViews(e, question, views) : e;
@@ -118,7 +110,7 @@ final class Session implements AutoCloseable {
     private BcsException ofViews(BcsException unknown, Question question, Views views) throws BcsException {
         for (Views.View view : views.all()) {
             byte[] line = Question.utf8(view.line());
-            Answer answer = Answer.of(Call.EXPLAIN_WITH, handle, question, NOTHING, line, 0, Answer.guess(NOTHING, 0));
+            Answer answer = Answer.of(handle, question.with(Call.EXPLAIN, NOTHING).withViews(line, 0));
             if (answer.status() == Answer.PATH) {
                 return view.badName();
             }
@@ -134,12 +126,6 @@ final class Session implements AutoCloseable {
         if (view.format() == null) {
             return Place.UNKNOWN;
         }
-        Question question = new Question(Question.utf8(view.format()), ANY);
-        return Place.of(Answer.of(Call.FORMAT_PLACE, handle, question, null, null, 0, 256).output());
-    }
-
-    /** What the explanation of bytes reports beside its text, or null. */
-    BcsException damage(Question question, Answer answer, byte[] data) throws BcsException {
-        return answer.fault() == 0 ? null : Refusals.ofInput(handle, Kind.BYTES, question, answer, data, null);
+        return Place.of(Answer.of(handle, Question.of(Call.FORMAT_PLACE, view.format(), ANY, null)).output());
     }
 }

@@ -12,21 +12,21 @@ final class Values {
     private Values() {}
 
     static byte[] encode(Session session, String format, Object value) throws BcsException {
-        Question question = session.question(format);
+        Question question = session.question(Call.TO_BCS, format, null);
         Codec.Root root = session.codec().root(session, format);
         byte[] json = refusing(() -> {
             JsonWriter w = new JsonWriter(root.codec(), session.nodesOfValue());
             root.codec().encoder(root.node(), Object.class).write(w, value);
             return w.written();
         });
-        return session.output(Call.TO_BCS, question, json, 1);
+        return session.output(question.with(Call.TO_BCS, json));
     }
 
-    /** The value of all the data. A type that can't hold every value of the format's numbers is rejected before they are read. */
-    static Object decode(Session session, Question question, String format, byte[] data, Type type) throws BcsException {
+    /** The value that a question with FROM_BCS decodes. A type that can't hold all numbers of the format is rejected before. */
+    static Object decode(Session session, Question question, String format, Type type) throws BcsException {
         Codec.Root root = session.codec().root(session, format);
         Decoder decoder = refusing(() -> root.codec().decoder(root.node(), type));
-        byte[] json = session.output(Call.FROM_BCS, question, data, 4);
+        byte[] json = session.output(question);
         return refusing(() -> {
             JsonReader r = new JsonReader(json);
             Object value = decoder.read(r);
