@@ -82,7 +82,7 @@ def test_without_calls() -> str:
 
 
 def test_c() -> str:
-    """The tests of C, and the rows through it: with a registry's JSON, and on handles."""
+    """The tests of C, and the rows through it: by the functions of bcs.h, and by bcs_ask with messages."""
     with tempfile.TemporaryDirectory() as room:
         driver = pathlib.Path(room) / "driver"
         built = [f"-I{PREFIX}/include", "bindings/c/tests/driver.c", f"{PREFIX}/lib/libbcs.a"]
