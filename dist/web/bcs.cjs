@@ -532,8 +532,7 @@ const TAKES = {
 
 /**
  * The JSON of a value of this shape with at most `nodes` nodes, as a string or in UTF-8. Without a number it may have 16,777,216,
- * and the bytes of lists of `U8` are none. Rejects a value of a wrong type; the
- * proved call finds all other faults.
+ * not counting the bytes of lists of `U8`. Rejects a value of a wrong type; the proved call finds all other faults.
  */
 function jsonOfValue(shapes, shape, value, nodes) {
   return new Writer(shapes, nodes).whole(shape, value);
@@ -1046,28 +1045,102 @@ function isEndOfStack(error) {
   return isOfEngine && /call stack|recursion/.test(error.message);
 }
 
-// The proved calls, which bindings/c/proved.h declares, on an instance of the WebAssembly module: arguments are copied into its
-// memory, and the answer is read from there.
+// What bcs.h defines of questions and answers: numbers, and where the members are. The proved code is compiled for 64-bit addresses,
+// which are cut in bcs.wasm afterwards. So questions and answers have this layout in the memory of each module.
 
-const STATUSES = ['done', 'short', 'registry', 'format', 'limits', 'refused', 'memory', 'no', 'path', 'newer', 'closed'];
+/** The statuses, by their numbers (enum bcs_status). */
+const STATUSES = [
+  'done', 'short', 'registry', 'format', 'limits', 'refused', 'memory', 'no', 'path', 'newer', 'closed', 'stack', 'no_call',
+];
+/** The forms of `explain` and `show`, by their numbers (enum bcs_form). */
 const FORMS = ['ways', 'paths', 'tree', 'json'];
 /** What is added to a form of `explain`: notes about the views follow the pieces. */
 const WITH_NOTES = 4;
+/** How a part is named, by the numbers (enum bcs_notation). */
 const NOTATIONS = ['steps', 'name', 'pointer'];
+
+/** The numbers of the calls (enum bcs_call). */
+const CALL = {
+  check: 1,
+  toBcs: 2,
+  fromBcs: 3,
+  normalise: 4,
+  compare: 5,
+  scan: 6,
+  part: 7,
+  partNamed: 8,
+  content: 9,
+  explain: 10,
+  textRefusal: 11,
+  stopRefusal: 12,
+  schema: 13,
+  example: 14,
+  show: 20,
+  formatPlace: 21,
+  grows: 30,
+  growthList: 31,
+  growthPlace: 32,
+  registryRefusal: 33,
+  pathPlace: 34,
+  registryOfModules: 35,
+  modulesPlace: 36,
+  faultName: 37,
+};
+
+/** Where the members of a question (bcs_question) are. A text has its address there, and its length in the next 8 bytes. */
+const QUESTION = {
+  size: 0,
+  call: 4,
+  number: 8,
+  secondNumber: 12,
+  depth: 16,
+  nodes: 20,
+  format: 24,
+  first: 40,
+  second: 56,
+  views: 72,
+};
+const QUESTION_SIZE = 88;
+
+/** Where the members of an answer (bcs_answer) are. */
+const ANSWER = { status: 0, fault: 4, place: 8, length: 16 };
 const ANSWER_SIZE = 24;
-const SLICE_SIZE = 16;
-const LIMITS_SIZE = 8;
+
+const NOTHING = new Uint8Array();
+
+/** What a call is asked. What it doesn't use is 0 and empty. */
+class Question {
+  constructor(call, { number = 0, depth = 0, nodes = 0, format = NOTHING, first = NOTHING, second = NOTHING, views = NOTHING }) {
+    this.call = call;
+    this.number = number;
+    this.depth = depth;
+    this.nodes = nodes;
+    this.format = format;
+    this.first = first;
+    this.second = second;
+    this.views = views;
+  }
+
+  /** How many bytes it takes in memory, with its texts. */
+  get size() {
+    return QUESTION_SIZE + this.format.length + this.first.length + this.second.length + this.views.length;
+  }
+}
+
+// The proved calls, which bindings/c/proved.h declares, on an instance of the WebAssembly module: a question is copied into its
+// memory, and the answer is read from there.
+
 const HANDLE_SIZE = 8;
 // An instance whose memory grew beyond this is dropped, so that its memory goes back to the system.
 const KEPT_MEMORY = 32 << 20;
 // The first output for pieces is no longer than this, since how long they are depends on the names.
 const FIRST_PIECES = 16 << 20;
-// The first output for the place of a refusal.
-const FIRST_PLACE = 256;
-// The first output for a schema, an example, a registry in readable form, and the differences of two.
+// The first output for everything else whose length isn't known, such as a schema.
 const FIRST_DOCUMENT = 4096;
-// The least room in the memory that is kept for the arguments of calls.
-const LEAST_ROOM = 4096;
+// The first output for the message of a refusal.
+const FIRST_MESSAGE = 1024;
+// The least room in the memory that is kept for questions.
+const LEAST_ROOM = 8192;
 
 /** A registry that is read once for many calls. If its instance was dropped, the next call reads it again. */
 class Opened {
@@ -1080,9 +1153,11 @@ class Opened {
   }
 }
 
-/** An instance of the module, with a piece of its memory for the arguments and the answer of a call. */
+/** An instance of the module, with a piece of its memory for a question and its answer. */
 class Room {
   id = Symbol('room');
+  /** A handle in which nothing is open, for calls that need no registry. */
+  closed;
   #place = 0;
   #size = 0;
   #bytes;
@@ -1090,6 +1165,7 @@ class Room {
 
   constructor(module) {
     this.exports = new WebAssembly.Instance(module, {}).exports;
+    this.closed = this.takeHandle();
   }
 
   get size() {
@@ -1114,34 +1190,66 @@ class Room {
     return place;
   }
 
-  /**
-   * Makes a call with these arguments. A number is passed as it is, bytes as a slice, and an object as the parameters: `slices`,
-   * and then the limits. The output, if the call has one, has `outLength` bytes.
-   */
-  call(name, parts, outLength) {
-    let size = ANSWER_SIZE + (outLength ?? 0);
-    for (const part of parts) size += sizeOf(part);
-    this.#reserve(size);
+  /** Reads a registry into the handle at this place. */
+  open(handle, text) {
+    this.#reserve(ANSWER_SIZE + text.length);
     this.#look();
-    const words = [BigInt(this.#place)];
-    let at = this.#place + ANSWER_SIZE;
-    for (const part of parts) at = this.#put(part, at, words);
-    if (outLength !== undefined) words.push(BigInt(at), BigInt(outLength));
-    this.exports[name](...words);
+    const at = this.#place + ANSWER_SIZE;
+    this.#bytes.set(text, at);
+    this.exports.bcs_c_open(BigInt(this.#place), BigInt(handle), BigInt(at), BigInt(text.length));
+    this.#look();
+    return this.#answer();
+  }
+
+  /** Asks a question, with so much room for the output and for the message of a refusal. */
+  ask(handle, question, outLength, messageLength) {
+    this.#reserve(ANSWER_SIZE + question.size + outLength + messageLength);
+    this.#look();
+    const at = this.#place + ANSWER_SIZE;
+    const out = this.#putQuestion(question, at);
+    const message = out + outLength;
+    this.exports.bcs_c_ask(
+      BigInt(this.#place), BigInt(handle), BigInt(at), BigInt(out), BigInt(outLength), BigInt(message), BigInt(messageLength),
+    );
     this.#look();
     const answer = this.#answer();
-    if (outLength !== undefined && answer.status === 'done') answer.output = this.#bytes.slice(at, at + answer.length);
+    if (answer.status === 'done' && outLength > 0) answer.output = this.#bytes.slice(out, out + answer.length);
+    if (answer.status === 'refused' && answer.length <= messageLength) answer.message = this.#bytes.slice(message, message + answer.length);
     return answer;
   }
 
   #answer() {
     return {
-      status: STATUSES[this.#view.getUint32(this.#place, true)],
-      fault: this.#view.getUint32(this.#place + 4, true),
-      place: this.#number(this.#place + 8),
-      length: this.#number(this.#place + 16),
+      status: STATUSES[this.#view.getUint32(this.#place + ANSWER.status, true)],
+      fault: this.#view.getUint32(this.#place + ANSWER.fault, true),
+      place: this.#number(this.#place + ANSWER.place),
+      length: this.#number(this.#place + ANSWER.length),
       output: undefined,
+      message: undefined,
     };
+  }
+
+  /** Puts a question there, and its texts behind it. Returns where these end. */
+  #putQuestion(question, at) {
+    const view = this.#view;
+    view.setUint32(at + QUESTION.size, QUESTION_SIZE, true);
+    view.setUint32(at + QUESTION.call, question.call, true);
+    view.setUint32(at + QUESTION.number, question.number, true);
+    view.setUint32(at + QUESTION.secondNumber, 0, true);
+    view.setUint32(at + QUESTION.depth, question.depth, true);
+    view.setUint32(at + QUESTION.nodes, question.nodes, true);
+    let end = at + QUESTION_SIZE;
+    end = this.#putText(question.format, at + QUESTION.format, end);
+    end = this.#putText(question.first, at + QUESTION.first, end);
+    end = this.#putText(question.second, at + QUESTION.second, end);
+    return this.#putText(question.views, at + QUESTION.views, end);
+  }
+
+  #putText(text, at, start) {
+    this.#putNumber(start, at);
+    this.#putNumber(text.length, at + 8);
+    if (text.length > 0) this.#bytes.set(text, start);
+    return start + text.length;
   }
 
   // A number of 64 bits, by halves, since a `BigInt` for each takes longer.
@@ -1152,34 +1260,6 @@ class Room {
   #putNumber(number, at) {
     this.#view.setUint32(at, number, true);
     this.#view.setUint32(at + 4, number / 2 ** 32, true);
-  }
-
-  /** Puts a word's bytes there, if it has any, and gives where they end. */
-  #put(part, at, words) {
-    if (typeof part !== 'object') {
-      words.push(part);
-      return at;
-    }
-    words.push(BigInt(at));
-    if (!(part instanceof Uint8Array)) return this.#putAsk(part, at);
-    words.push(BigInt(part.length));
-    this.#bytes.set(part, at);
-    return at + part.length;
-  }
-
-  #putAsk({ slices, depth, nodes }, start) {
-    let at = start;
-    let end = start + slices.length * SLICE_SIZE + LIMITS_SIZE;
-    for (const slice of slices) {
-      this.#putNumber(end, at);
-      this.#putNumber(slice.length, at + 8);
-      this.#bytes.set(slice, end);
-      at += SLICE_SIZE;
-      end += slice.length;
-    }
-    this.#view.setUint32(at, depth, true);
-    this.#view.setUint32(at + 4, nodes, true);
-    return end;
   }
 
   #reserve(size) {
@@ -1199,44 +1279,51 @@ class Room {
   }
 }
 
-function sizeOf(part) {
-  if (typeof part !== 'object') return 0;
-  if (part instanceof Uint8Array) return part.length;
-  let size = LIMITS_SIZE;
-  for (const slice of part.slices) size += SLICE_SIZE + slice.length;
-  return size;
+/** How much room the output of a call has first, or 0 if the call has none. */
+function firstRoom({ call, first }) {
+  switch (call) {
+    case CALL.check:
+    case CALL.compare:
+    case CALL.scan:
+    case CALL.part:
+    case CALL.partNamed:
+    case CALL.content:
+    case CALL.grows:
+      return 0;
+    case CALL.toBcs:
+    case CALL.normalise:
+      return first.length + 64;
+    case CALL.fromBcs:
+      return 3 * first.length + 64;
+    case CALL.explain:
+      return Math.min(64 * first.length + 256, FIRST_PIECES);
+    default:
+      return FIRST_DOCUMENT;
+  }
 }
 
-/** A call with an output. Where it is too short, the call says how long it has to be, and is made again. */
-function wholeCall(room, name, parts, outLength) {
-  const answer = room.call(name, parts, outLength);
-  return answer.status === 'short' ? room.call(name, parts, answer.length) : answer;
+/** Asks once, and again with more room where the output or the message doesn't fit. */
+function askIn(room, handle, question) {
+  const outLength = firstRoom(question);
+  const answer = room.ask(handle, question, outLength, FIRST_MESSAGE);
+  if (answer.status === 'short') return room.ask(handle, question, answer.length, FIRST_MESSAGE);
+  if (answer.status === 'refused' && answer.message === undefined) return room.ask(handle, question, outLength, answer.length);
+  return answer;
 }
 
 /** Reads the registry into a handle of this room, if it isn't open there. */
 function openIn(room, opened) {
   if (opened.room === room.id) return { status: 'done', fault: 0, place: 0, length: 0 };
   const place = room.takeHandle();
-  const answer = room.call('bcs_c_open', [BigInt(place), opened.text]);
+  const answer = room.open(place, opened.text);
   if (answer.status === 'done') Object.assign(opened, { room: room.id, place });
   else room.give(place);
   return answer;
 }
 
-/** A call on a registry, which is opened if it isn't open here. */
-function handleCall(room, name, registry, parts, outLength) {
-  const answer = openIn(room, registry);
-  if (answer.status !== 'done') return answer;
-  return wholeCall(room, `bcs_c_handle_${name}`, [BigInt(registry.place), ...parts], outLength);
-}
-
-function asked({ format, depth, nodes }) {
-  return { slices: [format], depth, nodes };
-}
-
 /**
- * The calls. Their parameters are `registry`, which is `Opened`, `format`, `depth` and `nodes`. An answer has `status`, `fault`
- * (its number), `place`, `length` and, if the call has one, `output`.
+ * Asks questions. An answer has `status`, `fault` (its number), `place`, `length`, `output` if the call has one and is done, and
+ * `message` if the input is refused.
  */
 class Calls {
   #module;
@@ -1246,110 +1333,13 @@ class Calls {
     this.#module = module;
   }
 
-  check(ask) {
-    return this.#on('check', ask, []);
-  }
-
-  grows(older, newer) {
-    return this.#run((room) => room.call('bcs_c_grows', [older, newer]));
-  }
-
-  toBcs(ask, text) {
-    return this.#on('to_bcs', ask, [text], text.length + 64);
-  }
-
-  fromBcs(ask, bytes) {
-    return this.#on('from_bcs', ask, [bytes], 3 * bytes.length + 64);
-  }
-
-  normalise(ask, text) {
-    return this.#on('normalise', ask, [text], text.length + 64);
-  }
-
-  compare(ask, first, second) {
-    return this.#on('compare', ask, [first, second]);
-  }
-
-  scan(ask, bytes) {
-    return this.#on('scan', ask, [bytes]);
-  }
-
-  part(ask, bytes, path) {
-    return this.#on('part', ask, [bytes, path]);
-  }
-
-  /** `notation` is `name` or `pointer`. */
-  partNamed(ask, notation, name, bytes) {
-    return this.#onHandle('part_named', ask.registry, [asked(ask), NOTATIONS.indexOf(notation), name, bytes]);
-  }
-
-  /** The content of a byte string. `notation` is `steps`, `name` or `pointer`. */
-  content(ask, notation, name, bytes) {
-    return this.#on('content', ask, [NOTATIONS.indexOf(notation), name, bytes]);
-  }
-
-  /** `views` has a line for each view. */
-  explain(ask, form, views, bytes) {
-    return this.#on('explain_with', ask, [FORMS.indexOf(form) + WITH_NOTES, views, bytes], Math.min(64 * bytes.length + 256, FIRST_PIECES));
-  }
-
-  /** Where a text is refused, and what was expected there, with a NUL between them. */
-  textRefusal(ask, text) {
-    return this.#onHandle('text_refusal', ask.registry, [asked(ask), text], FIRST_PLACE);
-  }
-
-  /** The same of bytes. */
-  stopRefusal(ask, bytes) {
-    return this.#onHandle('stop_refusal', ask.registry, [asked(ask), bytes], FIRST_PLACE);
-  }
-
-  schema(ask) {
-    return this.#onHandle('schema', ask.registry, [asked(ask)], FIRST_DOCUMENT);
-  }
-
-  example(ask, isFull, variant) {
-    return this.#onHandle('example', ask.registry, [asked(ask), Number(isFull), variant], FIRST_DOCUMENT);
-  }
-
-  show(registry, form, name) {
-    return this.#onHandle('show', registry, [FORMS.indexOf(form), name], FIRST_DOCUMENT);
-  }
-
-  /** The same of a format. */
-  formatPlace(ask) {
-    return this.#run((room) => wholeCall(room, 'bcs_c_format_place', [ask.registry.text, ask.format], FIRST_PLACE));
-  }
-
-  /** The same of a path. */
-  pathPlace(path) {
-    return this.#run((room) => wholeCall(room, 'bcs_c_path_place', [path], FIRST_PLACE));
-  }
-
-  /** The same of growth. */
-  growthPlace(older, newer) {
-    return this.#run((room) => wholeCall(room, 'bcs_c_growth_place', [older, newer], FIRST_PLACE));
-  }
-
-  growthList(older, newer) {
-    return this.#run((room) => wholeCall(room, 'bcs_c_growth_list', [older, newer], FIRST_DOCUMENT));
-  }
-
-  registryOfModules(modules, types) {
-    return this.#run((room) => wholeCall(room, 'bcs_c_registry_of_modules', [modules, types], FIRST_DOCUMENT));
-  }
-
-  /** The same of modules, or of a type that is requested of them. */
-  modulesPlace(modules, types) {
-    return this.#run((room) => wholeCall(room, 'bcs_c_modules_place', [modules, types], FIRST_PLACE));
-  }
-
-  /** The same of the text of a registry. */
-  registryRefusal(text) {
-    return this.#run((room) => wholeCall(room, 'bcs_c_registry_refusal', [text], FIRST_PLACE));
-  }
-
-  faultName(fault) {
-    return this.#run((room) => wholeCall(room, 'bcs_c_fault_name', [fault], 32));
+  /** Asks about a registry, which is read if it isn't open here, or without one. */
+  ask(question, opened) {
+    return this.#run((room) => {
+      if (opened === undefined) return askIn(room, room.closed, question);
+      const answer = openIn(room, opened);
+      return answer.status === 'done' ? askIn(room, opened.place, question) : answer;
+    });
   }
 
   /** Reads a registry, which is open from then on. */
@@ -1365,14 +1355,6 @@ class Calls {
       room.give(opened.place);
       opened.room = undefined;
     });
-  }
-
-  #on(name, ask, parts, outLength) {
-    return this.#onHandle(name, ask.registry, [asked(ask), ...parts], outLength);
-  }
-
-  #onHandle(name, registry, parts, outLength) {
-    return this.#run((room) => handleCall(room, name, registry, parts, outLength));
   }
 
   /** One instance serves call after call. A call that was broken off may leave anything behind, so its instance is dropped. */
@@ -1554,13 +1536,13 @@ function textOfFormat(format) {
 // What the module reports of a refusal.
 
 /**
- * Takes an answer of the module apart: where a refusal is, and what is wrong there, with a NUL between them. A name in the place
- * may contain others. The output is empty if there is nothing to say besides the fault.
+ * Takes a message of the module apart: where a refusal is, and what is wrong there, with a NUL between them. A name in the place
+ * may contain others. The message is missing or empty if there is nothing to say besides the fault.
  */
-function reported({ status, output }) {
-  if (status !== 'done' || output.length === 0) return {};
-  const end = output.lastIndexOf(0);
-  const [at, detail] = [output.subarray(0, end), output.subarray(end + 1)].map(stringOfUtf8);
+function reported(message) {
+  if (message === undefined || message.length === 0) return {};
+  const end = message.lastIndexOf(0);
+  const [at, detail] = [message.subarray(0, end), message.subarray(end + 1)].map(stringOfUtf8);
   return { at, detail };
 }
 
@@ -1675,7 +1657,7 @@ class FormatCalls {
   }
 
   check() {
-    this.#answer(ALL_NODES, (calls, ask) => calls.check(ask));
+    this.#ask(CALL.check, {}, ALL_NODES);
   }
 
   /** The JSON of a value in UTF-8, for the next call. The format passes the proved check first. */
@@ -1692,23 +1674,19 @@ class FormatCalls {
   }
 
   encoded(text) {
-    return this.#ofText(text, (calls, ask) => calls.toBcs(ask, text)).output;
+    return this.#ask(CALL.toBcs, { first: text }, ALL_NODES).output;
   }
 
   normalised(text) {
-    return stringOfUtf8(this.#ofText(text, (calls, ask) => calls.normalise(ask, text)).output);
+    return stringOfUtf8(this.#ask(CALL.normalise, { first: text }, ALL_NODES).output);
   }
 
   areEqual(first, second) {
-    const placing = (calls, ask) => {
-      const told = calls.textRefusal(ask, first);
-      return reported(told.status === 'no' ? calls.textRefusal(ask, second) : told);
-    };
-    return this.#answer(ALL_NODES, (calls, ask) => calls.compare(ask, first, second), placing).status === 'done';
+    return this.#ask(CALL.compare, { first, second }, ALL_NODES).status === 'done';
   }
 
   decoded(bytes, nodes = this.#nodesFor(bytes)) {
-    return stringOfUtf8(this.#ofBytes(bytes, (calls, ask) => calls.fromBcs(ask, bytes), nodes).output);
+    return stringOfUtf8(this.#ask(CALL.fromBcs, { first: bytes }, nodes).output);
   }
 
   /** (The limit on nodes depends on all bytes, so both steps get the same one.) */
@@ -1718,77 +1696,87 @@ class FormatCalls {
   }
 
   scanned(bytes) {
-    return this.#ofBytes(bytes, (calls, ask) => calls.scan(ask, bytes)).length;
+    return this.#ask(CALL.scan, { first: bytes }, this.#nodesFor(bytes)).length;
   }
 
   explained(bytes, form, views) {
-    const lines = linesOfViews(views);
-    const placing = (calls, ask, { status }) => this.#refusedOf(calls, ask, views, status);
-    return stringOfUtf8(this.#answer(this.#nodesFor(bytes), (calls, ask) => calls.explain(ask, form, lines, bytes), placing).output);
+    const asked = { number: FORMS.indexOf(form) + WITH_NOTES, first: bytes, views: linesOfViews(views) };
+    return stringOfUtf8(this.#ask(CALL.explain, asked, this.#nodesFor(bytes), ({ status }) => this.#refusedOf(views, status)).output);
   }
 
   /** Which of the views is refused, each asked by itself. */
-  #refusedOf(calls, ask, views, status) {
-    const found = views.find((view) => calls.explain(ask, FORMS[0], linesOfViews([view]), new Uint8Array()).status === status);
+  #refusedOf(views, status) {
+    const found = views.find((view) => this.#statusOf(view) === status);
     if (found === undefined) return {};
-    const told = found.format && reported(calls.formatPlace({ ...ask, format: found.format.bytes }));
-    return refusedView(found, status, told);
+    return refusedView(found, status, found.format && this.#placeIn(found.format));
+  }
+
+  #statusOf(view) {
+    return this.#bcs.answerTo(this.#question(CALL.explain, { views: linesOfViews([view]) }, ALL_NODES), this.#holder.opened).status;
   }
 
   /** The content of a part, a byte string. `notation` is `steps`, `name` or `pointer`. */
   content(bytes, notation, name) {
-    const placing = notation === 'steps' ? (calls) => reported(calls.pathPlace(name)) : () => ({ detail: `expected ${EXAMPLES[notation]}` });
-    return this.#partBy(bytes, (calls, ask) => calls.content(ask, notation, name, bytes), placing);
+    return this.#partBy(CALL.content, bytes, notation, name);
   }
 
   /** The part to which a path leads. */
   part(bytes, path) {
-    return this.#partBy(bytes, (calls, ask) => calls.part(ask, bytes, path), (calls) => reported(calls.pathPlace(path)));
+    return this.#partBy(CALL.part, bytes, 'steps', path);
   }
 
   /** The part with a name. `notation` is `name` or `pointer`. */
   partNamed(bytes, notation, name) {
-    const placing = () => ({ detail: `expected ${EXAMPLES[notation]}` });
-    return this.#partBy(bytes, (calls, ask) => calls.partNamed(ask, notation, name, bytes), placing);
+    return this.#partBy(CALL.partNamed, bytes, notation, name);
   }
 
-  #partBy(bytes, call, placing) {
-    const placed = (calls, ask, { status, fault }) => {
-      if (status === 'path') return placing(calls);
-      return fault === NO_CONTENT ? { detail: WITH_CONTENT } : reported(calls.stopRefusal(ask, bytes));
+  #partBy(call, bytes, notation, name) {
+    const placing = ({ status, fault }) => {
+      if (status === 'path') return this.#placeOfName(notation, name);
+      return fault === NO_CONTENT ? { detail: WITH_CONTENT } : undefined;
     };
-    const { status, place, length } = this.#answer(this.#nodesFor(bytes), call, placed);
+    const asked = { number: NOTATIONS.indexOf(notation), first: bytes, second: name };
+    const { status, place, length } = this.#ask(call, asked, this.#nodesFor(bytes), placing);
     return status === 'no' ? undefined : { place, bytes: bytes.slice(place, place + length) };
   }
 
+  #placeOfName(notation, name) {
+    if (notation === 'steps') return this.#bcs.reportedBy(new Question(CALL.pathPlace, { second: name }));
+    return { detail: `expected ${EXAMPLES[notation]}` };
+  }
+
   schema() {
-    return stringOfUtf8(this.#answer(ALL_NODES, (calls, ask) => calls.schema(ask)).output);
+    return stringOfUtf8(this.#ask(CALL.schema, {}, ALL_NODES).output);
   }
 
   example(isFull, variant) {
-    return stringOfUtf8(this.#answer(ALL_NODES, (calls, ask) => calls.example(ask, isFull, variant)).output);
+    return stringOfUtf8(this.#ask(CALL.example, { number: Number(isFull), second: variant }, ALL_NODES).output);
   }
 
   #nodesFor(bytes) {
     return this.#holder.nodesFor(bytes.length);
   }
 
-  #ofText(text, call) {
-    return this.#answer(ALL_NODES, call, (calls, ask) => reported(calls.textRefusal(ask, text)));
-  }
-
-  #ofBytes(bytes, call, nodes = this.#nodesFor(bytes)) {
-    return this.#answer(nodes, call, (calls, ask) => reported(calls.stopRefusal(ask, bytes)));
-  }
-
-  #answer(nodes, call, placing) {
-    const limits = { depth: this.#limits.depth, nodes: this.#limits.nodes ?? nodes };
-    const ask = { registry: this.#holder.opened, format: this.#format.bytes, ...limits };
-    const placed = (calls, answer) => {
-      const told = answer.status === 'format' ? reported(calls.formatPlace(ask)) : {};
-      return told.detail === undefined ? placing?.(calls, ask, answer) : told;
+  /** Asks about the format, where the input may have so many nodes unless the caller has set a limit. */
+  #ask(call, asked, nodes, placing) {
+    const placed = (answer) => {
+      const told = answer.status === 'format' ? this.#placeIn(this.#format) : {};
+      return told.detail === undefined ? placing?.(answer) : told;
     };
-    return this.#bcs.answerOf((calls) => call(calls, ask), placed);
+    return this.#bcs.ask(this.#question(call, asked, nodes), this.#holder.opened, placed);
+  }
+
+  #question(call, asked, nodes) {
+    const question = new Question(call, asked);
+    question.format = this.#format.bytes;
+    question.depth = this.#limits.depth;
+    question.nodes = this.#limits.nodes ?? nodes;
+    return question;
+  }
+
+  /** Where a format is refused. (The proved call reads the registry itself.) */
+  #placeIn(format) {
+    return this.#bcs.reportedBy(new Question(CALL.formatPlace, { format: format.bytes, first: this.#holder.opened.text }));
   }
 }
 
@@ -1917,10 +1905,9 @@ class Registry {
   /** The registry in readable form, or one container with what it depends on; with `json` as compact JSON. */
   show(name = '', { json = false } = {}) {
     return this.#during(() => {
-      const bytes = bytesOf(name);
+      const question = new Question(CALL.show, { number: FORMS.indexOf(json ? 'json' : 'ways'), second: bytesOf(name) });
       const refused = () => ({ at: '', detail: `no container is called ${name}` });
-      const call = (calls) => calls.show(this.#holder.opened, json ? 'json' : 'ways', bytes);
-      return stringOfUtf8(this.#bcs.answerOf(call, refused).output);
+      return stringOfUtf8(this.#bcs.ask(question, this.#holder.opened, refused).output);
     });
   }
 
@@ -2087,26 +2074,27 @@ class Bcs {
     const { names } = options;
     const [bytes, moveTypes] = [bytesOf(text), new MoveTypes(names)];
     const holder = new Holder(this.#calls, bytes, moveTypes);
-    this.answerOf((calls) => calls.open(holder.opened), (calls, answer) => this.#placeInRegistry(calls, answer, text, bytes));
+    this.#accepted(interruptible(() => this.#calls.open(holder.opened)), (answer) => this.#placeInRegistry(answer, text, bytes));
     holder.checkNames();
     return new Registry(this, holder, { depth: MOST_DEPTH });
   }
 
   /** Returns if the newer registry keeps everything in the older one; otherwise it is refused, with its first fault. */
   grows(older, newer) {
-    const [first, second] = [bytesOf(older), bytesOf(newer)];
-    this.answerOf((calls) => calls.grows(first, second), (calls, answer) => {
-      if (answer.status === 'refused') return reported(calls.growthPlace(first, second));
-      return this.#placeInRegistry(calls, answer, ...(answer.status === 'newer' ? [newer, second] : [older, first]));
-    });
+    this.#askOfBoth(CALL.grows, older, newer);
   }
 
   /** All differences from an older registry to a newer one, a line for each. */
   differences(older, newer) {
+    return stringOfUtf8(this.#askOfBoth(CALL.growthList, older, newer).output).split('\n').slice(0, -1);
+  }
+
+  #askOfBoth(call, older, newer) {
     const [first, second] = [bytesOf(older), bytesOf(newer)];
-    const { output } = this.answerOf((calls) => calls.growthList(first, second), (calls, answer) =>
-      this.#placeInRegistry(calls, answer, ...(answer.status === 'newer' ? [newer, second] : [older, first])));
-    return stringOfUtf8(output).split('\n').slice(0, -1);
+    return this.ask(new Question(call, { first, second }), undefined, (answer) => {
+      if (answer.status === 'refused') return undefined;
+      return this.#placeInRegistry(answer, ...(answer.status === 'newer' ? [newer, second] : [older, first]));
+    });
   }
 
   /**
@@ -2114,14 +2102,13 @@ class Bcs {
    * the types is a type, or a function, whose arguments have containers of their own.
    */
   registryOfModules(modules, types) {
-    const [text, lines] = [bytesOf(modules), linesOfTypes(types)];
-    const refused = (calls) => reported(calls.modulesPlace(text, lines));
-    return madeRegistryOf(this.answerOf((calls) => calls.registryOfModules(text, lines), refused).output);
+    const [first, second] = [bytesOf(modules), linesOfTypes(types)];
+    return madeRegistryOf(this.ask(new Question(CALL.registryOfModules, { first, second })).output);
   }
 
   /** What is wrong with the JSON of a registry. Callers may have passed the name of a file, which no call opens. */
-  #placeInRegistry(calls, { fault }, text, bytes) {
-    const { at, detail } = reported(calls.registryRefusal(bytes));
+  #placeInRegistry({ fault }, text, bytes) {
+    const { at, detail } = this.reportedBy(new Question(CALL.registryRefusal, { first: bytes }));
     const isFile = detail !== undefined && mayNameFile(text) && this.faultName(fault) === 'NotJson';
     return { at, detail: isFile ? `${detail}; ${FILE_ADVICE}` : detail };
   }
@@ -2130,25 +2117,42 @@ class Bcs {
   faultName(fault) {
     if (!isUnsigned(fault)) return undefined;
     if (!this.#names.has(fault)) {
-      const answer = this.#calls.faultName(fault);
+      const answer = this.answerTo(new Question(CALL.faultName, { number: fault }));
       this.#names.set(fault, answer.status === 'done' ? stringOfUtf8(answer.output) : undefined);
     }
     return this.#names.get(fault);
   }
 
-  /** The answer of a call that is done or says no; any other is thrown, with what `placing` reports of the refusal. */
-  answerOf(call, placing) {
-    const answer = interruptible(() => call(this.#calls));
+  /**
+   * Asks about an open registry, or without one. Returns the answer of a call that is done or says no, and throws any other: a
+   * refusal with what `placing` reports of it, or with the message that comes with the answer.
+   */
+  ask(question, opened, placing) {
+    return this.#accepted(this.answerTo(question, opened), placing);
+  }
+
+  /** The answer, whatever it is. */
+  answerTo(question, opened) {
+    return interruptible(() => this.#calls.ask(question, opened));
+  }
+
+  /** What the output of a call reports of a refusal. */
+  reportedBy(question, opened) {
+    const { status, output } = this.answerTo(question, opened);
+    return status === 'done' ? reported(output) : {};
+  }
+
+  #accepted(answer, placing) {
     if (answer.status === 'done' || answer.status === 'no') return answer;
     throw this.#refusal(answer, placing);
   }
 
   #refusal(answer, placing) {
-    const { status, fault, place } = answer;
+    const { status, fault, place, message } = answer;
     if (status === 'memory') return new BcsError('memory', { detail: 'memory ran out' });
     if (status === 'limits') return new BcsError('limits', { detail: 'the depth is above 500' });
     const kind = status === 'refused' ? kindOfFault(fault) : status;
-    const { at, detail } = (placing && interruptible(() => placing(this.#calls, answer))) ?? {};
+    const { at, detail } = placing?.(answer) ?? reported(message);
     // (only where bytes stop being a value is there a place: the JSON that nests too deep has none)
     const isStop = kind === 'bytes' && fault < 500;
     return new BcsError(kind, { reason: this.faultName(fault), place: isStop ? place : undefined, at, detail: detail || undefined });

@@ -60,7 +60,7 @@ export type ValueInput =
   | ReadonlyMap<ValueInput, ValueInput>
   | { readonly [name: string]: ValueInput };
 
-/** A type whose values `encode` may accept, also an interface; its members that are no values, such as functions, become `never`. */
+/** A type whose values `encode` may accept, also an interface. Members that can't be encoded, such as functions, become `never`. */
 export type Encodable<V> = V extends ValueInput
   ? V
   : V extends (...values: never[]) => unknown

@@ -1,7 +1,6 @@
 // The calls on one format of an open registry.
-import { FORMS } from './calls.mjs';
 import { ALL_NODES } from './limits.mjs';
-import { reported } from './refusals.mjs';
+import { CALL, FORMS, NOTATIONS, Question, WITH_NOTES } from './question.mjs';
 import { valueOf } from './reading.mjs';
 import { bytesForCall, stringOfUtf8 } from './texts.mjs';
 import { linesOfViews, refusedView } from './views.mjs';
@@ -28,7 +27,7 @@ export class FormatCalls {
   }
 
   check() {
-    this.#answer(ALL_NODES, (calls, ask) => calls.check(ask));
+    this.#ask(CALL.check, {}, ALL_NODES);
   }
 
   /** The JSON of a value in UTF-8, for the next call. The format passes the proved check first. */
@@ -45,23 +44,19 @@ export class FormatCalls {
   }
 
   encoded(text) {
-    return this.#ofText(text, (calls, ask) => calls.toBcs(ask, text)).output;
+    return this.#ask(CALL.toBcs, { first: text }, ALL_NODES).output;
   }
 
   normalised(text) {
-    return stringOfUtf8(this.#ofText(text, (calls, ask) => calls.normalise(ask, text)).output);
+    return stringOfUtf8(this.#ask(CALL.normalise, { first: text }, ALL_NODES).output);
   }
 
   areEqual(first, second) {
-    const placing = (calls, ask) => {
-      const told = calls.textRefusal(ask, first);
-      return reported(told.status === 'no' ? calls.textRefusal(ask, second) : told);
-    };
-    return this.#answer(ALL_NODES, (calls, ask) => calls.compare(ask, first, second), placing).status === 'done';
+    return this.#ask(CALL.compare, { first, second }, ALL_NODES).status === 'done';
   }
 
   decoded(bytes, nodes = this.#nodesFor(bytes)) {
-    return stringOfUtf8(this.#ofBytes(bytes, (calls, ask) => calls.fromBcs(ask, bytes), nodes).output);
+    return stringOfUtf8(this.#ask(CALL.fromBcs, { first: bytes }, nodes).output);
   }
 
   /** (The limit on nodes depends on all bytes, so both steps get the same one.) */
@@ -71,76 +66,86 @@ export class FormatCalls {
   }
 
   scanned(bytes) {
-    return this.#ofBytes(bytes, (calls, ask) => calls.scan(ask, bytes)).length;
+    return this.#ask(CALL.scan, { first: bytes }, this.#nodesFor(bytes)).length;
   }
 
   explained(bytes, form, views) {
-    const lines = linesOfViews(views);
-    const placing = (calls, ask, { status }) => this.#refusedOf(calls, ask, views, status);
-    return stringOfUtf8(this.#answer(this.#nodesFor(bytes), (calls, ask) => calls.explain(ask, form, lines, bytes), placing).output);
+    const asked = { number: FORMS.indexOf(form) + WITH_NOTES, first: bytes, views: linesOfViews(views) };
+    return stringOfUtf8(this.#ask(CALL.explain, asked, this.#nodesFor(bytes), ({ status }) => this.#refusedOf(views, status)).output);
   }
 
   /** Which of the views is refused, each asked by itself. */
-  #refusedOf(calls, ask, views, status) {
-    const found = views.find((view) => calls.explain(ask, FORMS[0], linesOfViews([view]), new Uint8Array()).status === status);
+  #refusedOf(views, status) {
+    const found = views.find((view) => this.#statusOf(view) === status);
     if (found === undefined) return {};
-    const told = found.format && reported(calls.formatPlace({ ...ask, format: found.format.bytes }));
-    return refusedView(found, status, told);
+    return refusedView(found, status, found.format && this.#placeIn(found.format));
+  }
+
+  #statusOf(view) {
+    return this.#bcs.answerTo(this.#question(CALL.explain, { views: linesOfViews([view]) }, ALL_NODES), this.#holder.opened).status;
   }
 
   /** The content of a part, a byte string. `notation` is `steps`, `name` or `pointer`. */
   content(bytes, notation, name) {
-    const placing = notation === 'steps' ? (calls) => reported(calls.pathPlace(name)) : () => ({ detail: `expected ${EXAMPLES[notation]}` });
-    return this.#partBy(bytes, (calls, ask) => calls.content(ask, notation, name, bytes), placing);
+    return this.#partBy(CALL.content, bytes, notation, name);
   }
 
   /** The part to which a path leads. */
   part(bytes, path) {
-    return this.#partBy(bytes, (calls, ask) => calls.part(ask, bytes, path), (calls) => reported(calls.pathPlace(path)));
+    return this.#partBy(CALL.part, bytes, 'steps', path);
   }
 
   /** The part with a name. `notation` is `name` or `pointer`. */
   partNamed(bytes, notation, name) {
-    const placing = () => ({ detail: `expected ${EXAMPLES[notation]}` });
-    return this.#partBy(bytes, (calls, ask) => calls.partNamed(ask, notation, name, bytes), placing);
+    return this.#partBy(CALL.partNamed, bytes, notation, name);
   }
 
-  #partBy(bytes, call, placing) {
-    const placed = (calls, ask, { status, fault }) => {
-      if (status === 'path') return placing(calls);
-      return fault === NO_CONTENT ? { detail: WITH_CONTENT } : reported(calls.stopRefusal(ask, bytes));
+  #partBy(call, bytes, notation, name) {
+    const placing = ({ status, fault }) => {
+      if (status === 'path') return this.#placeOfName(notation, name);
+      return fault === NO_CONTENT ? { detail: WITH_CONTENT } : undefined;
     };
-    const { status, place, length } = this.#answer(this.#nodesFor(bytes), call, placed);
+    const asked = { number: NOTATIONS.indexOf(notation), first: bytes, second: name };
+    const { status, place, length } = this.#ask(call, asked, this.#nodesFor(bytes), placing);
     return status === 'no' ? undefined : { place, bytes: bytes.slice(place, place + length) };
   }
 
+  #placeOfName(notation, name) {
+    if (notation === 'steps') return this.#bcs.reportedBy(new Question(CALL.pathPlace, { second: name }));
+    return { detail: `expected ${EXAMPLES[notation]}` };
+  }
+
   schema() {
-    return stringOfUtf8(this.#answer(ALL_NODES, (calls, ask) => calls.schema(ask)).output);
+    return stringOfUtf8(this.#ask(CALL.schema, {}, ALL_NODES).output);
   }
 
   example(isFull, variant) {
-    return stringOfUtf8(this.#answer(ALL_NODES, (calls, ask) => calls.example(ask, isFull, variant)).output);
+    return stringOfUtf8(this.#ask(CALL.example, { number: Number(isFull), second: variant }, ALL_NODES).output);
   }
 
   #nodesFor(bytes) {
     return this.#holder.nodesFor(bytes.length);
   }
 
-  #ofText(text, call) {
-    return this.#answer(ALL_NODES, call, (calls, ask) => reported(calls.textRefusal(ask, text)));
-  }
-
-  #ofBytes(bytes, call, nodes = this.#nodesFor(bytes)) {
-    return this.#answer(nodes, call, (calls, ask) => reported(calls.stopRefusal(ask, bytes)));
-  }
-
-  #answer(nodes, call, placing) {
-    const limits = { depth: this.#limits.depth, nodes: this.#limits.nodes ?? nodes };
-    const ask = { registry: this.#holder.opened, format: this.#format.bytes, ...limits };
-    const placed = (calls, answer) => {
-      const told = answer.status === 'format' ? reported(calls.formatPlace(ask)) : {};
-      return told.detail === undefined ? placing?.(calls, ask, answer) : told;
+  /** Asks about the format, where the input may have so many nodes unless the caller has set a limit. */
+  #ask(call, asked, nodes, placing) {
+    const placed = (answer) => {
+      const told = answer.status === 'format' ? this.#placeIn(this.#format) : {};
+      return told.detail === undefined ? placing?.(answer) : told;
     };
-    return this.#bcs.answerOf((calls) => call(calls, ask), placed);
+    return this.#bcs.ask(this.#question(call, asked, nodes), this.#holder.opened, placed);
+  }
+
+  #question(call, asked, nodes) {
+    const question = new Question(call, asked);
+    question.format = this.#format.bytes;
+    question.depth = this.#limits.depth;
+    question.nodes = this.#limits.nodes ?? nodes;
+    return question;
+  }
+
+  /** Where a format is refused. (The proved call reads the registry itself.) */
+  #placeIn(format) {
+    return this.#bcs.reportedBy(new Question(CALL.formatPlace, { format: format.bytes, first: this.#holder.opened.text }));
   }
 }

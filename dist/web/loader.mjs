@@ -6,6 +6,7 @@ import { interruptible } from './interruptions.mjs';
 import { isUnsigned, MOST_DEPTH, requireKnown } from './limits.mjs';
 import { linesOfTypes, madeRegistryOf } from './modules.mjs';
 import { MoveTypes } from './move_types.mjs';
+import { CALL, Question } from './question.mjs';
 import { reported } from './refusals.mjs';
 import { Registry } from './registry.mjs';
 import { isSupported } from './support.mjs';
@@ -63,26 +64,27 @@ class Bcs {
     const { names } = options;
     const [bytes, moveTypes] = [bytesOf(text), new MoveTypes(names)];
     const holder = new Holder(this.#calls, bytes, moveTypes);
-    this.answerOf((calls) => calls.open(holder.opened), (calls, answer) => this.#placeInRegistry(calls, answer, text, bytes));
+    this.#accepted(interruptible(() => this.#calls.open(holder.opened)), (answer) => this.#placeInRegistry(answer, text, bytes));
     holder.checkNames();
     return new Registry(this, holder, { depth: MOST_DEPTH });
   }
 
   /** Returns if the newer registry keeps everything in the older one; otherwise it is refused, with its first fault. */
   grows(older, newer) {
-    const [first, second] = [bytesOf(older), bytesOf(newer)];
-    this.answerOf((calls) => calls.grows(first, second), (calls, answer) => {
-      if (answer.status === 'refused') return reported(calls.growthPlace(first, second));
-      return this.#placeInRegistry(calls, answer, ...(answer.status === 'newer' ? [newer, second] : [older, first]));
-    });
+    this.#askOfBoth(CALL.grows, older, newer);
   }
 
   /** All differences from an older registry to a newer one, a line for each. */
   differences(older, newer) {
+    return stringOfUtf8(this.#askOfBoth(CALL.growthList, older, newer).output).split('\n').slice(0, -1);
+  }
+
+  #askOfBoth(call, older, newer) {
     const [first, second] = [bytesOf(older), bytesOf(newer)];
-    const { output } = this.answerOf((calls) => calls.growthList(first, second), (calls, answer) =>
-      this.#placeInRegistry(calls, answer, ...(answer.status === 'newer' ? [newer, second] : [older, first])));
-    return stringOfUtf8(output).split('\n').slice(0, -1);
+    return this.ask(new Question(call, { first, second }), undefined, (answer) => {
+      if (answer.status === 'refused') return undefined;
+      return this.#placeInRegistry(answer, ...(answer.status === 'newer' ? [newer, second] : [older, first]));
+    });
   }
 
   /**
@@ -90,14 +92,13 @@ class Bcs {
    * the types is a type, or a function, whose arguments have containers of their own.
    */
   registryOfModules(modules, types) {
-    const [text, lines] = [bytesOf(modules), linesOfTypes(types)];
-    const refused = (calls) => reported(calls.modulesPlace(text, lines));
-    return madeRegistryOf(this.answerOf((calls) => calls.registryOfModules(text, lines), refused).output);
+    const [first, second] = [bytesOf(modules), linesOfTypes(types)];
+    return madeRegistryOf(this.ask(new Question(CALL.registryOfModules, { first, second })).output);
   }
 
   /** What is wrong with the JSON of a registry. Callers may have passed the name of a file, which no call opens. */
-  #placeInRegistry(calls, { fault }, text, bytes) {
-    const { at, detail } = reported(calls.registryRefusal(bytes));
+  #placeInRegistry({ fault }, text, bytes) {
+    const { at, detail } = this.reportedBy(new Question(CALL.registryRefusal, { first: bytes }));
     const isFile = detail !== undefined && mayNameFile(text) && this.faultName(fault) === 'NotJson';
     return { at, detail: isFile ? `${detail}; ${FILE_ADVICE}` : detail };
   }
@@ -106,25 +107,42 @@ class Bcs {
   faultName(fault) {
     if (!isUnsigned(fault)) return undefined;
     if (!this.#names.has(fault)) {
-      const answer = this.#calls.faultName(fault);
+      const answer = this.answerTo(new Question(CALL.faultName, { number: fault }));
       this.#names.set(fault, answer.status === 'done' ? stringOfUtf8(answer.output) : undefined);
     }
     return this.#names.get(fault);
   }
 
-  /** The answer of a call that is done or says no; any other is thrown, with what `placing` reports of the refusal. */
-  answerOf(call, placing) {
-    const answer = interruptible(() => call(this.#calls));
+  /**
+   * Asks about an open registry, or without one. Returns the answer of a call that is done or says no, and throws any other: a
+   * refusal with what `placing` reports of it, or with the message that comes with the answer.
+   */
+  ask(question, opened, placing) {
+    return this.#accepted(this.answerTo(question, opened), placing);
+  }
+
+  /** The answer, whatever it is. */
+  answerTo(question, opened) {
+    return interruptible(() => this.#calls.ask(question, opened));
+  }
+
+  /** What the output of a call reports of a refusal. */
+  reportedBy(question, opened) {
+    const { status, output } = this.answerTo(question, opened);
+    return status === 'done' ? reported(output) : {};
+  }
+
+  #accepted(answer, placing) {
     if (answer.status === 'done' || answer.status === 'no') return answer;
     throw this.#refusal(answer, placing);
   }
 
   #refusal(answer, placing) {
-    const { status, fault, place } = answer;
+    const { status, fault, place, message } = answer;
     if (status === 'memory') return new BcsError('memory', { detail: 'memory ran out' });
     if (status === 'limits') return new BcsError('limits', { detail: 'the depth is above 500' });
     const kind = status === 'refused' ? kindOfFault(fault) : status;
-    const { at, detail } = (placing && interruptible(() => placing(this.#calls, answer))) ?? {};
+    const { at, detail } = placing?.(answer) ?? reported(message);
     // (only where bytes stop being a value is there a place: the JSON that nests too deep has none)
     const isStop = kind === 'bytes' && fault < 500;
     return new BcsError(kind, { reason: this.faultName(fault), place: isStop ? place : undefined, at, detail: detail || undefined });

@@ -1,9 +1,9 @@
 // Registries and their calls, as JavaScript has them.
-import { FORMS } from './calls.mjs';
 import { interruptible } from './interruptions.mjs';
 import { FormatCalls } from './format_calls.mjs';
 import { ALL_NODES, limitOf, MOST_DEPTH, requireKnown } from './limits.mjs';
 import { bytesOfAny } from './octets.mjs';
+import { CALL, FORMS, Question } from './question.mjs';
 import { bytesForCall, bytesOf, stringOfUtf8 } from './texts.mjs';
 import { viewsOf } from './views.mjs';
 
@@ -130,10 +130,9 @@ export class Registry {
   /** The registry in readable form, or one container with what it depends on; with `json` as compact JSON. */
   show(name = '', { json = false } = {}) {
     return this.#during(() => {
-      const bytes = bytesOf(name);
+      const question = new Question(CALL.show, { number: FORMS.indexOf(json ? 'json' : 'ways'), second: bytesOf(name) });
       const refused = () => ({ at: '', detail: `no container is called ${name}` });
-      const call = (calls) => calls.show(this.#holder.opened, json ? 'json' : 'ways', bytes);
-      return stringOfUtf8(this.#bcs.answerOf(call, refused).output);
+      return stringOfUtf8(this.#bcs.ask(question, this.#holder.opened, refused).output);
     });
   }
 

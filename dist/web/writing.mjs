@@ -42,8 +42,7 @@ const TAKES = {
 
 /**
  * The JSON of a value of this shape with at most `nodes` nodes, as a string or in UTF-8. Without a number it may have 16,777,216,
- * and the bytes of lists of `U8` are none. Rejects a value of a wrong type; the
- * proved call finds all other faults.
+ * not counting the bytes of lists of `U8`. Rejects a value of a wrong type; the proved call finds all other faults.
  */
 export function jsonOfValue(shapes, shape, value, nodes) {
   return new Writer(shapes, nodes).whole(shape, value);
