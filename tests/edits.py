@@ -114,30 +114,34 @@ def check_log(listed: list[Row], log: str) -> int:
     return 1 if otherwise or wrong or not listed else 0
 
 
-def try_twins(listed: list[Row]) -> int:
-    """Tries each twin. A file that is the twin of no row is a fault, too."""
+def try_twins(listed: list[Row], left_out: str) -> int:
+    """Tries each twin but those of one crate. A file that is the twin of no row is a fault, too."""
     having = [row for row in listed if row.twin == "twin"]
     faults = [f"no row has this twin: {name}" for name in twins.without_row({row.edit for row in having})]
+    tried = [row for row in having if row.edit.partition("/")[0] != left_out]
     with tempfile.TemporaryDirectory() as kept:
-        for row in having:
+        for row in tried:
             wrong = twins.wrong_with(row.edit, row.function, pathlib.Path(kept))
             print(f"edits: {row.edit}: the twin is {'not ' if wrong else ''}accepted", flush=True)
             faults += [f"{row.edit}: {wrong}"] if wrong else []
     spent = os.times()
     minutes = (spent.children_user + spent.children_system) / 60
     print(f"edits: the twins took {minutes:.1f} processor minutes")
-    return report(len(having), faults)
+    return report(len(tried), faults)
 
 
 def main() -> int:
     parser = argparse.ArgumentParser(description=__doc__, formatter_class=argparse.RawDescriptionHelpFormatter)
     parser.add_argument("log", nargs="?", type=pathlib.Path)
     parser.add_argument("--twins", action="store_true", help="try the neutral twins")
+    parser.add_argument("--without", default="", metavar="CRATE", help="leave out the twins of this crate")
     given = parser.parse_args()
     if given.twins == bool(given.log):
         parser.error("give either LOG or --twins")
     listed = rows()
-    return try_twins(listed) if given.twins else check_log(listed, given.log.read_text("utf-8", errors="replace"))
+    if given.twins:
+        return try_twins(listed, given.without)
+    return check_log(listed, given.log.read_text("utf-8", errors="replace"))
 
 
 if __name__ == "__main__":

@@ -159,7 +159,8 @@ def steps(log: pathlib.Path) -> list[Step]:
         Step("trust", python("tools/trust.py", "--check")),
         Step("trust's classes", ["tests/trust_classes.py"]),
         Step("edits", python("tests/edits.py", str(log))),
-        Step("twins", python("tests/edits.py", "--twins"), built),
+        # (those of bcs_calls take longer than all others together)
+        Step("twins", python("tests/edits.py", "--twins", "--without", "bcs_calls"), built),
         Step("dist is current", ["tools/compare_dist.sh"], made),
     ]
 
