@@ -7,12 +7,11 @@ pub use bcs_decode::{
     part, scan, scan_all, scan_from,
 };
 pub use bcs_display_example::{
-    ExampleFault, ExampleForm, ExampleOptions, ExampleOptionsFault, ExampleTextFault, example_text,
-    example_value, example_with,
+    ExampleForm, ExampleOptions, ExampleOptionsFault, ExampleTextFault, example_text, example_with,
 };
 pub use bcs_display_pieces::{
-    CallFault, Explanation, MoveKind, RefusedCall, RefusedView, ViewKind, ViewText, Views,
-    explain_text, put_notes, stop_place,
+    CallFault, Explanation, MoveKind, RefusedCall, RefusedView, Stopped, ViewKind, ViewText, Views,
+    explain_text, put_notes, stop_refusal,
 };
 pub use bcs_display_registry::{
     Change, Difference, RegistryForm, Sizes, container_sizes, difference_lines, differences,
@@ -26,8 +25,8 @@ pub use bcs_io::{
     ByteSink, ByteSource, ReadSource, SinkFailed, SliceSource, SourceFailed, WriteSink, pieces,
 };
 pub use bcs_json::{
-    FromFault, JsonFault, JsonStep, PrintFault, Shown, TextRefusal, compare, fault_place, from_bcs,
-    normalise, normalise_or_refusal, print_value, read_value, read_value_or_refusal, to_bcs,
+    FromFault, JsonFault, JsonStep, PrintFault, Shown, TextRefusal, compare, from_bcs, normalise,
+    normalise_or_refusal, print_value, read_value, read_value_or_refusal, to_bcs,
     to_bcs_or_refusal,
 };
 pub use bcs_num::{NumFault, Width};

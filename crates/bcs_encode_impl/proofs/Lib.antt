@@ -1,5 +1,6 @@
 pub mod Prelude
 pub mod AppendsLaws
+pub mod GivenLaws
 pub mod ValidatingLaws
 pub mod ValidatingViews
 pub mod MapEntries

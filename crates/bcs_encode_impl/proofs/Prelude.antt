@@ -27,7 +27,7 @@ pub use Rattle.bcs_encode_spec.proofs.Sorting.{equal_neighbours_repeat, form_ent
 pub use Rattle.bcs_encode_spec.specs.Canonical.{Below}
 pub use Rattle.bcs_encode_spec.specs.Entries.{EntriesOf, EntriesRise, EntriesRiseFrom, Entry, entry_bytes, HasEqualNeighbours, Keyed, map_bytes}
 pub use Rattle.bcs_encode_spec.specs.Lengths.{all_hold, each_holds, length_limit, lengths_hold, pairs_hold}
-pub use Rattle.bcs_encode_spec.specs.Plain.{plain, plain_each, plain_items}
+pub use Rattle.bcs_encode_spec.specs.Plain.{plain, plain_each, plain_items, plain_pairs}
 pub use Rattle.bcs_encode_spec.specs.Refused.{IsSoundBesidesKeys}
 pub use Rattle.bcs_encode_spec.specs.declared.fault.EncodeFault.{EncodeFault}
 pub use Rattle.bcs_encode_spec.specs.declared.fault.EncodeFault.TheVariants.{NotOfFormat, RepeatedKey}
@@ -65,7 +65,7 @@ pub use Rattle.bcs_value_model.specs.View.{entries_pairs, items_trees, tree_of}
 pub use Rattle.bcs_value_model.specs.declared.value.Value.{Items, the_lemmas, Value, Variant}
 pub use borrow.Author.Tests.{ltb-true}
 pub use mir.Val.{bits}
-pub use Rattle.bcs_encode_impl.specs.Appends.{Appends, Continues, is_complete, is_told, Keeps, rises_after, TakesWhatFits, told, verdict_at}
+pub use Rattle.bcs_encode_impl.specs.Appends.{Appends, Continues, Gives, GivesOn, is_complete, is_told, Keeps, rises_after, TakesWhatFits, told, verdict_at}
 pub use Rattle.bcs_encode_impl.specs.Held.{HeldBytes}
 pub use Rattle.bcs_encode_impl.specs.Laying.{entry_of, span, span_entry}
 pub use Rattle.bcs_encode_impl.specs.Validating.{all_validated, each_validated, leaf, less, pairs_validated, validated}

@@ -1,5 +1,5 @@
 -- What has been appended while a value is validated.
-use Rattle.std.specs.Prelude.{◌≡◌, ℕ, ◌<◌, ◌≤◌, Bool, true, false, List, length, Option, Some, None, Ok, Err, IfOk}
+use Rattle.std.specs.Prelude.{◌≡◌, ℕ, ◌<◌, ◌≤◌, Bool, true, false, List, ◌++◌, length, Option, Some, None, Ok, Err, IfOk}
 use Rattle.bcs_key_order.specs.Spans.{part}
 use Rattle.bcs_key_order.specs.Order.{is_below}
 use Rattle.bcs_encode_impl.specs.Writing.{Verdict, chain}
@@ -45,6 +45,14 @@ Continues first now all rest = is_told now.extent ≡ true → (chain (told firs
 -- if `new` is told, it is `old` with everything appended
 abbrev pub Appends : Output → Output → (List ℕ → Verdict) → Type 0
 Appends old new written = is_told new.extent ≡ true → (chain (told old) written ≡ told new) × Keeps old new
+
+-- if the keys of all maps in `new` ascend as given, then also in `old`, and `new` is `old` with these bytes appended
+abbrev pub Gives : Output → Output → List ℕ → Type 0
+Gives old new p = new.extent ≡ Rising → (old.extent ≡ Rising) × (new.bytes.items ≡ old.bytes.items ++ p)
+
+-- the same where `now` is on the way: with `rest` appended, it is `first` with `all` appended
+abbrev pub GivesOn : Output → Output → List ℕ → List ℕ → Type 0
+GivesOn first now all rest = now.extent ≡ Rising → (first.extent ≡ Rising) × (now.bytes.items ++ rest ≡ first.bytes.items ++ all)
 
 -- capacity doesn't shrink, and a complete output gives up only if the bytes exceed it
 abbrev pub TakesWhatFits : Output → Output → (List ℕ → Verdict) → Type 0

@@ -7,8 +7,9 @@ ghost use Rattle.bcs_registry_model.specs.Shape.{name as name_shape, seq, tuple}
 ghost use Rattle.bcs_registry_model.specs.View.{container_of, field_of, formats_shapes, payload_of, shape_of};
 ghost use Rattle.bcs_value_model.specs.Tree.{items as items_tree, named as named_tree, pairs as pairs_tree};
 ghost use Rattle.bcs_value_model.specs.View.{entries_pairs, items_trees, tree_of};
+ghost use Rattle.bcs_encode_spec.specs.Plain.{plain, plain_items};
 ghost use Rattle.bcs_encode_impl.specs.Writing.{items_written, written};
-ghost use Rattle.bcs_encode_impl.specs.Appends.{Appends};
+ghost use Rattle.bcs_encode_impl.specs.Appends.{Appends, Gives};
 ghost use Rattle.bcs_encode_impl.specs.Validating as spec;
 
 use crate::leaves::{take, write_bytes, write_numbers, write_signed, write_text, write_unsigned};
@@ -31,6 +32,7 @@ pub fn write_value(
 ) -> Option<u64>
     ensures validated { result ≡ spec.validated registry.now (tree_of value.now) (of (shape_of format.now)) depth nodes }
     ensures appended { IfSome result (λ _. Appends out.old out.new (written registry.now (tree_of value.now) (of (shape_of format.now)))) }
+    ensures given { IfSome result (λ _. Gives out.old out.new (plain registry.now (tree_of value.now) (of (shape_of format.now)))) }
 {
     match (value, format) {
         (Value::Unit, Format::Unit) => take(1, nodes),
@@ -82,6 +84,7 @@ fn write_named(
 ) -> Option<u64>
     ensures validated { result ≡ spec.validated registry.now (named_tree (tree_of inner.now)) (of (name_shape name.now)) depth nodes }
     ensures appended { IfSome result (λ _. Appends out.old out.new (written registry.now (named_tree (tree_of inner.now)) (of (name_shape name.now)))) }
+    ensures given { IfSome result (λ _. Gives out.old out.new (plain registry.now (named_tree (tree_of inner.now)) (of (name_shape name.now)))) }
 {
     let depth = take(1, depth)?;
     let nodes = take(1, nodes)?;
@@ -103,6 +106,7 @@ fn write_content(
 ) -> Option<u64>
     ensures validated { result ≡ spec.validated registry.now (tree_of value.now) (content (container_of container.now)) depth nodes }
     ensures appended { IfSome result (λ _. Appends out.old out.new (written registry.now (tree_of value.now) (content (container_of container.now)))) }
+    ensures given { IfSome result (λ _. Gives out.old out.new (plain registry.now (tree_of value.now) (content (container_of container.now)))) }
 {
     match (container, value) {
         (Container::UnitStruct, Value::Unit) => take(1, nodes),
@@ -140,6 +144,7 @@ fn write_payload(
 ) -> Option<u64>
     ensures validated { result ≡ spec.validated registry.now (tree_of value.now) (of (payload_shape (payload_of payload.now))) depth nodes }
     ensures appended { IfSome result (λ _. Appends out.old out.new (written registry.now (tree_of value.now) (of (payload_shape (payload_of payload.now))))) }
+    ensures given { IfSome result (λ _. Gives out.old out.new (plain registry.now (tree_of value.now) (of (payload_shape (payload_of payload.now))))) }
 {
     match (payload, value) {
         (VariantFormat::Unit, Value::Unit) => take(1, nodes),
@@ -169,6 +174,7 @@ fn write_list(
 ) -> Option<u64>
     ensures validated { result ≡ spec.validated registry.now (items_tree (items_trees items.now)) (of (seq (shape_of element.now))) depth nodes }
     ensures appended { IfSome result (λ _. Appends out.old out.new (written registry.now (items_tree (items_trees items.now)) (of (seq (shape_of element.now))))) }
+    ensures given { IfSome result (λ _. Gives out.old out.new (plain registry.now (items_tree (items_trees items.now)) (of (seq (shape_of element.now))))) }
 {
     if items.len() > LENGTH_LIMIT {
         return None;
@@ -189,6 +195,7 @@ fn write_all(
 ) -> Option<u64>
     ensures validated { result ≡ spec.all_validated registry.now (items_trees items.now) (shape_of element.now) depth nodes }
     ensures appended { IfSome result (λ _. Appends out.old out.new (items_written registry.now (items_trees items.now) (shape_of element.now))) }
+    ensures given { IfSome result (λ _. Gives out.old out.new (plain_items registry.now (items_trees items.now) (shape_of element.now))) }
 {
     if let Some(format) = IntegerKind::of(element) {
         return write_numbers(format, nodes, items, out);
@@ -215,6 +222,7 @@ fn write_all_named(
 ) -> Option<u64>
     ensures validated { result ≡ spec.all_validated registry.now (items_trees items.now) (name_shape name.now) depth nodes }
     ensures appended { IfSome result (λ _. Appends out.old out.new (items_written registry.now (items_trees items.now) (name_shape name.now))) }
+    ensures given { IfSome result (λ _. Gives out.old out.new (plain_items registry.now (items_trees items.now) (name_shape name.now))) }
 {
     let found = registry.container(name);
     let mut left = nodes;
@@ -246,6 +254,7 @@ fn write_each(
 ) -> Option<u64>
     ensures validated { result ≡ spec.validated registry.now (items_tree (items_trees items.now)) (of (tuple (formats_shapes formats.now))) depth nodes }
     ensures appended { IfSome result (λ _. Appends out.old out.new (written registry.now (items_tree (items_trees items.now)) (of (tuple (formats_shapes formats.now))))) }
+    ensures given { IfSome result (λ _. Gives out.old out.new (plain registry.now (items_tree (items_trees items.now)) (of (tuple (formats_shapes formats.now))))) }
 {
     if items.len() != formats.len() {
         return None;
@@ -269,6 +278,7 @@ fn write_fields(
 ) -> Option<u64>
     ensures validated { result ≡ spec.validated registry.now (items_tree (items_trees items.now)) (of (tuple (field_shapes (map field_of fields.now)))) depth nodes }
     ensures appended { IfSome result (λ _. Appends out.old out.new (written registry.now (items_tree (items_trees items.now)) (of (tuple (field_shapes (map field_of fields.now)))))) }
+    ensures given { IfSome result (λ _. Gives out.old out.new (plain registry.now (items_tree (items_trees items.now)) (of (tuple (field_shapes (map field_of fields.now)))))) }
 {
     if items.len() != fields.len() {
         return None;
@@ -294,6 +304,7 @@ fn write_map(
 ) -> Option<u64>
     ensures validated { result ≡ spec.validated registry.now (pairs_tree (entries_pairs pairs.now)) (of (shape_of format.now)) depth nodes }
     ensures appended { IfSome result (λ _. Appends out.old out.new (written registry.now (pairs_tree (entries_pairs pairs.now)) (of (shape_of format.now)))) }
+    ensures given { IfSome result (λ _. Gives out.old out.new (plain registry.now (pairs_tree (entries_pairs pairs.now)) (of (shape_of format.now)))) }
 {
     let Format::Map(key, value) = format else {
         return None;

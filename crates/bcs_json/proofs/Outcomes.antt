@@ -1,6 +1,8 @@
 -- The results of the calls, from the results of the crates below.
 use Rattle.bcs_json.proofs.Prelude.{◌≡◌, ◌≢◌, ◌≤◌, ◌↔◌, ℕ, List, Ok, Err, Result, None, Option, option_map, Some, Vec, IfOk, IfErr, IfSome, Bool, Global, map, Decides, refl, ap, sym, subst, none-some, same_Some, result_ok, result_err, Data, depth, Entries, IsOrderly, Shape, IsWellFormed, Bounds, Same, Tree, tree_of, Value, bytes_decide_same, IsForm, IsSound, EncodeFault, IsDecoded, IsNotJson, TextFault, NotJson, Json, fault_of_text, fault_of_value, JsonFault, JsonStep, OutOfMemory, HasBytes, Compares, Normalises, of, PointerStep, pointer_step_of, value, parts, IsPlaceOf, Reports, read_data, shown, nesting_limit, IsReadAs, SpelledBy, MisspellsAt, RefusesText, IsTextOf, shown_denotes, form_is_sound, form_nests, exact_data, read_is_spelled, stop_is_refusal, refused_value, steps, IsPlaced, Refusal, Prints}
 use Rattle.bcs_registry_model.specs.Container as container
+use Rattle.bcs_json.specs.Refusing.{IsRefusedAs}
+use Rattle.bcs_json.specs.declared.text_refusal.TextRefusal.{TextRefusal}
 use Rattle.bcs_encode_spec.specs.Refused as encode
 use Rattle.bcs_encode_spec.specs.declared.fault.EncodeFault.TheVariants as encode_fault
 use Rattle.bcs_registry_json.specs.declared.json_reading.TextFault.TheVariants as unread
@@ -38,12 +40,18 @@ module _ (registry : Entries) (limits : Bounds) (s : Shape) (text : List ℕ) wh
       let place : IsPlaceOf registry n (value (of s)) d path = subst (λ o. IfSome o (λ location. IsPlaceOf registry n (value (of s)) d location)) known (placed other) in
       (d, is, ((exact_data registry limits.depth (of s) d).err r.fault read, subst (λ m. IsPlaceOf registry m (value (of s)) d path) depth place))
 
-  -- so the steps of a refusal do
-  pub told_steps : (d : Data) → IsReadAs text d → (n : ℕ) → n ≡ limits.depth → (r : Refusal) → Reports {X = Value} tree_of (Err r.fault) (read_data registry n (of s) d)
-      → IsPlaced {X = Value} registry (parts registry n (value (of s)) d) (Err r) → r.fault ≢ OutOfMemory → (o : Option (Vec JsonStep Global)) → option_map (λ v. map pointer_step_of v.items) o ≡ steps r.location
-      → IfSome o (λ v. MisspellsAt registry limits s text (map pointer_step_of v.items) r.fault)
-  told_steps d is n depth r reports placed other None known = tt
-  told_steps d is n depth r reports placed other (Some v) known = told_place d is n depth r reports placed other (map pointer_step_of v.items) (sym known)
+  -- so a refusal of that JSON is one of the document
+  pub told_refusal : (d : Data) → IsReadAs text d → (n : ℕ) → n ≡ limits.depth → (r : Refusal) → Reports {X = Value} tree_of (Err r.fault) (read_data registry n (of s) d)
+      → IsPlaced {X = Value} registry (parts registry n (value (of s)) d) (Err r) → (q : TextRefusal) → q.fault ≡ r.fault
+      → IfSome q.steps (λ v. (r.fault ≢ OutOfMemory) × (Some (map pointer_step_of v.items) ≡ steps r.location)) → IsRefusedAs registry limits s text q
+  told_refusal d is n depth r reports placed q same known = (
+    (λ other. subst (RefusesText registry limits s text) (sym same) (told_fault d is (Err r.fault) (subst (λ m. Reports {X = Value} tree_of (Err r.fault) (read_data registry m (of s) d)) depth reports) (λ bad. other (subst (λ f. f ≡ OutOfMemory) (sym same) bad)))),
+    at q.steps known,
+  )
+    where
+      at : (o : Option (Vec JsonStep Global)) → IfSome o (λ v. (r.fault ≢ OutOfMemory) × (Some (map pointer_step_of v.items) ≡ steps r.location)) → IfSome o (λ v. MisspellsAt registry limits s text (map pointer_step_of v.items) q.fault)
+      at None h = tt
+      at (Some v) h = subst (MisspellsAt registry limits s text (map pointer_step_of v.items)) (sym same) (told_place d is n depth r reports placed h.0 (map pointer_step_of v.items) (sym h.1))
 
   -- a fault of encoding the value is a fault of the document
   pub value_fault : IsOrderly registry → (t : Tree) → SpelledBy registry limits s text t → (e : EncodeFault) → (e ≢ encode_fault.OutOfMemory → encode.RefusesValue registry limits s t e)
@@ -51,28 +59,20 @@ module _ (registry : Entries) (limits : Bounds) (s : Shape) (text : List ℕ) wh
   value_fault orderly t spelled encode_fault.OutOfMemory h other = absurd (other refl)
   value_fault orderly t spelled e h other = refused_value registry limits s text orderly t spelled e (h (λ is. cc))
 
-  -- decoding the bytes of a document returns the canonical form of its value
-  pub decoded_form : (b : List ℕ) (form : Tree) (has : HasBytes registry limits s text b) → IsDecoded registry limits s b form → IsForm registry (container.of s) has.value form
-  decoded_form b form has is = record { fit = is.accepted.sound.fit; canonical = is.accepted.canonical; is_same = is.only has.value has.encoded }
+  -- the JSON of the canonical form of a document's value nests no deeper than a document may, and is the normal document
+  pub normal_nests : IsWellFormed registry → IsOrderly registry → (t form : Tree) → SpelledBy registry limits s text t → IsForm registry (container.of s) t form → depth (shown registry form (of s)) ≤ nesting_limit
+  normal_nests well orderly t form spelled is_form = form_nests registry limits s well orderly text t form spelled is_form
 
-  -- and the JSON of that form nests no deeper than a document may
-  pub decoded_nests : IsWellFormed registry → IsOrderly registry → (b : List ℕ) (form : Tree) → HasBytes registry limits s text b → IsDecoded registry limits s b form → depth (shown registry form (of s)) ≤ nesting_limit
-  decoded_nests well orderly b form has is =
-      let denoted = has.denoted in
-      let spelled : SpelledBy registry limits s text has.value = record { read = denoted.read; is = denoted.is; spells = (denoted.spells, denoted.sound.depth_holds) } in
-      form_nests registry limits s well orderly text has.value form spelled (decoded_form b form has is)
-
-  -- the document of the value that the bytes of a document decode to
-  pub normalises : IsWellFormed registry → IsOrderly registry → (b : List ℕ) (form : Tree) (out : List ℕ) → HasBytes registry limits s text b → IsDecoded registry limits s b form
-      → IsTextOf registry s form out → IsReadAs out (shown registry form (of s)) → Normalises registry limits s text out
-  normalises well orderly b form out has decoded is back =
+  pub normalises : IsWellFormed registry → IsOrderly registry → (t form : Tree) (out : List ℕ) → SpelledBy registry limits s text t → IsSound registry limits s t
+      → IsForm registry (container.of s) t form → IsTextOf registry s form out → IsReadAs out (shown registry form (of s)) → Normalises registry limits s text out
+  normalises well orderly t form out spelled sound is_form is back =
       record {
-        value = has.value;
-        denoted = has.denoted;
+        value = t;
+        denoted = record { read = spelled.read; is = spelled.is; spells = spelled.spells.0; sound = sound };
         form = form;
-        is_form = decoded_form b form has decoded;
+        is_form = is_form;
         is = is;
-        again = shown_denotes registry limits s well orderly form decoded.accepted.sound out back.0 back.1;
+        again = shown_denotes registry limits s well orderly form (form_is_sound registry limits s well orderly t form sound is_form) out back.0 back.1;
       }
 
 -- the document of the canonical form of a sound value

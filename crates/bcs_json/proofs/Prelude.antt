@@ -9,12 +9,11 @@ pub use Rattle.bcs_encode_spec.proofs.FormLaws.{bytes_decide_same}
 pub use Rattle.bcs_encode_spec.specs.Encodes.{IsForm}
 pub use Rattle.bcs_encode_spec.specs.Sound.{IsSound}
 pub use Rattle.bcs_encode_spec.specs.declared.fault.EncodeFault.{EncodeFault}
-pub use Rattle.bcs_json_reader.specs.Refused.{fault_alone, IsPlaced, steps}
+pub use Rattle.bcs_json_reader.specs.Refused.{IsPlaced, steps}
 pub use Rattle.bcs_json_reader.specs.declared.refusal.Refusal.{Refusal}
-pub use Rattle.bcs_json_spec.proofs.OneAnswer.{misspelled}
 pub use Rattle.bcs_json_spec.proofs.Printed.{form_is_sound, form_nests, shown_denotes}
 pub use Rattle.bcs_json_spec.proofs.TextOutcomes.{memory_alone, read_is_spelled, refused_value, stop_is_refusal}
-pub use Rattle.bcs_json_spec.proofs.Verdict.{exact_data, walk_fault}
+pub use Rattle.bcs_json_spec.proofs.Verdict.{exact_data}
 pub use Rattle.bcs_json_spec.specs.Causes.{fault_of_text, fault_of_value}
 pub use Rattle.bcs_json_spec.specs.Headline.{Compares, HasBytes, Normalises}
 pub use Rattle.bcs_json_spec.specs.JsonContent.{of}

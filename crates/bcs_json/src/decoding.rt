@@ -5,10 +5,8 @@ ghost use Rattle.bcs_json.specs.Showing.{DecodesWhole, Shows};
 
 use crate::from_fault::FromFault;
 use bcs_decode::{DecodeFault, Reason, Stop, decode_slice};
-use bcs_json_printer::nesting::shown_nests_within;
 use bcs_json_printer::texts::show;
 use bcs_registry::{Format, Registry};
-use bcs_registry_json::NESTING_LIMIT;
 use bcs_value::{Limits, Value};
 use std::alloc::Global;
 
@@ -28,11 +26,11 @@ pub fn from_bcs(
 {
     registry.recall();
     let value = whole_value(alloc, registry, format, limits, bytes)?;
-    if !shown_nests_within(registry, format, NESTING_LIMIT, &value) {
-        return Err(FromFault::TooNested);
+    let shown = show(alloc, registry, format, &value)?;
+    match shown {
+        Some(text) => Ok(text),
+        None => Err(FromFault::TooNested),
     }
-    let text = show(alloc, registry, format, value)?;
-    Ok(text)
 }
 
 // The value whose encoding is the whole input.

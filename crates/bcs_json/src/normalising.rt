@@ -7,9 +7,9 @@ ghost use Rattle.bcs_json_spec.specs.Texts.{Denotes, RefusesText};
 ghost use Rattle.bcs_json_spec.specs.declared.json_fault.JsonFault.TheVariants.{OutOfMemory};
 ghost use Rattle.bcs_json.specs.Refusing.{IsRefusedAs};
 
-use crate::encoding::to_bcs_or_refusal;
+use crate::spelling::spelled;
 use crate::text_refusal::TextRefusal;
-use bcs_decode::decode_encoded;
+use bcs_encode::into_canonical;
 use bcs_json_printer::texts::show;
 use bcs_json_spec::JsonFault;
 use bcs_registry::{Format, Registry};
@@ -46,9 +46,11 @@ pub fn normalise_or_refusal(
     ensures refused { IfErr result (IsRefusedAs registry.now limits.now (shape_of format.now) text.now) }
 {
     registry.recall();
-    let bytes = to_bcs_or_refusal(alloc, registry, format, limits, text)?;
-    let form = decode_encoded(alloc, registry, format, limits, &bytes)?;
-    drop(bytes);
-    let out = show(alloc, registry, format, form)?;
-    Ok(out)
+    let value = spelled(alloc, registry, format, limits, text)?;
+    let form = into_canonical(alloc, registry, format, limits, value)?;
+    let shown = show(alloc, registry, format, &form)?;
+    match shown {
+        Some(out) => Ok(out),
+        None => unreachable!(),
+    }
 }

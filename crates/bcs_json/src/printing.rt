@@ -9,10 +9,8 @@ ghost use Rattle.bcs_json.specs.declared.print_fault.PrintFault.TheVariants.{Out
 
 use crate::print_fault::PrintFault;
 use bcs_encode::canonicalise;
-use bcs_json_printer::nesting::shown_nests_within;
 use bcs_json_printer::texts::show;
 use bcs_registry::{Format, Registry};
-use bcs_registry_json::NESTING_LIMIT;
 use bcs_value::{Limits, Value};
 use std::alloc::Global;
 
@@ -34,9 +32,9 @@ pub fn print_value(
 {
     registry.recall();
     let form = canonicalise(alloc, registry, format, limits, value)?;
-    if !shown_nests_within(registry, format, NESTING_LIMIT, &form) {
-        return Err(PrintFault::TooNested);
+    let shown = show(alloc, registry, format, &form)?;
+    match shown {
+        Some(text) => Ok(text),
+        None => Err(PrintFault::TooNested),
     }
-    let text = show(alloc, registry, format, form)?;
-    Ok(text)
 }

@@ -3,5 +3,6 @@ pub mod ShownViews
 pub mod ShownDepths
 pub mod PrintedRows
 pub mod Places
+pub mod FieldOrder
 pub mod SentRows
 pub mod ShownBack

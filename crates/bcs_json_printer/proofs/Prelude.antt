@@ -1,5 +1,5 @@
 -- Imports of the proofs: definitions and lemmas of other crates, and definitions of this one.
-pub use Rattle.std.proofs.Common.{[], ap, arith, Bor, Box, BTreeMap, drop, Equal, false, get_or, Global, Greater, IfOk, length, Less, List, map, max, nat_le, None, Option, option_map, Ordering, refl, rules, Some, string_bytes, subst, suc, sym, true, true≢false, Vec, zero, ℕ, ◌&&◌, ◌*◌, ◌++◌, ◌+◌, ◌-◌, ◌<◌, ◌∙◌, ◌∷◌, ◌≡◌, ◌≤◌}
+pub use Rattle.std.proofs.Common.{[], ap, arith, Bor, Box, BTreeMap, drop, Equal, false, get_or, Global, Greater, IfOk, length, Less, List, map, max, nat_le, None, Option, option_map, Ordering, refl, rules, Some, String, string_bytes, subst, suc, sym, true, true≢false, Vec, zero, ℕ, ◌&&◌, ◌*◌, ◌++◌, ◌+◌, ◌-◌, ◌<◌, ◌∙◌, ◌∷◌, ◌≡◌, ◌≤◌}
 pub use Rattle.std.proofs.Math.Nat.{max-le}
 pub use Rattle.std.proofs.lemmas.Bool.{and_parts}
 pub use Rattle.std.proofs.lemmas.Grind.{common_steps}
@@ -45,4 +45,4 @@ pub use Rattle.serde_json.specs.Find.{get_member}
 pub use Rattle.serde_json.specs.Read.{max_depth, read}
 pub use Rattle.serde_json.specs.Sent.{IsTextOf}
 pub use Rattle.serde_json.specs.Written.{compact_text}
-pub use Rattle.bcs_json_printer.specs.Places.{name_of, placed, put_from}
+pub use Rattle.bcs_json_printer.specs.Places.{Ascend, AscendFrom, IsOrder, name_at, name_of, ordered, placed, put_from}

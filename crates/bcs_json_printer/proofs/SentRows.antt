@@ -1,5 +1,6 @@
 -- Lists that are sent one part after another.
-use Rattle.bcs_json_printer.proofs.Prelude.{◌≡◌, ◌<◌, ◌≤◌, ℕ, zero, suc, List, [], ◌∷◌, length, get_or, map, true, false, true≢false, Bor, refl, sym, ap, arith, subst, and_parts, All, values_of, Data, items_len, members_len, Entries, field_shapes, at_format, Shape, field_of, formats_shapes, shape_of, Format, Named, each_fits, fits, nodes, pairs_nodes, trees_nodes, entries_pairs, items_trees, tree_of, Value, shown_all, shown_each, shown_pairs, placed}
+use Rattle.bcs_json_printer.proofs.Prelude.{◌≡◌, ◌<◌, ◌≤◌, ◌-◌, max, common_steps, array, depth, items_depth, members_depth, Members, object, ℕ, zero, suc, List, [], ◌∷◌, length, get_or, map, true, false, true≢false, Bor, refl, sym, ap, arith, subst, and_parts, All, values_of, Data, items_len, members_len, Entries, field_shapes, at_format, Shape, field_of, formats_shapes, shape_of, Format, Named, each_fits, fits, nodes, pairs_nodes, trees_nodes, entries_pairs, items_trees, tree_of, Value, shown_all, shown_each, shown_pairs, placed}
+use Rattle.serde_json.specs.Data.{Items}
 
 -- a part of a list has at most as many nodes as the list
 pub part_nodes : (xs : List Value) (i : ℕ) (x : Value) → i < length xs → x ≡ get_or xs i x → nodes (tree_of x) ≤ trees_nodes (items_trees xs)
@@ -50,3 +51,21 @@ pub next_within : (es : List (Bor (List ℕ) × ℕ)) (e : Bor (List ℕ) × ℕ
 next_within es e rest n is h =
     let all : All (λ i. i < n) (e.1 ∷ values_of rest) = subst (λ (xs : List (Bor (List ℕ) × ℕ)). All (λ i. i < n) (values_of xs)) is h in
     (all 0 0 (omega arith), λ k d lt. all (suc k) d (omega arith))
+
+-- ---- how deep what is sent nests, where at most n arrays and objects may
+
+pub both_below : (a b n : ℕ) → a ≤ n - 1 → 0 < n → b < n → max a b < n
+both_below a b n h some g = grind (arith, common_steps)
+
+pub entry_below : (a b c n : ℕ) → a ≤ n - 2 → b ≤ n - 2 → 0 < n - 1 → c < n → max (suc (max a (max b 0))) c < n
+entry_below a b c n h g some k = grind (arith, common_steps)
+
+pub array_within : (ds : Items) (n : ℕ) → items_depth ds < n → depth (array ds) ≤ n
+array_within ds n h = omega (arith, h)
+
+pub object_within : (ms : Members) (n : ℕ) → members_depth ms < n → depth (object ms) ≤ n
+object_within ms n h = omega (arith, h)
+
+-- an object with one member
+pub one_within : (d : Data) (n : ℕ) → depth d ≤ n - 1 → 0 < n → suc (max (depth d) 0) ≤ n
+one_within d n h some = both_below (depth d) 0 n h some some

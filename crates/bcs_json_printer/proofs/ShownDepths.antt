@@ -1,5 +1,5 @@
 -- How deep the members of a struct nest, field by field.
-use Rattle.bcs_json_printer.proofs.Prelude.{◌≡◌, ◌≤◌, ◌∙◌, ◌<◌, ◌+◌, ℕ, max, nat_le, List, ◌∷◌, length, get_or, drop, map, None, true, ◌&&◌, sym, ap, arith, max-le, and_parts, common_steps, Data, Members, member, put, depth, members_depth, get_member, Field, Entries, shape_of, field_of, are_distinct, Format, Named, Tree, Trees, tree, tree_of, items_trees, Value, of, shown, shown_fields, put_depth, new_field, put_own_depth, put_others_depth}
+use Rattle.bcs_json_printer.proofs.Prelude.{◌≡◌, ◌≤◌, ◌∙◌, ◌<◌, ◌+◌, ℕ, max, nat_le, List, ◌∷◌, length, get_or, drop, map, None, true, ◌&&◌, sym, ap, arith, max-le, and_parts, common_steps, Data, Members, put, depth, members_depth, get_member, Field, Entries, shape_of, field_of, are_distinct, Format, Named, Tree, Trees, tree, tree_of, items_trees, Value, of, shown, shown_fields, put_depth, new_field, put_own_depth, put_others_depth}
 use Rattle.bcs_json_printer.proofs.PrintedRows.{left_at}
 
 abbrev pub names : List Field → List (List ℕ)

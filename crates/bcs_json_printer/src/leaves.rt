@@ -140,11 +140,19 @@ fn byte_of(item: &Value) -> u8
     }
 }
 
-/// The beginning of a sequence of `length` elements.
+/// The beginning of a sequence of `length` elements, where `left` more arrays and objects may nest.
 #[inline(never)]
-pub(crate) fn open_seq<S: Serializer>(length: usize, out: &mut S) -> Result<(), S::Error>
-    ensures { OnOk result (Logs (S.written out.old) (S.written out.new) (seq_begins (Some length))) }
+pub(crate) fn open_seq<S: Serializer>(
+    left: usize,
+    length: usize,
+    out: &mut S,
+) -> Result<(), S::Error>
+    ensures begins { OnOk result (Logs (S.written out.old) (S.written out.new) (seq_begins (Some length))) }
+    ensures left { OnOk result (0 < left) }
 {
+    if left == 0 {
+        return Err(out.custom("the JSON nests too deep"));
+    }
     out.begin_seq(Some(length))
 }
 
@@ -156,11 +164,19 @@ pub(crate) fn close_seq<S: Serializer>(out: &mut S) -> Result<(), S::Error>
     out.end_seq()
 }
 
-/// The beginning of a map of `length` members.
+/// The beginning of a map of `length` members, likewise.
 #[inline(never)]
-pub(crate) fn open_map<S: Serializer>(length: usize, out: &mut S) -> Result<(), S::Error>
-    ensures { OnOk result (Logs (S.written out.old) (S.written out.new) (map_begins (Some length))) }
+pub(crate) fn open_map<S: Serializer>(
+    left: usize,
+    length: usize,
+    out: &mut S,
+) -> Result<(), S::Error>
+    ensures begins { OnOk result (Logs (S.written out.old) (S.written out.new) (map_begins (Some length))) }
+    ensures left { OnOk result (0 < left) }
 {
+    if left == 0 {
+        return Err(out.custom("the JSON nests too deep"));
+    }
     out.begin_map(Some(length))
 }
 

@@ -1,6 +1,6 @@
 -- Names from other crates and from this crate's definitions that the proofs share.
-pub use Rattle.std.proofs.Common.{[], ap, arith, Bool, codes, cond, decimal, drop, Equal, Err, false, get_or, Global, Greater, IfOk, IsUtf8, length, Less, List, map, max, nat_cmp, negsuc, None, not, Ok, Option, option_and_then, option_map, Ordering, pos, refl, replicate, Result, rules, set, slice_get, Some, string_bytes, subst, suc, sym, true, Vec, zero, ℕ, ℤ, ◌*◌, ◌++◌, ◌+◌, ◌-◌, ◌<◌, ◌==◌, ◌^◌, ◌∙◌, ◌∷◌, ◌≡◌, ◌≤◌}
-pub use Rattle.std.proofs.lemmas.Bool.{and_parts, not-true, or_parts}
+pub use Rattle.std.proofs.Common.{[], ap, arith, Bool, codes, cond, decimal, drop, Equal, Err, false, get_or, Global, Greater, IfOk, IsUtf8, length, Less, List, map, max, nat_cmp, negsuc, None, not, Ok, Option, option_and_then, option_map, Ordering, pos, refl, replicate, Result, rules, set, slice_get, Some, string_bytes, subst, suc, sym, true, Vec, zero, ℕ, ℤ, ◌*◌, ◌++◌, ◌+◌, ◌-◌, ◌<◌, ◌==◌, ◌^◌, ◌∙◌, ◌∷◌, ◌≡◌, ◌≤◌, append-nil, take, IfErr, length-append, ◌&&◌}
+pub use Rattle.std.proofs.lemmas.Bool.{and_parts, not-true, or_parts, or_from}
 pub use Rattle.std.proofs.lemmas.Bool.Decides.{Decides-eqb}
 pub use Rattle.std.proofs.lemmas.Int.{to_z-of_z}
 pub use Rattle.std.proofs.lemmas.List.{drop_all, drop_more}
@@ -8,21 +8,22 @@ pub use Rattle.std.proofs.lemmas.Map.Text.{is_eq-slice_cmp}
 pub use Rattle.std.proofs.lemmas.Option.{none-some, slice_get-get_or}
 pub use Rattle.std.proofs.lemmas.Slice.Eq.{bytes_eq-Decides}
 pub use Rattle.std.specs.Bool.{OnTrue}
+pub use Rattle.std.specs.Prelude.{if◌then◌else◌}
 pub use Rattle.std.specs.Cmp.Lexicographic.{slice_cmp}
 pub use Rattle.std.specs.Fmt.{signed_decimal}
-pub use Rattle.std.specs.Int.{w128, w64}
+pub use Rattle.std.specs.Int.{w128, w64, Width}
 pub use Rattle.std.specs.List.{list_all, list_any}
 pub use Rattle.std.specs.Option.{option_map_or}
 pub use Rattle.std.specs.Ordering.{is_eq, match_ordering}
-pub use Rattle.std.specs.Prelude.{⊤}
+pub use Rattle.std.specs.Prelude.{⊤, IfSome, All, OnOk, ◌≢◌}
 pub use Rattle.std.specs.Str.{bytes_eq}
 pub use Rattle.bcs_json_reader.proofs.Called.{differ, lacks_called, stands_called}
 pub use Rattle.bcs_json_reader.proofs.Formats.{field_levels_here, levels_here}
 pub use Rattle.bcs_json_reader.proofs.Levels.{container_found, newtype_levels, struct_levels, tuple_levels, variant_levels}
 pub use Rattle.bcs_json_reader.proofs.PairRows.{joined_pairs}
-pub use Rattle.bcs_json_reader.proofs.Rows.{byte_more, joined, joined-none, row_more}
+pub use Rattle.bcs_json_reader.proofs.Rows.{byte_more, joined, joined-none, row_more, row_fault}
 pub use Rattle.bcs_json_reader.proofs.Texts.{text_read, view_string}
-pub use Rattle.bcs_json_reader.proofs.Whole.{signed_told, tree_signed, tree_unsigned, unsigned_told, widen}
+pub use Rattle.bcs_json_reader.proofs.Whole.{signed_told, tree_signed, tree_unsigned, unsigned_told, widen, unsigned_refused, signed_refused}
 pub use Rattle.bcs_json_reader.specs.Leaf.{read_leaf}
 pub use Rattle.bcs_json_spec.proofs.DistinctVariants.{container_distinct, payload_distinct}
 pub use Rattle.bcs_json_spec.proofs.Exact.{when_true}
@@ -32,9 +33,9 @@ pub use Rattle.bcs_json_spec.specs.Bytes.{byte_trees, is_byte}
 pub use Rattle.bcs_json_spec.specs.JsonContent.{json_content, json_content_at, JsonContent, nothing, of, payload_content}
 pub use Rattle.bcs_json_spec.specs.Look.{item_count, shape_count, without}
 pub use Rattle.bcs_json_spec.specs.Numbers.{SpellsWhole}
-pub use Rattle.bcs_json_spec.specs.Reading.{follow, Read, read_all, read_array, read_byte_text, read_choice, read_data, read_each, read_end, read_enum, read_fields, read_map, read_member, read_named, read_option, read_pair, read_pairs, read_part, read_seq, read_shape, read_struct, read_text, read_word, sized, unit_variant}
+pub use Rattle.bcs_json_spec.specs.Reading.{follow, Read, read_all, read_array, read_byte_text, read_choice, read_data, read_each, read_end, read_enum, read_fields, read_map, read_member, read_named, read_option, read_pair, read_pairs, read_part, read_seq, read_shape, read_struct, read_text, read_word, sized, unit_variant, read_unit, read_truth, read_bytes}
 pub use Rattle.bcs_json_spec.specs.Texts.{SpelledBy}
-pub use Rattle.bcs_json_spec.specs.declared.json_fault.JsonFault.TheVariants.{BadShape}
+pub use Rattle.bcs_json_spec.specs.declared.json_fault.JsonFault.TheVariants.{BadShape, BadHex, BadNumber, MissingField, OutOfMemory, TooDeep, UnknownField, Unsupported}
 pub use Rattle.bcs_num.specs.Le.{IsSigned, IsUnsigned, width_of}
 pub use Rattle.bcs_registry_json.proofs.Turns.{converted-array, converted-object, converted_some, item_read, items_over, member_read, members_over, none_before, whole_read}
 pub use Rattle.bcs_registry_model.proofs.KindShapes.{shape_seen}
@@ -63,7 +64,20 @@ pub use Rattle.json.specs.Reads.{token_of}
 pub use Rattle.json.specs.Token.{Token}
 pub use Rattle.serde_json.proofs.Numbers.{number_of-decimal, number_of-negative}
 pub use Rattle.serde_json.proofs.Views.{get_member-put, get_member-put_other}
-pub use Rattle.serde_json.specs.Data.{array, boolean, Data, depth, item, Items, items_depth, member, Members, members_depth, negative, no_items, no_members, null, number, object, put, string, unsigned}
+pub use Rattle.serde_json.specs.Data.{array, boolean, Data, depth, item, Items, items_depth, member, Members, members_depth, negative, no_items, no_members, null, number, object, put, string, unsigned, Num}
 pub use Rattle.serde_json.specs.Find.{get_member}
 pub use Rattle.serde_json.specs.Read.{converted, number_of, of_items, of_json, of_members, read}
-pub use Rattle.bcs_json_tokens.specs.Tokens.{alone, AreEach, AreItems, AreMembers, IsRead, IsToken}
+pub use Rattle.bcs_json_tokens.specs.Tokens.{AreEach, AreItems, AreMembers, CountedRefused, counted_parts, read_counted, IsRead, IsToken, AreRefused, IsOutOfRange, IsRefused, IsRefusedAs, IsStartRefused, IsTokenRefused, IsWay, MembersRefused, IsTextRefused}
+pub use Rattle.std.proofs.lemmas.List.Elements.{All-nil}
+pub use Rattle.std.specs.Result.{result_err}
+pub use Rattle.bcs_json_spec.specs.Place.{PointerStep, JsonPart, Target, part, parts, each_parts, item_parts, field_parts, IsPlaceAmong, IsGood}
+pub use Rattle.bcs_json_reader.proofs.Placed.{read_later, placed_here, placed_none, placed_on}
+pub use Rattle.bcs_json_spec.proofs.FaultAt.{fault_at}
+pub use Rattle.bcs_json_reader.specs.Refused.{steps}
+pub use Rattle.bcs_json_reader.specs.declared.refusal.Refusal.{Refusal}
+pub use Rattle.bcs_json_reader.specs.declared.refusal.JsonLocation.TheVariants.{Here}
+pub use Rattle.bcs_json_spec.specs.declared.json_fault.JsonFault.{JsonFault}
+unfoldable pub use Rattle.bcs_json_spec.specs.Reading.{read_unsigned, read_signed}
+pub use Rattle.bcs_json_passing.specs.Passing.{alone, AreKept, ArePassed, IfRefused, IsHere, is_count, IsItemsRefusal, IsNamePassed, IsPassed, IsPassedWith, IsRefusal, IsWithin, IsWithinItem, IsWithinOnly, OthersPassed, StartsAs}
+pub use Rattle.bcs_json_passing.specs.declared.given_up.GivenUp.{GivenUp}
+pub use Rattle.bcs_json_tokens.specs.Slots.{first_empty, first_names, IsFieldRefused, IsNameRefused}

@@ -1,22 +1,26 @@
 //! Reads the contents of containers.
-ghost use Rattle.std.specs.Prelude.{◌≡◌, Some, IfOk, map, true};
+ghost use Rattle.std.specs.Prelude.{◌≡◌, Some, IfErr, IfOk, map, string_bytes, true};
 ghost use Rattle.std.specs.List.{list_all};
 ghost use Rattle.bcs_registry_model.specs.Container.{container_at, enumeration};
 ghost use Rattle.bcs_registry_model.specs.Ranges.{IsOrderly};
+ghost use Rattle.bcs_registry_model.specs.Shape as shape;
 ghost use Rattle.bcs_registry_model.specs.View.{field_of, payload_of, choice_of};
 ghost use Rattle.bcs_registry_model.specs.WellFormed.{IsWellFormed, are_distinct, payload_names};
 ghost use Rattle.bcs_value_model.specs.View.{tree_of};
-ghost use Rattle.bcs_json_spec.specs.JsonContent.{json_content_at, payload_content};
+ghost use Rattle.bcs_json_spec.specs.JsonContent.{fields as fields_content, json_content_at, of, one_of, payload_content};
 ghost use Rattle.bcs_json_spec.specs.Reading.{read_data};
 ghost use Rattle.bcs_json_spec.specs.Reading as spec;
-ghost use Rattle.bcs_json_tokens.specs.Tokens.{IsRead};
+ghost use Rattle.bcs_json_passing.specs.Passing.{IfRefused};
+ghost use Rattle.bcs_json_tokens.specs.Tokens.{IsRead, IsRefusedAs};
 
-use crate::given_up::GivenUp;
 use crate::leaves::scalar_of_token;
 use crate::names::{container_called, open_container, variant_called, without_payload};
 use crate::parts::next_fields;
 use crate::reading::{next_tuple, next_value};
-use crate::steps::{inside, next_name, pass_end_object};
+use bcs_json_passing::given_up::GivenUp;
+use bcs_json_passing::refusing::{refused, refused_only_member};
+use bcs_json_passing::steps::{inside, next_name, pass_end_object};
+use bcs_json_spec::JsonFault;
 use bcs_registry::{Container, Format, Named, Registry, VariantFormat};
 use bcs_registry_model::Scalar;
 use bcs_value_model::Value;
@@ -34,11 +38,19 @@ pub(crate) fn next_named(
     depth: usize,
     reader: &mut Reader<'_>,
 ) -> Result<Value, GivenUp>
-    ensures { IfOk result (λ v. IsRead (spec.read_named registry.now left name.now) depth reader.old reader.new (tree_of v)) }
+    ensures read { IfOk result (λ v. IsRead (spec.read_named registry.now left name.now) depth reader.old reader.new (tree_of v)) }
+    ensures refused { IfErr result (IfRefused (IsRefusedAs registry.now left (of (shape.name name.now)) depth reader.old reader.new)) }
 {
-    let within = open_container(left)?;
-    let value = next_content(alloc, registry, name, within, depth, reader)?;
-    Ok(Value::Named(Box::new(alloc, value)?))
+    match open_container(left) {
+        Some(within) => match next_content(alloc, registry, name, within, depth, reader) {
+            Ok(value) => Ok(Value::Named(Box::new(alloc, value)?)),
+            Err(given_up) => Err(given_up),
+        },
+        None => {
+            let token = reader.next().ok_or(GivenUp::Unusual)?;
+            Err(refused(alloc, JsonFault::TooDeep, token, depth, reader))
+        }
+    }
 }
 
 /// Reads the contents of a value of the container `name`.
@@ -51,12 +63,13 @@ fn next_content(
     depth: usize,
     reader: &mut Reader<'_>,
 ) -> Result<Value, GivenUp>
-    ensures { IfOk result (λ v. IsRead (read_data registry.now left (json_content_at name.now registry.now)) depth reader.old reader.new (tree_of v)) }
+    ensures read { IfOk result (λ v. IsRead (read_data registry.now left (json_content_at name.now registry.now)) depth reader.old reader.new (tree_of v)) }
+    ensures refused { IfErr result (IfRefused (IsRefusedAs registry.now left (json_content_at name.now registry.now) depth reader.old reader.new)) }
 {
     match container_called(registry, name)? {
         Container::UnitStruct => {
             let token = reader.next().ok_or(GivenUp::Unusual)?;
-            scalar_of_token(alloc, Scalar::Unit, token)
+            scalar_of_token(alloc, Scalar::Unit, token, depth, reader)
         }
         Container::NewTypeStruct(format) => {
             next_value(alloc, registry, format, left, depth, reader)
@@ -82,13 +95,20 @@ fn next_struct(
     reader: &mut Reader<'_>,
 ) -> Result<Value, GivenUp>
     requires { are_distinct (map (λ f. f.0) (map field_of fields.now)) ≡ true }
-    ensures { IfOk result (λ v. IsRead (spec.read_struct (spec.read_named registry.now left) (map field_of fields.now)) depth reader.old reader.new (tree_of v)) }
+    ensures read { IfOk result (λ v. IsRead (spec.read_struct (spec.read_named registry.now left) (map field_of fields.now)) depth reader.old reader.new (tree_of v)) }
+    ensures refused { IfErr result (IfRefused (IsRefusedAs registry.now left (fields_content (map field_of fields.now)) depth reader.old reader.new)) }
 {
-    let Some(Token::BeginObject) = reader.next() else {
-        return Err(GivenUp::Unusual);
-    };
-    let inner = inside(depth)?;
-    Ok(Value::Items(next_fields(alloc, registry, fields, left, inner, reader)?))
+    let token = reader.next().ok_or(GivenUp::Unusual)?;
+    match token {
+        Token::BeginObject => {
+            let inner = inside(depth)?;
+            match next_fields(alloc, registry, fields, left, inner, reader) {
+                Ok(items) => Ok(Value::Items(items)),
+                Err(given_up) => Err(given_up),
+            }
+        }
+        _ => Err(refused(alloc, JsonFault::BadShape, token, depth, reader)),
+    }
 }
 
 /// Reads an enum: the name of a unit variant, or an object whose only member is the variant's name with its payload.
@@ -105,7 +125,8 @@ fn next_enum(
     requires stands { container_at name.now registry.now ≡ Some (enumeration (map choice_of variants.now.entries)) }
     requires well_formed { IsWellFormed registry.now }
     requires orderly { IsOrderly registry.now }
-    ensures { IfOk result (λ v. IsRead (spec.read_enum (spec.read_named registry.now left) (map choice_of variants.now.entries)) depth reader.old reader.new (tree_of v)) }
+    ensures read { IfOk result (λ v. IsRead (spec.read_enum (spec.read_named registry.now left) (map choice_of variants.now.entries)) depth reader.old reader.new (tree_of v)) }
+    ensures refused { IfErr result (IfRefused (IsRefusedAs registry.now left (one_of (map choice_of variants.now.entries)) depth reader.old reader.new)) }
 {
     let token = reader.next().ok_or(GivenUp::Unusual)?;
     match token {
@@ -118,11 +139,15 @@ fn next_enum(
             let inner = inside(depth)?;
             let word = next_name(reader)?;
             let (number, variant) = variant_called(registry, name, variants, word)?;
-            let value = next_payload(alloc, registry, &variant.value, left, inner, reader)?;
-            pass_end_object(reader)?;
-            Ok(Value::Variant(number, Box::new(alloc, value)?))
+            match next_payload(alloc, registry, &variant.value, left, inner, reader) {
+                Ok(value) => {
+                    pass_end_object(reader)?;
+                    Ok(Value::Variant(number, Box::new(alloc, value)?))
+                }
+                Err(given_up) => Err(refused_only_member(alloc, word, given_up, reader)),
+            }
         }
-        _ => Err(GivenUp::Unusual),
+        _ => Err(refused(alloc, JsonFault::BadShape, token, depth, reader)),
     }
 }
 
@@ -137,12 +162,13 @@ fn next_payload(
     reader: &mut Reader<'_>,
 ) -> Result<Value, GivenUp>
     requires { list_all are_distinct (payload_names (payload_of payload.now)) ≡ true }
-    ensures { IfOk result (λ v. IsRead (spec.read_part (spec.read_named registry.now left) (payload_content (payload_of payload.now))) depth reader.old reader.new (tree_of v)) }
+    ensures read { IfOk result (λ v. IsRead (spec.read_part (spec.read_named registry.now left) (payload_content (payload_of payload.now))) depth reader.old reader.new (tree_of v)) }
+    ensures refused { IfErr result (IfRefused (IsRefusedAs registry.now left (payload_content (payload_of payload.now)) depth reader.old reader.new)) }
 {
     match payload {
         VariantFormat::Unit => {
             let token = reader.next().ok_or(GivenUp::Unusual)?;
-            scalar_of_token(alloc, Scalar::Unit, token)
+            scalar_of_token(alloc, Scalar::Unit, token, depth, reader)
         }
         VariantFormat::NewType(format) => next_value(alloc, registry, format, left, depth, reader),
         VariantFormat::Tuple(formats) => next_tuple(alloc, registry, formats, left, depth, reader),

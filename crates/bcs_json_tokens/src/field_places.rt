@@ -2,7 +2,7 @@
 ghost use Rattle.std.specs.Prelude.{◌≡◌, ◌<◌, IfOk, Some, length, option_map, slice_get, string_bytes};
 ghost use Rattle.std.specs.Bool.{OnTrue};
 
-use crate::given_up::GivenUp;
+use bcs_json_passing::given_up::GivenUp;
 use bcs_registry::{Format, Named};
 use std::alloc::{AllocError, Global};
 use std::collections::BTreeMap;

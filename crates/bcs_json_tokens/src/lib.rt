@@ -4,15 +4,16 @@
 
 mod containers;
 mod field_places;
-mod given_up;
 mod leaves;
 mod names;
 mod numbers;
 mod parts;
 mod reading;
+mod refused_fields;
 mod slots;
-mod steps;
 mod text;
+mod validity;
 
-pub use given_up::GivenUp;
+pub use bcs_json_passing::given_up::GivenUp;
 pub use text::value_of_text;
+pub use validity::is_not_json;

@@ -1,12 +1,14 @@
 //! Looks up containers and variants, and counts open containers.
 ghost use Rattle.std.specs.Prelude.{◌≡◌, IfOk, Some, OnOk, map, option_map, suc};
+ghost use Rattle.std.specs.Option.{option_map_or};
 ghost use Rattle.bcs_registry_model.specs.Container.{container_at, enumeration, choice_called};
 ghost use Rattle.bcs_registry_model.specs.Container as container;
 ghost use Rattle.bcs_registry_model.specs.Ranges.{IsOrderly};
 ghost use Rattle.bcs_registry_model.specs.View.{container_of, choice_of, payload_of};
 ghost use Rattle.bcs_registry_model.specs.WellFormed.{IsWellFormed};
+ghost use Rattle.bcs_json_passing.specs.Passing.{IfUnrefused};
 
-use crate::given_up::GivenUp;
+use bcs_json_passing::given_up::GivenUp;
 use bcs_registry::{Container, Named, Registry, VariantFormat};
 use std::collections::BTreeMap;
 
@@ -14,6 +16,7 @@ use std::collections::BTreeMap;
 #[inline(never)]
 pub fn container_called<'a>(registry: &'a Registry, name: &str) -> Result<&'a Container, GivenUp>
     ensures ok { IfOk result (λ c. container_at name.now registry.now ≡ Some (container_of c.now)) }
+    ensures fault { IfUnrefused result }
     ensures well_formed { IsWellFormed registry.now }
     ensures orderly { IsOrderly registry.now }
 {
@@ -31,6 +34,7 @@ pub fn variant_called<'a>(
     requires stands { container_at name.now registry.now ≡ Some (enumeration (map choice_of variants.now.entries)) }
     requires orderly { IsOrderly registry.now }
     ensures ok { IfOk result (λ v. choice_called word.now (map choice_of variants.now.entries) ≡ Some (choice_of (v.0, v.1.now))) }
+    ensures fault { IfUnrefused result }
 {
     find_variant(registry, name, variants, word).ok_or(GivenUp::Unusual)
 }
@@ -54,6 +58,7 @@ fn find_variant<'a>(
 /// Checks that a variant has no payload.
 pub fn without_payload(payload: &VariantFormat) -> Result<(), GivenUp>
     ensures ok { OnOk result (payload_of payload.now ≡ container.unit) }
+    ensures fault { IfUnrefused result }
 {
     match payload {
         VariantFormat::Unit => Ok(()),
@@ -63,14 +68,10 @@ pub fn without_payload(payload: &VariantFormat) -> Result<(), GivenUp>
     }
 }
 
-/// How many containers may still open inside a container, if `left` may open including it.
+/// How many containers may still open inside a container, if `left` may open including it. `None`: it may not open.
 #[inline(always)]
-pub fn open_container(left: u32) -> Result<u32, GivenUp>
-    ensures ok { IfOk result (λ inside. left ≡ suc inside) }
+pub fn open_container(left: u32) -> Option<u32>
+    ensures { left ≡ option_map_or suc result 0 }
 {
-    if left == 0 {
-        Err(GivenUp::Unusual)
-    } else {
-        Ok(left - 1)
-    }
+    if left == 0 { None } else { Some(left - 1) }
 }

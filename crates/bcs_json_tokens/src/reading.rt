@@ -1,5 +1,6 @@
 //! Reads the value that the next tokens spell.
-ghost use Rattle.std.specs.Prelude.{◌≡◌, IfOk};
+ghost use Rattle.std.specs.Prelude.{◌≡◌, IfErr, IfOk};
+ghost use Rattle.bcs_registry_model.specs.Shape as shape;
 ghost use Rattle.bcs_registry_model.specs.Shape.{tuple as tuple_shape};
 ghost use Rattle.bcs_registry_model.specs.View.{formats_shapes, shape_of};
 ghost use Rattle.bcs_value_model.specs.View.{tree_of};
@@ -7,13 +8,16 @@ ghost use Rattle.bcs_json_spec.specs.Bytes.{is_byte};
 ghost use Rattle.bcs_json_spec.specs.JsonContent.{of};
 ghost use Rattle.bcs_json_spec.specs.Reading.{read_data};
 ghost use Rattle.bcs_json_spec.specs.Reading as spec;
-ghost use Rattle.bcs_json_tokens.specs.Tokens.{IsRead};
+ghost use Rattle.bcs_json_passing.specs.Passing.{IfRefused};
+ghost use Rattle.bcs_json_tokens.specs.Tokens.{IsRead, IsRefusedAs};
 
 use crate::containers::next_named;
-use crate::given_up::GivenUp;
-use crate::leaves::{byte_items, scalar_of_token};
+use crate::leaves::{array_of_text, list_of_text, scalar_of_token};
 use crate::parts::{next_each, next_items, next_pairs};
-use crate::steps::{exactly, inside, pass_end_object, pass_name};
+use bcs_json_passing::given_up::GivenUp;
+use bcs_json_passing::refusing::{refused, refused_only_member};
+use bcs_json_passing::steps::{inside, pass_end_object, pass_name};
+use bcs_json_spec::JsonFault;
 use bcs_registry::{Format, Registry};
 use bcs_registry_model::Kind;
 use bcs_value_model::Value;
@@ -30,12 +34,13 @@ pub(crate) fn next_value(
     depth: usize,
     reader: &mut Reader<'_>,
 ) -> Result<Value, GivenUp>
-    ensures { IfOk result (λ v. IsRead (read_data registry.now left (of (shape_of format.now))) depth reader.old reader.new (tree_of v)) }
+    ensures read { IfOk result (λ v. IsRead (read_data registry.now left (of (shape_of format.now))) depth reader.old reader.new (tree_of v)) }
+    ensures refused { IfErr result (IfRefused (IsRefusedAs registry.now left (of (shape_of format.now)) depth reader.old reader.new)) }
 {
     match format.kind() {
         Kind::Scalar(scalar) => {
             let token = reader.next().ok_or(GivenUp::Unusual)?;
-            scalar_of_token(alloc, scalar, token)
+            scalar_of_token(alloc, scalar, token, depth, reader)
         }
         Kind::TypeName(name) => next_named(alloc, registry, name, left, depth, reader),
         Kind::Opt(content) => next_option(alloc, registry, content, left, depth, reader),
@@ -58,7 +63,8 @@ fn next_option(
     depth: usize,
     reader: &mut Reader<'_>,
 ) -> Result<Value, GivenUp>
-    ensures { IfOk result (λ v. IsRead (spec.read_option (read_data registry.now left (of (shape_of content.now)))) depth reader.old reader.new (tree_of v)) }
+    ensures read { IfOk result (λ v. IsRead (spec.read_option (read_data registry.now left (of (shape_of content.now)))) depth reader.old reader.new (tree_of v)) }
+    ensures refused { IfErr result (IfRefused (IsRefusedAs registry.now left (of (shape.option (shape_of content.now))) depth reader.old reader.new)) }
 {
     let token = reader.next().ok_or(GivenUp::Unusual)?;
     match token {
@@ -66,11 +72,15 @@ fn next_option(
         Token::BeginObject => {
             let inner = inside(depth)?;
             pass_name(reader, "some")?;
-            let value = next_value(alloc, registry, content, left, inner, reader)?;
-            pass_end_object(reader)?;
-            Ok(Value::Present(Box::new(alloc, value)?))
+            match next_value(alloc, registry, content, left, inner, reader) {
+                Ok(value) => {
+                    pass_end_object(reader)?;
+                    Ok(Value::Present(Box::new(alloc, value)?))
+                }
+                Err(given_up) => Err(refused_only_member(alloc, "some", given_up, reader)),
+            }
         }
-        _ => Err(GivenUp::Unusual),
+        _ => Err(refused(alloc, JsonFault::BadShape, token, depth, reader)),
     }
 }
 
@@ -84,16 +94,20 @@ fn next_list(
     depth: usize,
     reader: &mut Reader<'_>,
 ) -> Result<Value, GivenUp>
-    ensures { IfOk result (λ v. IsRead (spec.read_seq (is_byte (shape_of element.now)) (read_data registry.now left (of (shape_of element.now)))) depth reader.old reader.new (tree_of v)) }
+    ensures read { IfOk result (λ v. IsRead (spec.read_seq (is_byte (shape_of element.now)) (read_data registry.now left (of (shape_of element.now)))) depth reader.old reader.new (tree_of v)) }
+    ensures refused { IfErr result (IfRefused (IsRefusedAs registry.now left (of (shape.seq (shape_of element.now))) depth reader.old reader.new)) }
 {
     let token = reader.next().ok_or(GivenUp::Unusual)?;
     match token {
-        Token::String(text) => Ok(Value::Items(byte_items(alloc, element, text)?)),
+        Token::String(text) => list_of_text(alloc, element, text),
         Token::BeginArray => {
             let inner = inside(depth)?;
-            Ok(Value::Items(next_items(alloc, registry, element, left, inner, reader)?))
+            match next_items(alloc, registry, element, None, left, inner, reader) {
+                Ok(items) => Ok(Value::Items(items)),
+                Err(given_up) => Err(given_up),
+            }
         }
-        _ => Err(GivenUp::Unusual),
+        _ => Err(refused(alloc, JsonFault::BadShape, token, depth, reader)),
     }
 }
 
@@ -108,22 +122,24 @@ fn next_array(
     depth: usize,
     reader: &mut Reader<'_>,
 ) -> Result<Value, GivenUp>
-    ensures { IfOk result (λ v. IsRead (spec.read_array (is_byte (shape_of element.now)) size (read_data registry.now left (of (shape_of element.now)))) depth reader.old reader.new (tree_of v)) }
+    ensures read { IfOk result (λ v. IsRead (spec.read_array (is_byte (shape_of element.now)) size (read_data registry.now left (of (shape_of element.now)))) depth reader.old reader.new (tree_of v)) }
+    ensures refused { IfErr result (IfRefused (IsRefusedAs registry.now left (of (shape.array (shape_of element.now) size)) depth reader.old reader.new)) }
 {
     let token = reader.next().ok_or(GivenUp::Unusual)?;
     match token {
-        Token::String(text) => {
-            let items = byte_items(alloc, element, text)?;
-            exactly(items.len(), size)?;
-            Ok(Value::Items(items))
-        }
+        Token::String(text) => array_of_text(alloc, element, size, text),
         Token::BeginArray => {
             let inner = inside(depth)?;
-            let items = next_items(alloc, registry, element, left, inner, reader)?;
-            exactly(items.len(), size)?;
-            Ok(Value::Items(items))
+            match next_items(alloc, registry, element, Some(size), left, inner, reader) {
+                Ok(items) => if items.len() as u64 == size {
+                    Ok(Value::Items(items))
+                } else {
+                    Err(GivenUp::here(alloc, JsonFault::BadShape))
+                },
+                Err(given_up) => Err(given_up),
+            }
         }
-        _ => Err(GivenUp::Unusual),
+        _ => Err(refused(alloc, JsonFault::BadShape, token, depth, reader)),
     }
 }
 
@@ -137,13 +153,20 @@ pub(crate) fn next_tuple(
     depth: usize,
     reader: &mut Reader<'_>,
 ) -> Result<Value, GivenUp>
-    ensures { IfOk result (λ v. IsRead (read_data registry.now left (of (tuple_shape (formats_shapes formats.now)))) depth reader.old reader.new (tree_of v)) }
+    ensures read { IfOk result (λ v. IsRead (read_data registry.now left (of (tuple_shape (formats_shapes formats.now)))) depth reader.old reader.new (tree_of v)) }
+    ensures refused { IfErr result (IfRefused (IsRefusedAs registry.now left (of (tuple_shape (formats_shapes formats.now))) depth reader.old reader.new)) }
 {
-    let Some(Token::BeginArray) = reader.next() else {
-        return Err(GivenUp::Unusual);
-    };
-    let inner = inside(depth)?;
-    Ok(Value::Items(next_each(alloc, registry, formats, left, inner, reader)?))
+    let token = reader.next().ok_or(GivenUp::Unusual)?;
+    match token {
+        Token::BeginArray => {
+            let inner = inside(depth)?;
+            match next_each(alloc, registry, formats, left, inner, reader) {
+                Ok(items) => Ok(Value::Items(items)),
+                Err(given_up) => Err(given_up),
+            }
+        }
+        _ => Err(refused(alloc, JsonFault::BadShape, token, depth, reader)),
+    }
 }
 
 /// Reads a map: an array of entries, each an array of a key and its value.
@@ -157,11 +180,18 @@ fn next_map(
     depth: usize,
     reader: &mut Reader<'_>,
 ) -> Result<Value, GivenUp>
-    ensures { IfOk result (λ v. IsRead (spec.read_map (read_data registry.now left (of (shape_of key.now))) (read_data registry.now left (of (shape_of content.now)))) depth reader.old reader.new (tree_of v)) }
+    ensures read { IfOk result (λ v. IsRead (spec.read_map (read_data registry.now left (of (shape_of key.now))) (read_data registry.now left (of (shape_of content.now)))) depth reader.old reader.new (tree_of v)) }
+    ensures refused { IfErr result (IfRefused (IsRefusedAs registry.now left (of (shape.map (shape_of key.now) (shape_of content.now))) depth reader.old reader.new)) }
 {
-    let Some(Token::BeginArray) = reader.next() else {
-        return Err(GivenUp::Unusual);
-    };
-    let inner = inside(depth)?;
-    Ok(Value::Pairs(next_pairs(alloc, registry, key, content, left, inner, reader)?))
+    let token = reader.next().ok_or(GivenUp::Unusual)?;
+    match token {
+        Token::BeginArray => {
+            let inner = inside(depth)?;
+            match next_pairs(alloc, registry, key, content, left, inner, reader) {
+                Ok(pairs) => Ok(Value::Pairs(pairs)),
+                Err(given_up) => Err(given_up),
+            }
+        }
+        _ => Err(refused(alloc, JsonFault::BadShape, token, depth, reader)),
+    }
 }

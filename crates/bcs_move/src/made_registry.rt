@@ -16,6 +16,10 @@ use std::alloc::{AllocError, Global};
 use std::collections::BTreeMap;
 use std::str::from_utf8;
 
+/// The note about integers that are 32 bytes.
+const LOWEST_FIRST: &str =
+    "u256 and i256 are little-endian: 1 is 0100000000000000000000000000000000000000000000000000000000000000";
+
 /// A registry that was made from modules.
 #[derive(Debug, Drop)]
 pub struct MadeRegistry {
@@ -92,7 +96,8 @@ fn make_all(alloc: Global, maker: &mut Maker<'_, '_>, types: &[&str]) -> Result<
     }
     make_waiting(alloc, maker)?;
     refuse_missing(alloc, maker)?;
-    note_ascii(alloc, maker)
+    note_ascii(alloc, maker)?;
+    note_wide(alloc, maker)
 }
 
 fn note_ascii(alloc: Global, maker: &mut Maker<'_, '_>) -> Result<(), MoveFault> {
@@ -100,6 +105,14 @@ fn note_ascii(alloc: Global, maker: &mut Maker<'_, '_>) -> Result<(), MoveFault>
         Some(note) => Ok(maker.notes.push(note)?),
         None => Ok(()),
     }
+}
+
+/// Notes in which order the digits of wide integers are, if there are any.
+fn note_wide(alloc: Global, maker: &mut Maker<'_, '_>) -> Result<(), MoveFault> {
+    if maker.containers.contains_key("u256") || maker.containers.contains_key("i256") {
+        maker.notes.push(String::from_str(alloc, LOWEST_FIRST)?)?;
+    }
+    Ok(())
 }
 
 /// The containers as members of an object. Their names need no escapes.

@@ -22,9 +22,7 @@ fn no_json(alloc: Global, text: &[u8], error: &Error) -> MoveFault {
     if error.is_memory() {
         return MoveFault::OutOfMemory;
     }
-    let Some(mistake) = json_mistake(alloc, text) else {
-        return MoveFault::OutOfMemory;
-    };
+    let mistake = json_mistake(alloc, text);
     let (line, column) = mistake.line_and_column(text);
     let words = mistake.words;
     let message = format!(in alloc; "line {line}, column {column}: {words}");

@@ -16,6 +16,7 @@ use bcs_registry_json::format_text::format_from;
 use bcs_registry_json::json_text::registry_json;
 use bcs_registry_json::one_by_one::containers_one_by_one;
 use bcs_registry_json::shaped::{is_format_shaped, is_registry_shaped};
+use bcs_registry_model::containers::Containers;
 use bcs_registry_model::{Container, Format, RegistryFault};
 use serde_json::Value;
 use std::alloc::Global;
@@ -37,7 +38,7 @@ impl Registry {
             Err(_) => containers_at_once(alloc, text)?,
             Ok(containers) => containers,
         };
-        checked(alloc, containers)
+        checked(alloc, Containers::of(alloc, containers)?)
     }
 
     /// Reads a format from JSON, which this registry must admit. Otherwise it reports the least fault that occurs

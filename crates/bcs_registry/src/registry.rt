@@ -11,9 +11,9 @@ ghost use Rattle.bcs_registry_model.specs.Names.{FindsNumbers};
 ghost use Rattle.serde_json.specs.Written.{compact_text};
 
 use bcs_registry_json::printing::registry_value;
+use bcs_registry_model::containers::Containers;
 use bcs_registry_model::{Container, Format, Kind, VariantNumbers};
 use std::alloc::{AllocError, Global};
-use std::collections::BTreeMap;
 use std::marker::Model;
 
 /// A well-formed finite map from names to containers. Well-formed means: each `TypeName` is a name of the map, each
@@ -21,7 +21,7 @@ use std::marker::Model;
 /// names ascend byte by byte, the variant numbers of an enum ascend and are below 2^32, and each `SIZE` is below 2^64.
 #[derive(Drop)]
 pub struct Registry {
-    containers: BTreeMap<String, Container>,
+    containers: Containers,
     /// The variant numbers of all enums by name, to look them up quickly.
     numbers: VariantNumbers,
 }
@@ -39,11 +39,11 @@ impl Model for Registry {
 
     ghost coded = { Prim.hlevel (codes, shape_coded, shapes_coded) };
 
-    ghost view = { λ r. entries_of r.containers.entries };
+    ghost view = { λ r. entries_of r.containers.entries.items };
 
     ghost invariant = { λ r.
-        IsWellFormed (entries_of r.containers.entries) × IsOrderly (entries_of r.containers.entries)
-        × FindsNumbers r.numbers (entries_of r.containers.entries) };
+        IsWellFormed (entries_of r.containers.entries.items) × IsOrderly (entries_of r.containers.entries.items)
+        × FindsNumbers r.numbers (entries_of r.containers.entries.items) };
 }
 
 impl Registry {
@@ -54,6 +54,16 @@ impl Registry {
         ensures orderly { IsOrderly self.now }
     {
         self.containers.get(name)
+    }
+
+    /// The same, with the places of its fields in the order of their names. These are a guess that has to be checked:
+    /// there are none if it isn't a struct, or if many names have the same hash.
+    pub fn container_with_order(&self, name: &str) -> Option<(&Container, &[u32])>
+        ensures found { option_map (λ c. container_of c.0.now) result ≡ container_at name.now self.now }
+        ensures well_formed { IsWellFormed self.now }
+        ensures orderly { IsOrderly self.now }
+    {
+        self.containers.get_with_order(name)
     }
 
     /// The container that the format names. `None` if it isn't a name, or if there is no such container.
@@ -101,8 +111,8 @@ impl Registry {
     }
 
     /// The containers, by name.
-    pub fn containers(&self) -> &BTreeMap<String, Container>
-        ensures is { entries_of result.now.entries ≡ self.now }
+    pub fn containers(&self) -> &Containers
+        ensures is { entries_of result.now.entries.items ≡ self.now }
         ensures well_formed { IsWellFormed self.now }
         ensures orderly { IsOrderly self.now }
     {
@@ -110,11 +120,11 @@ impl Registry {
     }
 
     /// A registry with these containers, whose variants have these numbers.
-    pub(crate) fn of(containers: BTreeMap<String, Container>, numbers: VariantNumbers) -> Registry
-        requires well_formed { IsWellFormed (entries_of containers.entries) }
-        requires orderly { IsOrderly (entries_of containers.entries) }
-        requires found { FindsNumbers numbers (entries_of containers.entries) }
-        ensures { result ≡ entries_of containers.entries }
+    pub(crate) fn of(containers: Containers, numbers: VariantNumbers) -> Registry
+        requires well_formed { IsWellFormed (entries_of containers.entries.items) }
+        requires orderly { IsOrderly (entries_of containers.entries.items) }
+        requires found { FindsNumbers numbers (entries_of containers.entries.items) }
+        ensures { result ≡ entries_of containers.entries.items }
     {
         Registry {
             containers,

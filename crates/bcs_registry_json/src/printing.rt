@@ -9,21 +9,18 @@ mod formats;
 mod pieces;
 mod variants;
 
-use bcs_registry_model::Container;
+use bcs_registry_model::containers::Containers;
 use containers::container_value;
 use serde_json::{Map, Value};
 use std::alloc::{AllocError, Global};
-use std::collections::BTreeMap;
 
 /// An object with a member for each container, by name.
-pub fn registry_value(
-    alloc: Global,
-    containers: &BTreeMap<String, Container>,
-) -> Result<Value, AllocError>
-    ensures { IfOk result (λ v. view v ≡ shown_registry (entries_of containers.now.entries)) }
+pub fn registry_value(alloc: Global, containers: &Containers) -> Result<Value, AllocError>
+    ensures { IfOk result (λ v. view v ≡ shown_registry (entries_of containers.now.entries.items)) }
 {
     let mut members = Map::new(alloc);
-    for (name, container) in containers {
+    let entries = containers.entries();
+    for (name, container) in entries {
         let value = container_value(alloc, container)?;
         serde_json::put(&mut members, alloc, name.as_str(), value)?;
     }

@@ -1,8 +1,10 @@
 -- Collecting variant numbers by name, from the variants of an enum and the enums of a registry.
-use Rattle.bcs_registry_model.proofs.Prelude.{◌≡◌, ℕ, List, [], ◌∷◌, map, String, Global, Option, Some, None, is_some, Bool, true, false, cond, string_bytes, Less, refl, sym, ap, subst, ◌∙◌, BTreeMap, Updates, get_by_text, AllByRecursion, IsStrictlySortedBy, keys_of, option_or, option_map_or, is_eq, bytes_eq, string_cmp, true≢false, false≢true, nat_list_eq_equiv, btree_map_updates_text, is_eq-slice_cmp, bytes_eq-Decides, enumeration, container_at, number_called, variant_number, choice_of, container_of, entries_of, UnitStruct, NewTypeStruct, TupleStruct, Struct, Enum, Named, VariantFormat}
+use Rattle.bcs_registry_model.proofs.Prelude.{◌≡◌, ◌≤◌, arith, drop, length, lookup, is_at, nat_cmp, slice_cmp, ℕ, List, [], ◌∷◌, map, String, Global, Option, Some, None, is_some, Bool, true, false, cond, string_bytes, Less, refl, sym, ap, subst, ◌∙◌, BTreeMap, Updates, get_by_text, AllByRecursion, IsStrictlySortedBy, keys_of, option_or, option_map_or, is_eq, bytes_eq, string_cmp, true≢false, false≢true, nat_list_eq_equiv, btree_map_updates_text, is_eq-slice_cmp, bytes_eq-Decides, enumeration, container_at, number_called, variant_number, choice_of, container_of, entries_of, UnitStruct, NewTypeStruct, TupleStruct, Struct, Enum, Named, VariantFormat}
 use Rattle.bcs_registry_model.specs.declared.container.Container as declared
 use Rattle.bcs_registry_model.proofs.Lookup.{map-cond}
+use Rattle.bcs_registry_model.proofs.Places.{Rise}
 use Rattle.bcs_registry_model.proofs.Rising.{Stored, Variant}
+use Rattle.std.proofs.Common.{suc, zero}
 
 map_or-cond : {A B : Type 0} (f : A → B) (d : B) (b : Bool) (x : A) (o : Option A) → option_map_or f (cond b (Some x) o) d ≡ cond b (f x) (option_map_or f o d)
 map_or-cond f d true x o = refl
@@ -173,3 +175,33 @@ pub all_gathered : (all xs : List Stored) (m : NumbersByEnum) → xs ≡ [] → 
 all_gathered all xs m is gathered name word =
     let h = subst (λ zs. AreGathered all zs m) is gathered in
     sym (or_none (found_under m name word)) ∙ h.joined name word
+
+-- names that ascend as bytes ascend as texts
+above_back : (name : String Global) (es : List Stored) → AllByRecursion (λ k. slice_cmp nat_cmp (string_bytes name) k ≡ Less) (map (λ e. e.0) (entries_of es)) → AllByRecursion (λ k. string_cmp name k ≡ Less) (keys_of es)
+above_back name [] h = h
+above_back name (e ∷ es) h = (h.0, above_back name es h.1)
+
+pub rise_back : (es : List Stored) → Rise es → IsStrictlySortedBy string_cmp (keys_of es)
+unfolding IsStrictlySortedBy
+rise_back [] h = h
+rise_back (e ∷ es) h = (above_back e.0 es h.0, rise_back es h.1)
+
+none_there : (m : NumbersByEnum) (es : List Stored) → ((q : List ℕ) → get_by_text m q ≡ None) → AllByRecursion (λ k. get_by_text m (string_bytes k) ≡ None) (keys_of es)
+none_there m [] h = tt
+none_there m (e ∷ es) h = (h (string_bytes e.0), none_there m es h)
+
+-- before the first container
+pub begun : (all left : List Stored) (m : NumbersByEnum) → m.entries ≡ [] → left ≡ all → Rise all → AreGathered all left m
+begun all left m empty is rise =
+    let none : (q : List ℕ) → get_by_text m q ≡ None = λ q. ap (λ es. lookup (is_at (λ k. slice_cmp nat_cmp q (string_bytes k))) es) empty in
+    subst (λ zs. AreGathered all zs m) (sym is) (record {
+      rise = rise_back all rise;
+      new = none_there m all none;
+      joined = λ name word. ap (λ o. option_or (option_map_or (λ n. get_by_text n word) o None) (variant_number name word (entries_of all))) (none name);
+    })
+
+pub dropped : (m : ℕ) (es : List Stored) → length es ≤ m → drop m es ≡ []
+dropped zero [] h = refl
+dropped zero (e ∷ es) h = absurd (omega (arith, h))
+dropped (suc m) [] h = refl
+dropped (suc m) (e ∷ es) h = dropped m es (omega (arith, h))

@@ -15,8 +15,8 @@ shape_of-TypeName n = search (rules, the_lemmas)
 
 -- a name is known if `contains_key` returns true
 pub is_known-name : (f : Format) (n : String Global) (s : List ℕ) (es : List (String Global × declared.Container)) (b : Bool) → f ≡ TypeName n → s ≡ string_bytes n
-    → b ≡ is_some (lookup (is_at (λ k. slice_cmp nat_cmp s (string_bytes k))) es) → b ≡ is_known (entries_of es) (shape_of f)
-is_known-name f n s es b e t h = h ∙ knows_name s es ∙ rw (e, t, shape_of-TypeName n) refl
+    → b ≡ is_some (container_at s (entries_of es)) → b ≡ is_known (entries_of es) (shape_of f)
+is_known-name f n s es b e t h = h ∙ rw (e, t, shape_of-TypeName n) refl
 
 -- the same for a registry that is equal to the entries
 pub is_known_there : (s : Shape) (es registry : Entries) (b : Bool) → b ≡ is_known es s → es ≡ registry → b ≡ is_known registry s

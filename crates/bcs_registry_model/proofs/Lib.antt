@@ -11,6 +11,7 @@ pub mod Sameness
 pub mod FirstFaults
 pub mod GrowthSteps
 pub mod Rising
+pub mod Places
 pub mod Ranges
 pub mod Admitted
 pub mod GrowthLaws

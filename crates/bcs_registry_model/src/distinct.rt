@@ -6,6 +6,7 @@ ghost use Rattle.bcs_registry_model.specs.View.{field_of, payload_of, choice_of,
 ghost use Rattle.bcs_registry_model.specs.WellFormed.{are_distinct, names_differ, container_names, payload_names};
 
 use crate::container::Container;
+use crate::containers::Containers;
 use crate::format::Format;
 use crate::named::Named;
 use crate::variant_format::VariantFormat;
@@ -17,14 +18,12 @@ const FEW_NAMES: usize = 8;
 
 /// Whether names are distinct in each struct, struct payload and enum.
 #[tactic(auto, using(crate::proofs::Inside::name_rules))]
-pub fn have_distinct_names(
-    alloc: Global,
-    containers: &BTreeMap<String, Container>,
-) -> Result<bool, AllocError>
-    ensures { IfOk result (λ b. b ≡ names_differ (entries_of containers.now.entries)) }
+pub fn have_distinct_names(alloc: Global, containers: &Containers) -> Result<bool, AllocError>
+    ensures { IfOk result (λ b. b ≡ names_differ (entries_of containers.now.entries.items)) }
 {
-    for container in containers.values() {
-        if !has_distinct_names(alloc, container)? {
+    let entries = containers.entries();
+    for entry in entries {
+        if !has_distinct_names(alloc, &entry.1)? {
             return Ok(false);
         }
     }

@@ -6,6 +6,7 @@ ghost use Rattle.bcs_registry_model.specs.Order.{NamesRise};
 ghost use Rattle.bcs_registry_model.specs.View.{choice_of, container_of, entries_of};
 
 use crate::container::Container;
+use crate::containers::Containers;
 use crate::equality::{is_same_struct, is_same_variant};
 use crate::growth_fault::GrowthFault;
 use crate::named::Named;
@@ -14,28 +15,22 @@ use std::collections::BTreeMap;
 
 /// Whether the newer registry has every container of the older one unchanged, except that enums may have more variants.
 #[tactic(auto, using(crate::proofs::Rising::names_rise))]
-pub fn containers_grow(
-    older: &BTreeMap<String, Container>,
-    newer: &BTreeMap<String, Container>,
-) -> Result<(), GrowthFault>
-    ensures rising { NamesRise (entries_of older.now.entries) }
+pub fn containers_grow(older: &Containers, newer: &Containers) -> Result<(), GrowthFault>
+    ensures rising { NamesRise (entries_of older.now.entries.items) }
     ensures fault { result_err result
-        ≡ growth_fault (entries_of older.now.entries) (entries_of newer.now.entries) }
+        ≡ growth_fault (entries_of older.now.entries.items) (entries_of newer.now.entries.items) }
 {
-    for (name, container) in older {
-        container_stands(name.as_str(), container, newer)?;
+    let entries = older.entries();
+    for entry in entries {
+        container_stands(entry.0.as_str(), &entry.1, newer)?;
     }
     Ok(())
 }
 
 // Whether the newer registry has the container, possibly with more variants.
-fn container_stands(
-    name: &str,
-    older: &Container,
-    newer: &BTreeMap<String, Container>,
-) -> Result<(), GrowthFault>
+fn container_stands(name: &str, older: &Container, newer: &Containers) -> Result<(), GrowthFault>
     ensures { result_err result
-        ≡ entry_fault (entries_of newer.now.entries) (name.now, container_of older.now) }
+        ≡ entry_fault (entries_of newer.now.entries.items) (name.now, container_of older.now) }
 {
     match newer.get(name) {
         Some(newer) => container_grows(older, newer),

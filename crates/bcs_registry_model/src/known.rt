@@ -3,25 +3,21 @@ ghost use Rattle.std.specs.Prelude.{◌≡◌, is_none};
 ghost use Rattle.bcs_registry_model.specs.View.{shape_of, formats_shapes, entries_of};
 ghost use Rattle.bcs_registry_model.specs.WellFormed as spec;
 
-use crate::container::Container;
+use crate::containers::Containers;
 use crate::format::Format;
-use std::collections::BTreeMap;
 
-/// Whether each `TypeName` in the format is a name of the map.
-pub fn is_known(format: &Format, containers: &BTreeMap<String, Container>) -> bool
-    ensures { result ≡ spec.is_known (entries_of containers.now.entries) (shape_of format.now) }
+/// Whether each `TypeName` in the format is the name of a container.
+pub fn is_known(format: &Format, containers: &Containers) -> bool
+    ensures { result ≡ spec.is_known (entries_of containers.now.entries.items) (shape_of format.now) }
 {
     first_unknown(format, containers).is_none()
 }
 
-/// The first name in the format, from left to right, that isn't in the map.
+/// The first name in the format, from left to right, that isn't the name of a container.
 #[cycle(known)]
-pub fn first_unknown<'a>(
-    format: &'a Format,
-    containers: &BTreeMap<String, Container>,
-) -> Option<&'a str>
+pub fn first_unknown<'a>(format: &'a Format, containers: &Containers) -> Option<&'a str>
     ensures { is_none result
-        ≡ spec.is_known (entries_of containers.now.entries) (shape_of format.now) }
+        ≡ spec.is_known (entries_of containers.now.entries.items) (shape_of format.now) }
 {
     match format {
         Format::TypeName(name) => if containers.contains_key(name.as_str()) {
@@ -42,12 +38,9 @@ pub fn first_unknown<'a>(
 }
 
 #[cycle(known)]
-fn first_unknown_among<'a>(
-    formats: &'a [Format],
-    containers: &BTreeMap<String, Container>,
-) -> Option<&'a str>
+fn first_unknown_among<'a>(formats: &'a [Format], containers: &Containers) -> Option<&'a str>
     ensures { is_none result
-        ≡ spec.are_known (entries_of containers.now.entries) (formats_shapes formats.now) }
+        ≡ spec.are_known (entries_of containers.now.entries.items) (formats_shapes formats.now) }
 {
     for format in formats {
         if let Some(name) = first_unknown(format, containers) {

@@ -2,6 +2,7 @@
 #![tactic(auto)]
 
 mod container;
+pub mod containers;
 pub mod distinct;
 pub mod equality;
 mod fault;

@@ -6,6 +6,7 @@ ghost use Rattle.bcs_registry_model.specs.View.{shape_of, formats_shapes, field_
 ghost use Rattle.bcs_registry_model.specs.WellFormed.{shape_list, payload_formats, container_formats, formats};
 
 use crate::container::Container;
+use crate::containers::Containers;
 use crate::format::Format;
 use crate::known::is_known;
 use crate::levels::has_few_levels;
@@ -24,24 +25,21 @@ pub enum Rule {
 
 /// Whether every format in the containers meets the rule.
 #[tactic(auto, using(crate::proofs::Inside::row_rules))]
-pub fn all_keep(containers: &BTreeMap<String, Container>, rule: Rule) -> bool
-    ensures { result ≡ list_all (keeps rule (entries_of containers.now.entries))
-        (formats (entries_of containers.now.entries)) }
+pub fn all_keep(containers: &Containers, rule: Rule) -> bool
+    ensures { result ≡ list_all (keeps rule (entries_of containers.now.entries.items))
+        (formats (entries_of containers.now.entries.items)) }
 {
-    for container in containers.values() {
-        if !container_keeps(container, rule, containers) {
+    let entries = containers.entries();
+    for entry in entries {
+        if !container_keeps(&entry.1, rule, containers) {
             return false;
         }
     }
     true
 }
 
-fn container_keeps(
-    container: &Container,
-    rule: Rule,
-    containers: &BTreeMap<String, Container>,
-) -> bool
-    ensures { result ≡ list_all (keeps rule (entries_of containers.now.entries))
+fn container_keeps(container: &Container, rule: Rule, containers: &Containers) -> bool
+    ensures { result ≡ list_all (keeps rule (entries_of containers.now.entries.items))
         (container_formats (container_of container.now)) }
 {
     match container {
@@ -57,9 +55,9 @@ fn container_keeps(
 fn variants_keep(
     variants: &BTreeMap<u32, Named<VariantFormat>>,
     rule: Rule,
-    containers: &BTreeMap<String, Container>,
+    containers: &Containers,
 ) -> bool
-    ensures { result ≡ list_all (keeps rule (entries_of containers.now.entries))
+    ensures { result ≡ list_all (keeps rule (entries_of containers.now.entries.items))
         (flat_map (λ c. payload_formats c.1.1) (map choice_of variants.now.entries)) }
 {
     for variant in variants.values() {
@@ -70,12 +68,8 @@ fn variants_keep(
     true
 }
 
-fn payload_keeps(
-    payload: &VariantFormat,
-    rule: Rule,
-    containers: &BTreeMap<String, Container>,
-) -> bool
-    ensures { result ≡ list_all (keeps rule (entries_of containers.now.entries))
+fn payload_keeps(payload: &VariantFormat, rule: Rule, containers: &Containers) -> bool
+    ensures { result ≡ list_all (keeps rule (entries_of containers.now.entries.items))
         (payload_formats (payload_of payload.now)) }
 {
     match payload {
@@ -86,8 +80,8 @@ fn payload_keeps(
     }
 }
 
-fn formats_keep(formats: &[Format], rule: Rule, containers: &BTreeMap<String, Container>) -> bool
-    ensures { result ≡ list_all (keeps rule (entries_of containers.now.entries))
+fn formats_keep(formats: &[Format], rule: Rule, containers: &Containers) -> bool
+    ensures { result ≡ list_all (keeps rule (entries_of containers.now.entries.items))
         (shape_list (formats_shapes formats.now)) }
 {
     for format in formats {
@@ -98,12 +92,8 @@ fn formats_keep(formats: &[Format], rule: Rule, containers: &BTreeMap<String, Co
     true
 }
 
-fn fields_keep(
-    fields: &[Named<Format>],
-    rule: Rule,
-    containers: &BTreeMap<String, Container>,
-) -> bool
-    ensures { result ≡ list_all (keeps rule (entries_of containers.now.entries))
+fn fields_keep(fields: &[Named<Format>], rule: Rule, containers: &Containers) -> bool
+    ensures { result ≡ list_all (keeps rule (entries_of containers.now.entries.items))
         (map (λ f. f.1) (map field_of fields.now)) }
 {
     for field in fields {
@@ -114,8 +104,8 @@ fn fields_keep(
     true
 }
 
-fn format_keeps(format: &Format, rule: Rule, containers: &BTreeMap<String, Container>) -> bool
-    ensures { result ≡ keeps rule (entries_of containers.now.entries) (shape_of format.now) }
+fn format_keeps(format: &Format, rule: Rule, containers: &Containers) -> bool
+    ensures { result ≡ keeps rule (entries_of containers.now.entries.items) (shape_of format.now) }
 {
     match rule {
         Rule::FewLevels => has_few_levels(format),

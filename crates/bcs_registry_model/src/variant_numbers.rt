@@ -6,6 +6,7 @@ ghost use Rattle.bcs_registry_model.specs.Names.{number_found, FindsNumbers};
 ghost use Rattle.bcs_registry_model.specs.View.{choice_of, entries_of};
 
 use crate::container::Container;
+use crate::containers::Containers;
 use crate::named::Named;
 use crate::variant_format::VariantFormat;
 use std::alloc::{AllocError, Global};
@@ -27,14 +28,12 @@ impl VariantNumbers {
 }
 
 /// Collects the variant numbers of each enum. Fails only if memory runs out.
-pub fn numbers_by_name(
-    alloc: Global,
-    containers: &BTreeMap<String, Container>,
-) -> Result<VariantNumbers, AllocError>
-    ensures { IfOk result (λ n. FindsNumbers n (entries_of containers.now.entries)) }
+pub fn numbers_by_name(alloc: Global, containers: &Containers) -> Result<VariantNumbers, AllocError>
+    ensures { IfOk result (λ n. FindsNumbers n (entries_of containers.now.entries.items)) }
 {
     let mut by_enum = BTreeMap::new(alloc);
-    for (name, container) in containers {
+    let entries = containers.entries();
+    for (name, container) in entries {
         if let Container::Enum(variants) = container {
             let numbers = numbers_of(alloc, variants)?;
             drop(by_enum.insert(name.clone()?, numbers)?);

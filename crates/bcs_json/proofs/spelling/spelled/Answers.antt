@@ -1,5 +1,5 @@
-use Rattle.bcs_json.proofs.Prelude.{◌≢◌, Err, err_from_is_err_and, of, Ok, OutOfMemory, read_data, Reports, rules, shape_of, subst, tree_of, Value, view}
-use Rattle.bcs_json.proofs.Outcomes.{told_fault, told_steps, told_value}
+use Rattle.bcs_json.proofs.Prelude.{err_from_is_err_and, of, Ok, read_data, Reports, shape_of, subst, tree_of, view}
+use Rattle.bcs_json.proofs.Outcomes.{told_refusal, told_value}
 use Rattle.bcs_json.proofs.spelling.spelled.Goals as goal
 
 pub returns-in_err-json-clause-refused : goal.returns-in_err-json-clause-refused
@@ -12,13 +12,7 @@ returns-in-Ok-read-clause-spelled c =
     told_value c.args.registry.now c.args.limits.now (shape_of c.args.format.now) c.args.text.now (view c.in_ok-json.json) c.in_ok-json.ensures.read (Ok c.in-Ok-read.value)
     (subst (λ n. Reports tree_of (Ok c.in-Ok-read.value) (read_data c.args.registry.now n (of (shape_of c.args.format.now)) (view c.in_ok-json.json))) c.depth.ensures.is c.in-Ok-read.ensures.reports)
 
-pub returns-else-eq-clause-refused : goal.returns-else-eq-clause-refused
-returns-else-eq-clause-refused c =
-    let refusal = c.in-Err.refusal in
-    let json = view c.in_ok-json.json in
-    let other : refusal.fault ≢ OutOfMemory = search rules in
-    let fault = told_fault c.args.registry.now c.args.limits.now (shape_of c.args.format.now) c.args.text.now json c.in_ok-json.ensures.read (Err refusal.fault)
-    (subst (λ n. Reports {X = Value} tree_of (Err refusal.fault) (read_data c.args.registry.now n (of (shape_of c.args.format.now)) json)) c.depth.ensures.is c.in-Err.ensures.reports) in
-    let steps = told_steps c.args.registry.now c.args.limits.now (shape_of c.args.format.now) c.args.text.now json c.in_ok-json.ensures.read c.depth.result c.depth.ensures.is refusal
-    c.in-Err.ensures.reports c.in-Err.ensures.placed other c.outward-steps.result c.outward-steps.ensures in
-    search (rules, fault, steps)
+pub returns-in-Err-clause-refused : goal.returns-in-Err-clause-refused
+returns-in-Err-clause-refused c =
+    told_refusal c.args.registry.now c.args.limits.now (shape_of c.args.format.now) c.args.text.now (view c.in_ok-json.json) c.in_ok-json.ensures.read c.depth.result c.depth.ensures.is c.in-Err.refusal
+    c.in-Err.ensures.reports c.in-Err.ensures.placed c.text_refusal-in-Err.result c.text_refusal-in-Err.ensures.fault c.text_refusal-in-Err.ensures.steps

@@ -14,8 +14,8 @@ loop-byte-preserved c =
     ∙ byte_more l.found.items (Unsigned c.from.result) x (drop l.byte-index xs) left here (tree_unsigned c.from.result ∙ ap unsigned c.from.ensures)
     ∙ ap (λ (vs : List Value). joined vs (byte_trees left)) (sym c.in_ok-push.ensures.items)
 
-pub returns : goal.returns
-returns c =
+pub returns-clause-made : goal.returns-clause-made
+returns-clause-made c =
     let l = c.loop-byte in
     let none = drop_all l.byte-index c.args.bytes.now c.loop-byte-test.false in
     sym (l.invariant ∙ ap (λ ys. joined l.found.items (byte_trees ys)) none ∙ joined-none l.found.items)

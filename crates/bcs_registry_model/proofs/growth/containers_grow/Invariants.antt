@@ -1,5 +1,5 @@
-use Rattle.bcs_registry_model.proofs.Prelude.{◌≡◌, growth_fault, entries_of}
+use Rattle.bcs_registry_model.proofs.Prelude.{◌≡◌, drop, growth_fault, entries_of}
 use Rattle.bcs_registry_model.proofs.growth.containers_grow.Given as goal
 
-abbrev pub invariant-loop-name : goal.invariant-loop-name
-invariant-loop-name l = growth_fault (entries_of l.older.entries) (entries_of l.newer.entries) ≡ growth_fault (entries_of l.name-iterator) (entries_of l.newer.entries)
+abbrev pub invariant-loop-entry : goal.invariant-loop-entry
+invariant-loop-entry l = growth_fault (entries_of l.older.entries.items) (entries_of l.newer.entries.items) ≡ growth_fault (entries_of (drop l.entry-index l.entries)) (entries_of l.newer.entries.items)

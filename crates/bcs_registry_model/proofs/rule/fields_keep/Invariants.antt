@@ -3,5 +3,5 @@ use Rattle.bcs_registry_model.proofs.rule.fields_keep.Given as goal
 
 abbrev pub invariant-loop-field : goal.invariant-loop-field
 invariant-loop-field l =
-    list_all (keeps l.rule (entries_of l.containers.entries)) (map (λ f. f.1) (map field_of l.fields))
-    ≡ list_all (keeps l.rule (entries_of l.containers.entries)) (map (λ f. f.1) (map field_of (drop l.field-index l.fields)))
+    list_all (keeps l.rule (entries_of l.containers.entries.items)) (map (λ f. f.1) (map field_of l.fields))
+    ≡ list_all (keeps l.rule (entries_of l.containers.entries.items)) (map (λ f. f.1) (map field_of (drop l.field-index l.fields)))

@@ -6,7 +6,7 @@ use Rattle.bcs_registry.proofs.registry.Registry.print.Goals as goal
 
 pub returns-clause-text : goal.returns-clause-text
 returns-clause-text c =
-    let entries = entries_of c.self.inside.containers.entries in
+    let entries = entries_of c.self.inside.containers.entries.items in
     let built = view c.in_ok-registry_value.field-0 in
     let is : built ≡ shown_registry entries = search rules in
     let plain : has_float built ≡ false = ap has_float is ∙ no_float-shown entries in
@@ -14,7 +14,7 @@ returns-clause-text c =
 
 pub returns-clause-reads_back : goal.returns-clause-reads_back
 returns-clause-reads_back c =
-    let entries = entries_of c.self.inside.containers.entries in
+    let entries = entries_of c.self.inside.containers.entries.items in
     let built = view c.in_ok-registry_value.field-0 in
     let writes : IsRegistryText built entries = record { is = search rules; orderly = c.self.invariant.1 } in
     let shallow : depth built ≤ max_depth = subst (λ d. depth d ≤ max_depth) (sym writes.is) (depth-shown entries c.self.invariant.0) in

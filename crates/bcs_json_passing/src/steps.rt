@@ -1,6 +1,7 @@
 //! Reading steps that don't depend on a format.
 ghost use Rattle.std.specs.Prelude.{◌≡◌, Some, None, suc, option_map, IfOk};
-ghost use Rattle.json.specs.Json.{after_end_array, read_key};
+ghost use Rattle.json.specs.Json.{read_key};
+ghost use Rattle.bcs_json_passing.specs.Passing.{IfUnrefused};
 
 use crate::given_up::GivenUp;
 use json::Reader;
@@ -8,7 +9,8 @@ use json::Reader;
 /// How deep arrays and objects may nest inside the one that opens here.
 #[inline(always)]
 pub fn inside(depth: usize) -> Result<usize, GivenUp>
-    ensures { IfOk result (λ inner. depth ≡ suc inner) }
+    ensures ok { IfOk result (λ inner. depth ≡ suc inner) }
+    ensures fault { IfUnrefused result }
 {
     if depth == 0 {
         Err(GivenUp::Unusual)
@@ -19,8 +21,9 @@ pub fn inside(depth: usize) -> Result<usize, GivenUp>
 
 /// The name of an object's next member, or `None` if the object ends here.
 #[inline(always)]
-pub(crate) fn next_member<'a>(reader: &mut Reader<'a>) -> Result<Option<&'a str>, GivenUp>
-    ensures { IfOk result (λ name. read_key reader.old ≡ Some (option_map (λ s. s.now) name, reader.new)) }
+pub fn next_member<'a>(reader: &mut Reader<'a>) -> Result<Option<&'a str>, GivenUp>
+    ensures ok { IfOk result (λ name. read_key reader.old ≡ Some (option_map (λ s. s.now) name, reader.new)) }
+    ensures fault { IfUnrefused result }
 {
     match reader.next_key() {
         Ok(name) => Ok(name),
@@ -31,7 +34,8 @@ pub(crate) fn next_member<'a>(reader: &mut Reader<'a>) -> Result<Option<&'a str>
 /// The name of an object's next member. Gives up if there is none.
 #[inline(always)]
 pub fn next_name<'a>(reader: &mut Reader<'a>) -> Result<&'a str, GivenUp>
-    ensures { IfOk result (λ name. read_key reader.old ≡ Some (Some name.now, reader.new)) }
+    ensures ok { IfOk result (λ name. read_key reader.old ≡ Some (Some name.now, reader.new)) }
+    ensures fault { IfUnrefused result }
 {
     match reader.next_key() {
         Ok(Some(name)) => Ok(name),
@@ -42,7 +46,8 @@ pub fn next_name<'a>(reader: &mut Reader<'a>) -> Result<&'a str, GivenUp>
 /// Skips the name of an object's next member. Gives up unless it is `wanted`.
 #[inline(always)]
 pub fn pass_name(reader: &mut Reader<'_>, wanted: &str) -> Result<(), GivenUp>
-    ensures { IfOk result (λ _. read_key reader.old ≡ Some (Some wanted.now, reader.new)) }
+    ensures ok { IfOk result (λ _. read_key reader.old ≡ Some (Some wanted.now, reader.new)) }
+    ensures fault { IfUnrefused result }
 {
     let name = next_name(reader)?;
     if name == wanted {
@@ -55,34 +60,11 @@ pub fn pass_name(reader: &mut Reader<'_>, wanted: &str) -> Result<(), GivenUp>
 /// Skips the brace that closes an object.
 #[inline(always)]
 pub fn pass_end_object(reader: &mut Reader<'_>) -> Result<(), GivenUp>
-    ensures { IfOk result (λ _. read_key reader.old ≡ Some (None, reader.new)) }
+    ensures ok { IfOk result (λ _. read_key reader.old ≡ Some (None, reader.new)) }
+    ensures fault { IfUnrefused result }
 {
     match reader.next_key() {
         Ok(None) => Ok(()),
         _ => Err(GivenUp::Unusual),
-    }
-}
-
-/// Skips the bracket that closes an array.
-#[inline(always)]
-pub fn pass_end_array(reader: &mut Reader<'_>) -> Result<(), GivenUp>
-    ensures { IfOk result (λ _. after_end_array reader.old ≡ Some reader.new) }
-{
-    if reader.take_end_array() {
-        Ok(())
-    } else {
-        Err(GivenUp::Unusual)
-    }
-}
-
-/// Checks the number of items.
-#[inline(always)]
-pub fn exactly(found: usize, wanted: u64) -> Result<(), GivenUp>
-    ensures { IfOk result (λ _. found ≡ wanted) }
-{
-    if found as u64 == wanted {
-        Ok(())
-    } else {
-        Err(GivenUp::Unusual)
     }
 }

@@ -1,0 +1,4 @@
+pub mod Prelude
+pub mod Turns
+pub mod WholeTexts
+pub mod OtherMembers
