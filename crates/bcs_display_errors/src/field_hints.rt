@@ -5,7 +5,6 @@ use crate::hints::Hint;
 use bcs_display_mistakes::{NearestName, Suggestion};
 use bcs_display_refusal::Name;
 use bcs_registry::{Format, Named};
-use serde_json::{Map, Value as Json};
 use std::alloc::{AllocError, Global};
 use std::collections::BTreeSet;
 
@@ -14,13 +13,16 @@ use std::collections::BTreeSet;
 pub(crate) fn missing_hint<'a>(
     alloc: Global,
     fields: &BTreeSet<&'a str>,
-    members: &'a Map<String, Json>,
+    members: &BTreeSet<&'a str>,
     missing: &'a Named<Format>,
 ) -> Result<Hint<'a>, AllocError> {
     let mut search = NearestName::to(missing.name.as_str());
-    for (name, _) in members {
-        if !fields.contains(&name.as_str()) {
-            search.consider(alloc, name.as_str())?;
+    for name in members {
+        if search.is_over() {
+            break;
+        }
+        if !fields.contains(name) {
+            search.consider(alloc, name)?;
         }
     }
     match search.found() {

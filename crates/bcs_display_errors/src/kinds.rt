@@ -11,7 +11,6 @@ use bcs_display_mistakes::{has_prefix, wrong_digits};
 use bcs_display_refusal::Name;
 use bcs_registry::{Format, Named, Registry, VariantFormat};
 use bcs_registry_model::{Kind, Scalar};
-use serde_json::{Map, Value as Json};
 use std::alloc::{AllocError, Global};
 use std::collections::BTreeSet;
 
@@ -20,68 +19,66 @@ pub(crate) fn expectation<'a>(
     alloc: Global,
     registry: &Registry,
     target: Target<'a>,
-    outline: &'a Outline,
+    outline: &Outline<'a>,
 ) -> Result<Option<Expected<'a>>, AllocError> {
-    let json = &outline.json;
     let expectation = match target {
         Target::Content(Content::Unit) => Some(Expected::Words("expected null")),
         Target::Content(Content::One(format)) => format_expectation(format, outline),
         Target::Content(Content::Number(format)) => number_expectation(format, outline),
-        Target::Content(Content::Row(formats)) => row_expectation(formats.len() as u64, json),
-        Target::Content(Content::Fields(fields)) => struct_expectation(alloc, fields, json)?,
+        Target::Content(Content::Row(formats)) => row_expectation(formats.len() as u64, outline),
+        Target::Content(Content::Fields(fields)) => struct_expectation(alloc, fields, outline)?,
         Target::Content(Content::Variants(choices)) => {
-            enum_expectation(alloc, registry, choices, json)?
+            enum_expectation(alloc, registry, choices, outline)?
         }
-        Target::Entry(_, _) => entry_expectation(json),
+        Target::Entry(_, _) => entry_expectation(outline),
     };
     Ok(expectation)
 }
 
-fn format_expectation<'a>(format: &Format, outline: &'a Outline) -> Option<Expected<'a>> {
-    let json = &outline.json;
+fn format_expectation<'a>(format: &Format, outline: &Outline<'a>) -> Option<Expected<'a>> {
     match format.kind() {
         Kind::Scalar(scalar) => scalar_expectation(scalar, outline),
         Kind::TypeName(_) => None,
-        Kind::Opt(_) => option_expectation(json),
-        Kind::Seq(element) => list_expectation(element, json),
-        Kind::Map(_, _) => map_expectation(json),
-        Kind::Tuple(formats) => row_expectation(formats.len() as u64, json),
-        Kind::TupleArray(element, size) => array_expectation(element, size, json),
+        Kind::Opt(_) => option_expectation(outline),
+        Kind::Seq(element) => list_expectation(element, outline),
+        Kind::Map(_, _) => map_expectation(outline),
+        Kind::Tuple(formats) => row_expectation(formats.len() as u64, outline),
+        Kind::TupleArray(element, size) => array_expectation(element, size, outline),
     }
 }
 
 // The bytes of a number of 256 bits. If the digits of a decimal number are padded, they are those of another number.
-fn number_expectation<'a>(format: &Format, outline: &'a Outline) -> Option<Expected<'a>> {
-    match (&outline.json, format_expectation(format, outline)) {
-        (Json::String(_) | Json::Number(_), Some(_)) => Some(Expected::Words(
+fn number_expectation<'a>(format: &Format, outline: &Outline<'a>) -> Option<Expected<'a>> {
+    match (outline, format_expectation(format, outline)) {
+        (Outline::String(_) | Outline::Number(_), Some(_)) => Some(Expected::Words(
             "write 64 hexadecimal digits, the lowest byte first: 1000 is e803 and 60 zeros",
         )),
         (_, expectation) => expectation,
     }
 }
 
-fn scalar_expectation<'a>(scalar: Scalar, outline: &'a Outline) -> Option<Expected<'a>> {
+fn scalar_expectation<'a>(scalar: Scalar, outline: &Outline<'a>) -> Option<Expected<'a>> {
     let expectation = match scalar {
         Scalar::Unit => Expected::Words("expected null"),
-        Scalar::Bool => Expected::Words(words_for_bool(&outline.json)),
+        Scalar::Bool => Expected::Words(words_for_bool(outline)),
         Scalar::Whole(number) => Expected::Whole(number, FoundNumber::of(outline)),
         Scalar::Unsupported(_) => Expected::Unsupported(scalar.word()),
         Scalar::Str => Expected::Words("expected STR, a string"),
-        Scalar::Bytes => return bytes_expectation(&outline.json),
+        Scalar::Bytes => return bytes_expectation(outline),
     };
     Some(expectation)
 }
 
-fn words_for_bool(json: &Json) -> &'static str {
-    match json {
-        Json::String(_) => "expected BOOL, true or false, without quotes",
+fn words_for_bool(outline: &Outline<'_>) -> &'static str {
+    match outline {
+        Outline::String(_) => "expected BOOL, true or false, without quotes",
         _ => "expected BOOL, true or false",
     }
 }
 
-fn bytes_expectation<'a>(json: &'a Json) -> Option<Expected<'a>> {
-    match json {
-        Json::String(text) => digits_expectation(text),
+fn bytes_expectation<'a>(outline: &Outline<'a>) -> Option<Expected<'a>> {
+    match outline {
+        Outline::String(text) => digits_expectation(text),
         _ => Some(Expected::Words("expected BYTES, a string of hexadecimal digits")),
     }
 }
@@ -90,8 +87,8 @@ fn digits_expectation<'a>(text: &'a str) -> Option<Expected<'a>> {
     Some(Expected::Words(wrong_digits(text.as_bytes())?.words))
 }
 
-fn map_expectation<'a>(json: &'a Json) -> Option<Expected<'a>> {
-    if json.is_array() {
+fn map_expectation<'a>(outline: &Outline<'a>) -> Option<Expected<'a>> {
+    if matches!(outline, Outline::Array(_)) {
         None
     } else {
         Some(Expected::Words(
@@ -100,10 +97,10 @@ fn map_expectation<'a>(json: &'a Json) -> Option<Expected<'a>> {
     }
 }
 
-fn option_expectation<'a>(json: &'a Json) -> Option<Expected<'a>> {
-    let is_option = match json {
-        Json::Null => true,
-        Json::Object(members) => only_name(members) == Some("some"),
+fn option_expectation<'a>(outline: &Outline<'a>) -> Option<Expected<'a>> {
+    let is_option = match outline {
+        Outline::Null => true,
+        Outline::Object(members) => only_name(members) == Some("some"),
         _ => false,
     };
     if is_option {
@@ -115,38 +112,42 @@ fn option_expectation<'a>(json: &'a Json) -> Option<Expected<'a>> {
     }
 }
 
-fn list_expectation<'a>(element: &Format, json: &'a Json) -> Option<Expected<'a>> {
-    if json.is_array() {
+fn list_expectation<'a>(element: &Format, outline: &Outline<'a>) -> Option<Expected<'a>> {
+    if matches!(outline, Outline::Array(_)) {
         None
     } else if matches!(element, Format::U8) {
-        octets_expectation(json)
+        octets_expectation(outline)
     } else {
         Some(Expected::Words("expected an array"))
     }
 }
 
-fn octets_expectation<'a>(json: &'a Json) -> Option<Expected<'a>> {
-    match json {
-        Json::String(text) => digits_expectation(text),
+fn octets_expectation<'a>(outline: &Outline<'a>) -> Option<Expected<'a>> {
+    match outline {
+        Outline::String(text) => digits_expectation(text),
         _ => Some(Expected::Words("expected an array of U8, or a string of hexadecimal digits")),
     }
 }
 
-fn array_expectation<'a>(element: &Format, number: u64, json: &'a Json) -> Option<Expected<'a>> {
-    if matches!(element, Format::U8) && !json.is_array() {
-        all_octets_expectation(number, json)
+fn array_expectation<'a>(
+    element: &Format,
+    number: u64,
+    outline: &Outline<'a>,
+) -> Option<Expected<'a>> {
+    if matches!(element, Format::U8) && !matches!(outline, Outline::Array(_)) {
+        all_octets_expectation(number, outline)
     } else {
-        row_expectation(number, json)
+        row_expectation(number, outline)
     }
 }
 
-fn all_octets_expectation<'a>(number: u64, json: &'a Json) -> Option<Expected<'a>> {
+fn all_octets_expectation<'a>(number: u64, outline: &Outline<'a>) -> Option<Expected<'a>> {
     let count = Count {
         number,
         part: "byte",
     };
-    match json {
-        Json::String(text) => all_digits_expectation(count, text),
+    match outline {
+        Outline::String(text) => all_digits_expectation(count, text),
         _ => Some(Expected::Parts("expected an array or hexadecimal digits of", count)),
     }
 }
@@ -168,15 +169,15 @@ fn all_digits_expectation<'a>(count: Count, text: &'a str) -> Option<Expected<'a
     }
 }
 
-fn row_expectation<'a>(number: u64, json: &'a Json) -> Option<Expected<'a>> {
+fn row_expectation<'a>(number: u64, outline: &Outline<'a>) -> Option<Expected<'a>> {
     let count = Count {
         number,
         part: "item",
     };
-    match json {
-        Json::Array(items) => other_expectation(count, items.len() as u64),
-        _ => Some(Expected::Parts("expected an array of", count)),
-    }
+    let Outline::Array(items) = outline else {
+        return Some(Expected::Parts("expected an array of", count));
+    };
+    other_expectation(count, *items)
 }
 
 fn other_expectation<'a>(count: Count, found: u64) -> Option<Expected<'a>> {
@@ -187,9 +188,9 @@ fn other_expectation<'a>(count: Count, found: u64) -> Option<Expected<'a>> {
     }
 }
 
-fn entry_expectation<'a>(json: &'a Json) -> Option<Expected<'a>> {
-    match json {
-        Json::Array(items) if items.len() == 2 => None,
+fn entry_expectation<'a>(outline: &Outline<'a>) -> Option<Expected<'a>> {
+    match outline {
+        Outline::Array(2) => None,
         _ => Some(Expected::Words("expected an entry, an array of a key and its value")),
     }
 }
@@ -197,9 +198,9 @@ fn entry_expectation<'a>(json: &'a Json) -> Option<Expected<'a>> {
 fn struct_expectation<'a>(
     alloc: Global,
     fields: &'a [Named<Format>],
-    json: &'a Json,
+    outline: &Outline<'a>,
 ) -> Result<Option<Expected<'a>>, AllocError> {
-    let Json::Object(members) = json else {
+    let Outline::Object(members) = outline else {
         return Ok(Some(Expected::Words("expected an object with a member for each field")));
     };
     let names = names_of(alloc, fields)?;
@@ -226,11 +227,11 @@ fn missing_field<'a>(
     alloc: Global,
     fields: &'a [Named<Format>],
     names: &BTreeSet<&'a str>,
-    members: &'a Map<String, Json>,
+    members: &BTreeSet<&'a str>,
 ) -> Result<Option<Expected<'a>>, AllocError> {
     for field in fields {
         let name = field.name.as_str();
-        if !members.contains_key(name) {
+        if !members.contains(&name) {
             let hint = missing_hint(alloc, names, members, field)?;
             return Ok(Some(Expected::Hinted("no member is called", Name::of(name), hint)));
         }
@@ -243,11 +244,10 @@ fn unknown_field<'a>(
     alloc: Global,
     fields: &'a [Named<Format>],
     names: &BTreeSet<&'a str>,
-    members: &'a Map<String, Json>,
+    members: &BTreeSet<&'a str>,
 ) -> Result<Option<Expected<'a>>, AllocError> {
-    for (name, _) in members {
-        let name = name.as_str();
-        if !names.contains(&name) {
+    for name in members {
+        if !names.contains(name) {
             let hint = unknown_hint(alloc, fields, name)?;
             return Ok(Some(Expected::Hinted("no field is called", Name::of(name), hint)));
         }
@@ -259,11 +259,11 @@ fn enum_expectation<'a>(
     alloc: Global,
     registry: &Registry,
     choices: Enum<'a>,
-    json: &'a Json,
+    outline: &Outline<'a>,
 ) -> Result<Option<Expected<'a>>, AllocError> {
-    let name = match json {
-        Json::String(word) => Some(word.as_str()),
-        Json::Object(members) => only_name(members),
+    let name = match outline {
+        Outline::String(word) => Some(*word),
+        Outline::Object(members) => only_name(members),
         _ => None,
     };
     let Some(name) = name else {
@@ -275,18 +275,18 @@ fn enum_expectation<'a>(
             Expected::Hinted("no variant is called", Name::of(name), hint)
         }
         Some(VariantFormat::Unit) => return Ok(None),
-        Some(_) if json.is_object() => return Ok(None),
+        Some(_) if matches!(outline, Outline::Object(_)) => return Ok(None),
         Some(_) => Expected::Named("expected an object with the one member", Name::of(name)),
     };
     Ok(Some(expected))
 }
 
 // The name of the only member. `None`: there is no member, or more than one.
-fn only_name<'a>(members: &'a Map<String, Json>) -> Option<&'a str> {
+fn only_name<'a>(members: &BTreeSet<&'a str>) -> Option<&'a str> {
     let mut entries = members.iter();
-    let (name, _) = entries.next()?;
+    let name = entries.next()?;
     if entries.next().is_none() {
-        Some(name.as_str())
+        Some(*name)
     } else {
         None
     }

@@ -3,7 +3,6 @@
 use crate::json_outline::Outline;
 use bcs_display_refusal::Name;
 use bcs_registry_model::IntegerKind;
-use serde_json::Value as Json;
 use std::fmt;
 
 /// What was found where an integer was expected, written in front of what was expected.
@@ -20,16 +19,16 @@ pub(crate) enum FoundNumber<'a> {
 }
 
 impl<'a> FoundNumber<'a> {
-    pub(crate) fn of(outline: &'a Outline) -> FoundNumber<'a> {
-        match &outline.json {
-            Json::Number(_) => FoundNumber::Bare(Name::of(outline.digits.as_str())),
-            Json::String(text) if is_whole(text) => FoundNumber::Quoted(Name::of(text.as_str())),
-            Json::String(text) => FoundNumber::Text(Name::of(text.as_str())),
-            Json::Null => FoundNumber::Other("null"),
-            Json::Bool(true) => FoundNumber::Other("true"),
-            Json::Bool(false) => FoundNumber::Other("false"),
-            Json::Array(_) => FoundNumber::Other("an array"),
-            Json::Object(_) => FoundNumber::Other("an object"),
+    pub(crate) fn of(outline: &Outline<'a>) -> FoundNumber<'a> {
+        match outline {
+            Outline::Number(digits) => FoundNumber::Bare(Name::of(digits)),
+            Outline::String(text) if is_whole(text) => FoundNumber::Quoted(Name::of(text)),
+            Outline::String(text) => FoundNumber::Text(Name::of(text)),
+            Outline::Null => FoundNumber::Other("null"),
+            Outline::Bool(true) => FoundNumber::Other("true"),
+            Outline::Bool(false) => FoundNumber::Other("false"),
+            Outline::Array(_) => FoundNumber::Other("an array"),
+            Outline::Object(_) => FoundNumber::Other("an object"),
         }
     }
 

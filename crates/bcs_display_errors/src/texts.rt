@@ -10,18 +10,20 @@ use bcs_display_refusal::Refusal;
 use bcs_json_spec::{JsonFault, JsonStep};
 use bcs_registry::{Format, Registry};
 use bcs_value::Limits;
+use json::Scratch;
 use std::alloc::{AllocError, Global};
 
 /// The refusal of a document with this fault at the end of these steps, and what was expected there.
-pub(crate) fn refusal_at(
+pub(crate) fn refusal_at<'a>(
     alloc: Global,
-    registry: &Registry,
-    format: &Format,
+    registry: &'a Registry,
+    format: &'a Format,
     limits: &Limits,
-    text: &[u8],
+    text: &'a [u8],
     (fault, steps): (JsonFault, &[JsonStep]),
 ) -> Option<Refusal> {
-    let outline = json_outline(alloc, text, steps)?;
+    let mut scratch = Scratch::new(alloc);
+    let outline = json_outline(alloc, &mut scratch, text, steps)?;
     let message = match expectation_at(alloc, registry, format, limits, &outline, steps).ok()? {
         Some(expectation) => format!(in alloc; "{expectation}").ok()?.into_bytes(),
         None => Vec::new(alloc),
@@ -35,7 +37,7 @@ fn expectation_at<'a>(
     registry: &'a Registry,
     format: &'a Format,
     limits: &Limits,
-    outline: &'a Outline,
+    outline: &Outline<'a>,
     steps: &[JsonStep],
 ) -> Result<Option<Expected<'a>>, AllocError> {
     let whole = Location {

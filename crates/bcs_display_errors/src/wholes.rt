@@ -39,7 +39,7 @@ pub fn whole_refusal(
 
 // The refusal of a document that isn't JSON.
 fn no_json(alloc: Global, text: &[u8]) -> Option<Refusal> {
-    let mistake = json_mistake(alloc, text)?;
+    let mistake = json_mistake(alloc, text);
     if is_hexadecimal(text) {
         return Mistake::at_start(DIGITS).refusal(alloc, text);
     }

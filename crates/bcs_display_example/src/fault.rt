@@ -4,40 +4,14 @@ use bcs_encode::EncodeFault;
 use std::alloc::AllocError;
 use thiserror::Error;
 
-/// Why a format has no example. The message of each fault is its name.
-#[derive(Clone, Copy, Debug, PartialEq, Eq, Error)]
-pub enum ExampleFault {
-    /// No value of the format is within the depth limit: a container always contains itself, an enum has no variants,
-    /// or `F32`, `F64` or `CHAR` can't be avoided.
-    #[error("NoValue")]
-    NoValue,
-    /// The example has more nodes than the limits allow.
-    #[error("TooManyNodes")]
-    TooManyNodes,
-    /// Memory ran out.
-    #[error("OutOfMemory")]
-    OutOfMemory,
-}
-
-impl From<ExampleOptionsFault> for ExampleFault {
-    fn from(fault: ExampleOptionsFault) -> Self {
-        match fault {
-            // The caller requested no variant.
-            ExampleOptionsFault::UnknownVariant | ExampleOptionsFault::NoValue =>
-                ExampleFault::NoValue,
-            ExampleOptionsFault::TooManyNodes => ExampleFault::TooManyNodes,
-            ExampleOptionsFault::OutOfMemory => ExampleFault::OutOfMemory,
-        }
-    }
-}
-
 /// Why there is no example with these options. The message of each fault is its name.
 #[derive(Clone, Copy, Debug, PartialEq, Eq, Error)]
 #[error("{}", self.name())]
 pub enum ExampleOptionsFault {
     /// The format isn't the name of an enum that has the requested variant.
     UnknownVariant,
-    /// No value of the format (with the requested variant) is within the depth limit.
+    /// No value of the format (with the requested variant) is within the depth limit: a container always contains itself, an enum
+    /// has no variants, or `F32`, `F64` or `CHAR` can't be avoided.
     NoValue,
     /// The example has more nodes than the limits allow.
     TooManyNodes,

@@ -15,7 +15,7 @@ mod part;
 mod place;
 mod text;
 
-pub use example::{example_value, example_with};
+pub use example::example_with;
 pub use example_options::{ExampleForm, ExampleOptions};
-pub use fault::{ExampleFault, ExampleOptionsFault, ExampleTextFault};
+pub use fault::{ExampleOptionsFault, ExampleTextFault};
 pub use text::example_text;

@@ -21,7 +21,7 @@ pub(crate) fn all_containers(
     registry: &Registry,
 ) -> Result<Vec<Entry<'_>>, AllocError> {
     let mut entries = Vec::with_capacity(alloc, registry.len())?;
-    for (name, container) in registry.containers() {
+    for (name, container) in registry.containers().entries() {
         let name = name.as_str();
         entries.push(Entry { name, container })?;
     }

@@ -7,10 +7,8 @@ ghost use Rattle.bcs_json_spec.specs.Texts.{Denotes};
 use crate::example::example_with;
 use crate::example_options::ExampleOptions;
 use crate::fault::ExampleTextFault;
-use bcs_json_printer::nesting::shown_nests_within;
 use bcs_json_printer::texts::show;
 use bcs_registry::{Format, Registry};
-use bcs_registry_json::NESTING_LIMIT;
 use bcs_value::Limits;
 use std::alloc::Global;
 
@@ -29,9 +27,9 @@ pub fn example_text(
 {
     registry.recall();
     let value = example_with(alloc, registry, format, example_options, limits)?;
-    if !shown_nests_within(registry, format, NESTING_LIMIT, &value) {
-        return Err(ExampleTextFault::TooNested);
+    let shown = show(alloc, registry, format, &value)?;
+    match shown {
+        Some(text) => Ok(text),
+        None => Err(ExampleTextFault::TooNested),
     }
-    let text = show(alloc, registry, format, value)?;
-    Ok(text)
 }

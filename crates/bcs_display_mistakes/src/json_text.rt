@@ -3,17 +3,11 @@
 use crate::json_mistakes::Mistake;
 use crate::json_scan::first_mistake;
 use bcs_display_refusal::{Location, Refusal};
-use serde_json::{Category, Value};
 use std::alloc::Global;
 
-/// The first mistake in text that isn't JSON. `None`: it is JSON, or an allocation failed.
-pub fn json_mistake(alloc: Global, text: &[u8]) -> Option<Mistake> {
-    let error = Value::from_slice(alloc, text).err()?;
-    if error.classify() == Category::Memory {
-        return None;
-    }
-    let mistake = first_mistake(alloc, text);
-    Some(mistake.unwrap_or(Mistake::at_start("this isn't JSON")))
+/// The first mistake in text that isn't JSON.
+pub fn json_mistake(alloc: Global, text: &[u8]) -> Mistake {
+    first_mistake(alloc, text).unwrap_or(Mistake::at_start("this isn't JSON"))
 }
 
 impl Mistake {

@@ -8,7 +8,7 @@ mod json_mistakes;
 mod json_scan;
 mod json_text;
 mod json_tokens;
-mod least_edits;
+mod letters;
 mod marking;
 mod nearest;
 mod suggestion;

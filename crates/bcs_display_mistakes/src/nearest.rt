@@ -1,19 +1,22 @@
 //! The name that was probably meant in place of one that doesn't exist.
 
 use crate::common_ends::without_common_ends;
-use crate::least_edits::least_edits;
+use crate::letters::Letters;
 use std::alloc::{AllocError, Global};
 use strsim::osa_distance;
 
-/// What a search may cost, some 0.1 ms: 1 for each byte of a name, and more for each name and for comparing. So it looks
+/// What a search may cost, some nanoseconds: 1 for each byte of a name, and more for each name and for comparing. So it looks
 /// at more than 1,000 names of 80 bytes.
-const COST: usize = 160_000;
+const COST: usize = 200_000;
 
-/// The cost of a name, besides its bytes.
-const NAME: usize = 16;
+/// The cost of a name, besides its bytes. Those of a large registry aren't in the processor's cache.
+const NAME: usize = 100;
 
-/// The cost of a cell of the table that comparing fills, some 5 ns.
-const CELL: usize = 8;
+/// The cost of comparing a name with the word, besides that of the table's cells.
+const TABLE: usize = 1_000;
+
+/// The cost of a cell.
+const CELL: usize = 7;
 
 /// The length in bytes of the longest name that is compared.
 const LONGEST: usize = 512;
@@ -22,8 +25,7 @@ const LONGEST: usize = 512;
 #[derive(Clone, Copy)]
 pub struct NearestName<'a> {
     word: &'a str,
-    /// The number of characters in the word.
-    size: usize,
+    letters: Letters,
     /// What the rest of the search may cost.
     left: usize,
     found: Option<Near<'a>>,
@@ -41,7 +43,7 @@ impl<'a> NearestName<'a> {
     pub fn to(word: &'a str) -> NearestName<'a> {
         NearestName {
             word,
-            size: word.chars().count(),
+            letters: Letters::of(word),
             left: if word.len() > LONGEST { 0 } else { COST },
             found: None,
         }
@@ -58,13 +60,15 @@ impl<'a> NearestName<'a> {
             self.found = Some(Near { name, edits: 0 });
             return Ok(());
         }
-        let size = name.chars().count();
-        let (shorter, longer) = (size.min(self.size), size.max(self.size));
+        let (longer, missing) = self.letters.longer_and_missing(name);
         let Some(most) = self.most_edits(longer) else {
             return Ok(());
         };
+        if missing > most {
+            return Ok(());
+        }
         let (word, other) = without_common_ends(self.word, name);
-        if longer.saturating_sub(shorter) > most || !self.compares(word, other, most) {
+        if !self.affords_table(word, other) {
             return Ok(());
         }
         let edits = osa_distance(alloc, word, other)?;
@@ -102,13 +106,10 @@ impl<'a> NearestName<'a> {
         }
     }
 
-    // Whether these texts may differ by so few edits, and the search can afford to compare them.
-    fn compares(&mut self, word: &str, other: &str, most: usize) -> bool {
-        if least_edits(word, other) > most {
-            return false;
-        }
+    // Whether the search can afford to compare these texts.
+    fn affords_table(&mut self, word: &str, other: &str) -> bool {
         let cells = word.len().saturating_mul(other.len());
-        self.spend(cells.saturating_mul(CELL))
+        self.spend(cells.saturating_mul(CELL).saturating_add(TABLE))
     }
 
     // Spends this cost, if it is left.

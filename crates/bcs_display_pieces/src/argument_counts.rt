@@ -1,26 +1,34 @@
 //! A list that has another number of arguments than the function.
 
 use crate::ending::{InnerStop, Why, refusal_with};
+use crate::functions::Function;
 use crate::halt::Halt;
 use crate::meaning::put_quantity;
-use crate::views::CallView;
 use bcs_display_refusal::put_name;
 use bcs_display_text::columns::put_decimal;
 use bcs_explain::Reason;
 use std::alloc::{AllocError, Global};
 
 /// What is expected at the length of such a list: `2 arguments of 0x1::coin::transfer`.
-pub(crate) fn expected_arguments(alloc: Global, call: &CallView) -> Result<Vec<u8>, AllocError> {
+pub(crate) fn expected_arguments(
+    alloc: Global,
+    function: &Function,
+) -> Result<Vec<u8>, AllocError> {
     let mut expected = Vec::new(alloc);
-    put_quantity(call.count, " argument of ", " arguments of ", &mut expected)?;
-    put_name(call.function.as_str(), &mut expected)?;
+    put_quantity(
+        function.count,
+        " argument of ",
+        " arguments of ",
+        &mut expected,
+    )?;
+    put_name(function.name.as_str(), &mut expected)?;
     Ok(expected)
 }
 
 /// The stop at the length of a list with `count` elements.
 pub(crate) fn wrong_count(
     alloc: Global,
-    call: &CallView,
+    function: &Function,
     count: u32,
     place: u64,
     halt: &Halt,
@@ -29,7 +37,7 @@ pub(crate) fn wrong_count(
     message.extend_from_slice(&halt.expected)?;
     message.extend_from_slice(b", found ")?;
     put_decimal(u128::from(count), &mut message)?;
-    let reason = if u64::from(count) < call.count {
+    let reason = if u64::from(count) < function.count {
         Reason::EndOfInput
     } else {
         Reason::TrailingBytes

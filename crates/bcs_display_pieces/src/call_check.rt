@@ -7,6 +7,7 @@ ghost use Rattle.bcs_registry_model.specs.WellFormed.{Admits};
 use crate::above::Above;
 use crate::elements::has_byte_strings;
 use crate::findings::Findings;
+use crate::functions::Function;
 use crate::refused_call::{CallFault, RefusedList};
 use crate::steps::put_field_path;
 use crate::stopping::stop_of;
@@ -16,12 +17,15 @@ use bcs_explain::{Counted, Expected, Listener, Meaning, Trail};
 use bcs_registry::{Format, Registry};
 use bcs_value::Limits;
 use std::alloc::{AllocError, Global};
+use std::collections::BTreeMap;
 
 /// What was found out about the calls in a value.
 #[derive(Drop)]
 pub(crate) struct Checked {
     /// The first list that is refused.
     pub refused: Option<RefusedList>,
+    /// The functions that are called, by the places of the lists, where the views name none.
+    pub functions: BTreeMap<u64, Function>,
     pub findings: Findings,
 }
 
@@ -52,6 +56,7 @@ pub(crate) fn check_calls(
 {
     let checked = Checked {
         refused: None,
+        functions: BTreeMap::new(alloc),
         findings: Findings::new(alloc, scene.views)?,
     };
     if scene.views.calls().is_empty() {
@@ -59,7 +64,7 @@ pub(crate) fn check_calls(
     }
     let mut watches = Vec::new(alloc);
     for view in scene.views.calls() {
-        watches.push(Watch::new(view))?;
+        watches.push(Watch::new(scene.registry, view))?;
     }
     let mut check = CallCheck {
         alloc,

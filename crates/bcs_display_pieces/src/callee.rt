@@ -6,8 +6,9 @@ use crate::move_values::{SIZE, put_address};
 use bcs_display_text::escaping::put_escaped;
 use bcs_explain::{Counted, Meaning};
 use std::alloc::{AllocError, Global};
+use std::collections::BTreeMap;
 
-/// How much longer than FUNCTION a name may be that is read. A member is at least one character of the name, so a longer
+/// How much longer than FUNCTION, or than any name, a name may be that is read. A member is at least one character of the name, so a longer
 /// one is never FUNCTION.
 const SPARE: usize = 256;
 
@@ -22,15 +23,9 @@ const TYPES: &[u8] = b".ty_args";
 /// What names the function: the members of a struct, by their names in it.
 #[derive(Drop)]
 pub(crate) struct Callee {
-    members: Vec<Member>,
+    members: BTreeMap<Vec<u8>, Content>,
     /// How many members are read, and characters of each.
     limit: usize,
-}
-
-#[derive(Drop)]
-struct Member {
-    name: Vec<u8>,
-    content: Content,
 }
 
 /// The content of a member.
@@ -44,10 +39,10 @@ pub(crate) enum Content {
 }
 
 impl Callee {
-    /// Nothing is known yet of the function, which is compared with a name of `len` bytes.
+    /// Nothing is known yet of the function, whose name has at most `len` bytes, unless it is another one.
     pub(crate) fn new(alloc: Global, len: usize) -> Callee {
         Callee {
-            members: Vec::new(alloc),
+            members: BTreeMap::new(alloc),
             limit: len.saturating_add(SPARE),
         }
     }
@@ -65,7 +60,7 @@ impl Callee {
         }
         if let Some(content) = content_of(alloc, meaning, bytes, self.limit)? {
             let name = Vec::from_slice(alloc, name)?;
-            self.members.push(Member { name, content })?;
+            drop(self.members.insert(name, content)?);
         }
         Ok(())
     }
@@ -77,14 +72,7 @@ impl Callee {
 
     /// The member with this name.
     pub(crate) fn content(&self, name: &[u8]) -> Option<&Content> {
-        match self
-            .members
-            .iter()
-            .find(|member| member.name.as_slice() == name)
-        {
-            Some(member) => Some(&member.content),
-            None => None,
-        }
+        self.members.get(name)
     }
 
     /// The function's name, as `from-move` spells it. `None`: a member is missing, or has another format.

@@ -1,5 +1,6 @@
 //! What was found for the texts that ask for views.
 
+use crate::candidates::Candidates;
 use crate::views::Views;
 use std::alloc::{AllocError, Global};
 
@@ -20,12 +21,16 @@ pub(crate) enum Uncompared {
     NoName,
     /// What names the function that is called isn't beside the list.
     NoMembers,
+    /// The same where no FUNCTION is given, so the list isn't opened.
+    NoFunction,
 }
 
-/// The same for each text.
+/// The same for each text, and the parts that may have been meant.
 #[derive(Drop)]
 pub(crate) struct Findings {
     findings: Vec<Finding>,
+    pub strings: Candidates,
+    pub lists: Candidates,
 }
 
 impl Findings {
@@ -34,7 +39,11 @@ impl Findings {
         for _ in views.sources() {
             findings.push(Finding::Missing)?;
         }
-        Ok(Findings { findings })
+        Ok(Findings {
+            findings,
+            strings: Candidates::new(alloc),
+            lists: Candidates::new(alloc),
+        })
     }
 
     /// Of all that was found for a text, what wasn't compared counts.
@@ -46,10 +55,12 @@ impl Findings {
     }
 
     /// Adds what was found in another value.
-    pub(crate) fn add(&mut self, other: &Findings) {
+    pub(crate) fn add(&mut self, other: &Findings) -> Result<(), AllocError> {
         for (source, found) in other.findings.iter().enumerate() {
             self.mark(source, *found);
         }
+        self.strings.add_all(&other.strings)?;
+        self.lists.add_all(&other.lists)
     }
 
     pub(crate) fn all(&self) -> &[Finding] {

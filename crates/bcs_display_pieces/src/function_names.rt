@@ -2,6 +2,9 @@
 
 use std::alloc::{AllocError, Global};
 
+/// The number of characters of the longest name that `from-move` accepts.
+pub(crate) const LONGEST_NAME: usize = 4000;
+
 /// Whether the text names a function. Its types aren't checked.
 pub(crate) fn is_function_name(name: &str) -> bool {
     let (function, types) = match name.split_once('<') {

@@ -49,7 +49,7 @@ pub(crate) fn put_walk(
         halt,
         inner,
     } = walk;
-    out.findings.add(&findings);
+    out.findings.add(&findings)?;
     let mut from: usize = 0;
     let mut used: u32 = 0;
     for hole in holes {
@@ -91,7 +91,7 @@ fn walk_of(
     let start = hole.above.start;
     let bytes = between(input, start as usize, hole.end as usize);
     let limits = limits_of(hole.depth, nodes);
-    let Some(format) = format_of(alloc, scene, hole.view) else {
+    let Some(format) = format_of(alloc, scene, hole.format.as_str()) else {
         return Err(AllocError);
     };
     let (mut walk, stop) = walk_value(alloc, scene, hole.above, &format, &limits, bytes)?;
@@ -102,13 +102,11 @@ fn walk_of(
     Ok(walk)
 }
 
-// The format of the view with this index. `None` if memory ran out: the view exists, and the registry admitted its format
-// when it was read.
-fn format_of(alloc: Global, scene: Scene<'_>, view: usize) -> Option<Format>
+// The format that a byte string has. `None` if memory ran out: the registry admits it.
+fn format_of(alloc: Global, scene: Scene<'_>, format: &str) -> Option<Format>
     ensures { IfSome result (λ format. Admits scene.entry.registry.now (shape_of format)) }
 {
-    let view = scene.views.inside(view)?;
-    match read_format(alloc, scene.registry, view.format.as_str()) {
+    match read_format(alloc, scene.registry, format) {
         Ok(format) => Some(format),
         Err(_) => None,
     }

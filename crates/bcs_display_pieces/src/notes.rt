@@ -3,6 +3,7 @@
 use crate::findings::{Finding, Findings, Uncompared};
 use crate::objects::put_note_object;
 use crate::views::{Source, Views};
+use bcs_display_mistakes::Suggestion;
 use bcs_display_refusal::{Location, Refusal};
 use bcs_display_text::style::Form;
 use bcs_view_texts::ViewKind;
@@ -14,6 +15,9 @@ const NO_NAME: &str =
 const NO_MEMBERS: &str =
     "not compared with the function that is called: it isn't beside the list, in module.address, module.name, function and ty_args";
 
+const NO_FUNCTION: &str =
+    "not opened: the function that is called isn't beside the list, in module.address, module.name, function and ty_args";
+
 /// A note for each view that needs one: `at --inside, .data: no byte string there`.
 pub(crate) fn notes_of(
     alloc: Global,
@@ -24,23 +28,39 @@ pub(crate) fn notes_of(
     for (source, finding) in views.sources().iter().zip(findings.all()) {
         match finding {
             Finding::Found => {}
-            Finding::Missing if source.kind == ViewKind::Call => notes.push(note(
-                alloc,
-                source,
-                "no list there",
-            )?)?,
-            Finding::Missing => notes.push(note(alloc, source, "no byte string there")?)?,
-            Finding::Uncompared(Uncompared::NoName) => notes.push(note(alloc, source, NO_NAME)?)?,
-            Finding::Uncompared(Uncompared::NoMembers) => notes.push(note(
-                alloc, source, NO_MEMBERS,
-            )?)?,
+            Finding::Missing => notes.push(missing(alloc, source, findings)?)?,
+            Finding::Uncompared(why) => {
+                notes.push(note(alloc, source, String::from_str(alloc, words_of(*why))?)?)?;
+            }
         }
     }
     Ok(notes)
 }
 
+fn words_of(why: Uncompared) -> &'static str {
+    match why {
+        Uncompared::NoName => NO_NAME,
+        Uncompared::NoMembers => NO_MEMBERS,
+        Uncompared::NoFunction => NO_FUNCTION,
+    }
+}
+
+// The value has no such part.
+fn missing(alloc: Global, source: &Source, findings: &Findings) -> Result<Refusal, AllocError> {
+    let (part, candidates) = match source.kind {
+        ViewKind::Call => ("list", &findings.lists),
+        _ => ("byte string", &findings.strings),
+    };
+    let suggestion = Suggestion::of(candidates.nearest(alloc, source.name.as_str())?);
+    note(
+        alloc,
+        source,
+        format!(in alloc; "no {part} there{suggestion}")?,
+    )
+}
+
 // Nothing is refused.
-fn note(alloc: Global, source: &Source, message: &str) -> Result<Refusal, AllocError> {
+fn note(alloc: Global, source: &Source, message: String) -> Result<Refusal, AllocError> {
     Ok(Refusal {
         input: None,
         argument: Some(source.kind.option()),

@@ -16,26 +16,6 @@ use bcs_registry::{Format, Registry};
 use bcs_value::Limits;
 use std::alloc::{AllocError, Global};
 
-/// Describes in ASCII, without a line end, where the bytes stop being a value and what was expected there: `at .owner:
-/// BadBool: expected BOOL, 00 or 01, found 02`. For an unknown variant, it adds the number that was found and the variants that
-/// exist. Returns `None` if they encode a value. Fails only if memory runs out.
-pub fn stop_place(
-    alloc: Global,
-    registry: &Registry,
-    format: &Format,
-    limits: &Limits,
-    bytes: &[u8],
-) -> Result<Option<Vec<u8>>, AllocError>
-    requires admitted { Admits registry.now (shape_of format.now) }
-    ensures none { IfOk result (λ x. x ≡ None → EndsAt registry.now limits.now (shape_of format.now) bytes.now None) }
-    ensures some { IfOk result (λ x. IfSome x (λ _. (stop : declared.Stop) × EndsAt registry.now limits.now (shape_of format.now) bytes.now (Some stop))) }
-{
-    match stop_refusal(alloc, registry, format, limits, bytes)? {
-        Some(stopped) => Ok(Some(stopped.refusal.line(alloc)?)),
-        None => Ok(None),
-    }
-}
-
 /// A stop, and the refusal of the bytes for it. The location is a field path.
 #[derive(Debug, Drop)]
 pub struct Stopped {
@@ -43,7 +23,9 @@ pub struct Stopped {
     pub refusal: Refusal,
 }
 
-/// The same as data.
+/// Where the bytes stop being a value, with what was expected there; for an unknown variant also the number that was found and
+/// the variants that exist. `Refusal::line` describes it in ASCII, without a line end: `at .owner: BadBool: expected BOOL, 00 or
+/// 01, found 02`. Returns `None` if they encode a value. Fails only if memory runs out.
 pub fn stop_refusal(
     alloc: Global,
     registry: &Registry,

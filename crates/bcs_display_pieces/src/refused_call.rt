@@ -1,6 +1,7 @@
 //! Calls that are refused.
 
 use crate::ending::{InnerStop, Why, refusal_with};
+use crate::function_names::LONGEST_NAME;
 use crate::halt::Halt;
 use bcs_display_refusal::Refusal;
 use bcs_display_text::escaping::put_escaped;
@@ -14,7 +15,7 @@ const SHOWN: usize = 1000;
 pub enum CallFault {
     /// The list isn't one of byte strings.
     BadPath,
-    /// Another function is called.
+    /// Another function is called than the one that was named, or than those of the registry.
     OtherFunction,
 }
 
@@ -71,6 +72,24 @@ pub(crate) fn expected_function(
     put_shown(&name, &mut expected)?;
     expected.extend_from_slice(b", found a call of ")?;
     put_shown(called, &mut expected)?;
+    Ok(expected)
+}
+
+/// What is expected at a list with the arguments of a function that the registry lacks, and how to add that. A name that was
+/// cut, or has quotes, can't be requested.
+pub(crate) fn expected_containers(alloc: Global, called: &[u8]) -> Result<Vec<u8>, AllocError> {
+    let mut expected = Vec::from_slice(
+        alloc,
+        b"arguments of a function in the registry, found a call of ",
+    )?;
+    put_shown(called, &mut expected)?;
+    let is_request = called.len() <= LONGEST_NAME
+        && !called.iter().any(|byte| matches!(byte, b'"' | b'.'));
+    if is_request {
+        expected.extend_from_slice(b"; add it by bcs from-move MODULES '")?;
+        expected.extend_from_slice(called)?;
+        expected.push(b'\'')?;
+    }
     Ok(expected)
 }
 

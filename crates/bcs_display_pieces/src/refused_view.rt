@@ -2,8 +2,10 @@
 ghost use Rattle.std.specs.Prelude.{◌≡◌, IfOk, Some};
 ghost use Rattle.bcs_registry_model.specs.declared.fault.RegistryFault.TheVariants.{UnknownName};
 
+use crate::nearest_containers::nearest_container;
+use bcs_display_mistakes::Suggestion;
 use bcs_display_refusal::{Location, Refusal};
-use bcs_registry::RegistryFault;
+use bcs_registry::{Registry, RegistryFault};
 use bcs_view_texts::{MoveKind, ViewKind};
 use std::alloc::{AllocError, Global};
 
@@ -22,7 +24,8 @@ pub(crate) fn bad_path(
     text: &str,
 ) -> Result<RefusedView, AllocError> {
     let expected = match kind {
-        ViewKind::Call => "expected NAME=FUNCTION, as in .args=0x1::aptos_account::transfer",
+        ViewKind::Call =>
+            "expected NAME or NAME=FUNCTION, as in .args=0x1::aptos_account::transfer",
         _ => "expected NAME=FORMAT, as in .args[1]=\"U64\"",
     };
     let refusal = refused(alloc, kind, "BadPath", text, expected)?;
@@ -33,9 +36,9 @@ pub(crate) fn bad_path(
 }
 
 /// A format that the registry refuses. Fails if memory ran out there.
-pub(crate) fn refused_name(
+pub(crate) fn refused_format(
     alloc: Global,
-    kind: ViewKind,
+    registry: &Registry,
     text: &str,
     fault: RegistryFault,
 ) -> Result<RefusedView, AllocError> {
@@ -49,7 +52,12 @@ pub(crate) fn refused_name(
         | RegistryFault::TooNested
         | RegistryFault::RepeatedName => "expected the name of a container, or a format as JSON",
     };
-    let refusal = refused(alloc, kind, fault.name(), text, expected)?;
+    let kind = ViewKind::Inside;
+    let message = match fault {
+        RegistryFault::UnknownName => with_nearest(alloc, registry, kind, text, expected)?,
+        _ => String::from_str(alloc, expected)?,
+    };
+    let refusal = refused(alloc, kind, fault.name(), text, message.as_str())?;
     Ok(RefusedView {
         fault: Some(fault),
         refusal,
@@ -57,9 +65,27 @@ pub(crate) fn refused_name(
 }
 
 /// A function without containers.
-pub(crate) fn unknown_function(alloc: Global, name: &str) -> Result<RefusedView, AllocError> {
+pub(crate) fn unknown_function(
+    alloc: Global,
+    registry: &Registry,
+    name: &str,
+) -> Result<RefusedView, AllocError> {
+    let kind = ViewKind::Call;
     let expected = "the registry has no containers for its arguments; bcs from-move makes them";
-    unknown(alloc, ViewKind::Call, name, expected)
+    let message = with_nearest(alloc, registry, kind, name, expected)?;
+    unknown(alloc, kind, name, message.as_str())
+}
+
+// The message about a container that the registry lacks, and the one that was probably meant.
+fn with_nearest(
+    alloc: Global,
+    registry: &Registry,
+    kind: ViewKind,
+    name: &str,
+    expected: &str,
+) -> Result<String, AllocError> {
+    let suggestion = Suggestion::of(nearest_container(alloc, registry, kind, name)?);
+    format!(in alloc; "{expected}{suggestion}")
 }
 
 /// A container that has no values of Move.

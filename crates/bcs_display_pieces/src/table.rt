@@ -5,17 +5,21 @@ use crate::above::Above;
 use crate::argument_counts::{expected_arguments, wrong_count};
 use crate::call_check::Checked;
 use crate::findings::Finding;
+use crate::functions::Function;
 use crate::halt::Halt;
 use crate::lines::put_lines;
 use crate::objects::put_piece_object;
+use crate::open_list::OpenList;
 use crate::patterns::matches;
 use crate::piece::Piece;
 use crate::refused_call::RefusedList;
 use crate::steps::{count_containers, put_field_path};
+use crate::views::CallView;
 use crate::walk::{Hole, Scene, Walk};
 use bcs_display_text::style::Form;
 use bcs_explain::{Counted, Expected, Listener, Meaning, Trail};
 use std::alloc::{AllocError, Global};
+use std::collections::BTreeMap;
 
 /// The pieces received so far.
 #[derive(Drop)]
@@ -27,8 +31,10 @@ pub(crate) struct Table<'e> {
     depth: u32,
     /// The list that is refused, if one is.
     refused: Option<RefusedList>,
-    /// The lists of arguments that were found last, with the index of each source.
-    lists: Vec<(usize, Vec<u8>)>,
+    /// The functions that are called, where the views name none.
+    functions: BTreeMap<u64, Function>,
+    /// The list of arguments that was found last for each source.
+    lists: Vec<OpenList>,
     walk: Walk,
     /// Whether an allocation failed.
     has_lost: bool,
@@ -43,7 +49,11 @@ impl<'e> Table<'e> {
         depth: u32,
         nodes: u32,
     ) -> Result<Table<'e>, AllocError> {
-        let Checked { refused, findings } = checked;
+        let Checked {
+            refused,
+            functions,
+            findings,
+        } = checked;
         let walk = Walk {
             text: Vec::new(alloc),
             holes: Vec::new(alloc),
@@ -59,6 +69,7 @@ impl<'e> Table<'e> {
             above,
             depth,
             refused,
+            functions,
             lists: Vec::new(alloc),
             walk,
             has_lost: false,
@@ -132,12 +143,13 @@ impl<'e> Table<'e> {
         nodes: u32,
     ) -> Result<bool, AllocError> {
         let name = self.name_of(trail)?;
-        let Some(view) = self.inside_at(&name) else {
+        self.walk.findings.strings.add(&name)?;
+        let Some(format) = self.format_at(&name)? else {
             return Ok(false);
         };
         let hole = Hole {
             at: self.walk.text.len(),
-            view,
+            format,
             above: self.above.inside(self.alloc, start, trail)?,
             end,
             depth: self.depth.saturating_sub(count_containers(trail)),
@@ -148,30 +160,32 @@ impl<'e> Table<'e> {
         Ok(true)
     }
 
-    // The index of the first view of the byte string with this name.
-    fn inside_at(&mut self, name: &[u8]) -> Option<usize> {
+    // The format of the byte string with this name, if a view asks for it.
+    fn format_at(&mut self, name: &[u8]) -> Result<Option<String>, AllocError> {
         let mut first = None;
-        for (index, view) in self.scene.views.insides().iter().enumerate() {
-            if !matches(view.name.as_bytes(), name) {
-                continue;
-            }
-            if view.is_argument {
-                if first.is_none() && self.is_in_list(view.source, name) {
-                    first = Some(index);
-                }
-            } else {
+        for view in self.scene.views.insides() {
+            if matches(view.name.as_bytes(), name) {
                 self.walk.findings.mark(view.source, Finding::Found);
-                first = first.or(Some(index));
+                first = first.or(Some(view.format.as_str()));
             }
         }
-        first
+        match first {
+            Some(format) => Ok(Some(String::from_str(self.alloc, format)?)),
+            None => self.argument_at(name),
+        }
     }
 
-    // Whether the name is that of an element of the list of arguments that this source has.
-    fn is_in_list(&self, source: usize, name: &[u8]) -> bool {
-        self.lists
-            .iter()
-            .any(|(of, list)| *of == source && name.starts_with(list))
+    // The container of the argument with this name, if it is an element of an open list.
+    fn argument_at(&self, name: &[u8]) -> Result<Option<String>, AllocError> {
+        for list in &self.lists {
+            if let Some(number) = list.number_of(name) {
+                let function = list.function.as_str();
+                let format = format!(in self.alloc; "{function}::arg{number}")?;
+                let is_there = self.scene.registry.container(format.as_str()).is_some();
+                return Ok(if is_there { Some(format) } else { None });
+            }
+        }
+        Ok(None)
     }
 
     // The length of a list, which may have the arguments of a function.
@@ -183,36 +197,64 @@ impl<'e> Table<'e> {
     ) -> Result<(), AllocError> {
         let name = self.name_of(trail)?;
         let views = self.scene.views;
-        if let Some(call) = views.call_at(&name) {
-            if u64::from(count) != call.count {
-                let expected = expected_arguments(self.alloc, call)?;
-                self.walk.halt = Halt::with(self.alloc, &self.above, trail, expected)?;
-                let inner = wrong_count(self.alloc, call, count, piece.place, &self.walk.halt)?;
-                self.walk.inner = Some(inner);
-                return Ok(());
-            }
-            let source = call.source;
-            self.open_list(source, name)?;
+        self.walk.findings.lists.add(&name)?;
+        let Some(call) = views.call_at(&name) else {
+            return self.put(piece, trail);
+        };
+        self.mark_calls(&name);
+        let Some(function) = self.function_of(call, piece.place)? else {
+            return self.put(piece, trail);
+        };
+        if u64::from(count) != function.count {
+            let expected = expected_arguments(self.alloc, &function)?;
+            self.walk.halt = Halt::with(self.alloc, &self.above, trail, expected)?;
+            let halt = &self.walk.halt;
+            let inner = wrong_count(self.alloc, &function, count, piece.place, halt)?;
+            self.walk.inner = Some(inner);
+            return Ok(());
         }
+        self.open_list(call.source, name, function)?;
         self.put(piece, trail)
     }
 
-    // The list of this name has the arguments of the function that this source names.
-    fn open_list(&mut self, source: usize, name: Vec<u8>) -> Result<(), AllocError> {
+    fn mark_calls(&mut self, name: &[u8]) {
         for call in self.scene.views.calls() {
-            if matches(call.name.as_bytes(), &name) {
+            if matches(call.name.as_bytes(), name) {
                 self.walk.findings.mark(call.source, Finding::Found);
             }
         }
+    }
+
+    // The function whose arguments are in the list at this place: the one that the view names, or the one that is called.
+    fn function_of(&mut self, call: &CallView, place: u64) -> Result<Option<Function>, AllocError> {
+        match &call.function {
+            Some(function) => Ok(Some(function.copy(self.alloc)?)),
+            None => Ok(self.functions.remove(&place)),
+        }
+    }
+
+    // The list of this name has the arguments of the function.
+    fn open_list(
+        &mut self,
+        source: usize,
+        name: Vec<u8>,
+        function: Function,
+    ) -> Result<(), AllocError> {
         // (the steps of an element of the whole value follow nothing)
-        let list = if name.as_slice() == b".".as_slice() {
+        let name = if name.as_slice() == b".".as_slice() {
             Vec::new(self.alloc)
         } else {
             name
         };
-        self.lists.retain(|(of, _)| *of != source);
-        self.lists.push((source, list))?;
-        Ok(())
+        let function = function.name;
+        self.lists.retain(|list| list.source != source);
+        Ok(
+            self.lists.push(OpenList {
+                source,
+                name,
+                function,
+            })?,
+        )
     }
 
     // Whether the explanation ends here, at a list that is refused.

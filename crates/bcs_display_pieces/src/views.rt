@@ -5,11 +5,11 @@ ghost use Rattle.bcs_display_pieces.specs.IsPlain.{IsPlain};
 ghost use Rattle.bcs_display_pieces.specs.Viewing.{HasMoveValue, NamesNoString, RefusesView, RefusesViews, names_string};
 
 use crate::formats::read_format;
-use crate::functions::{Arguments, arguments_of};
+use crate::functions::Function;
 use crate::move_values::{has_move_value, standard_kind, whole_container};
 use crate::named_texts::name_and_rest;
 use crate::patterns::matches;
-use crate::refused_view::{RefusedView, bad_path, refused_name, unknown_function, unknown_value};
+use crate::refused_view::{RefusedView, bad_path, refused_format, unknown_function, unknown_value};
 use bcs_explain::{Meaning, Trail};
 use bcs_registry::Registry;
 use bcs_view_texts::{MoveKind, ViewKind, ViewText};
@@ -27,8 +27,6 @@ pub(crate) struct Source {
 pub(crate) struct InsideView {
     /// The index of the source that asked for it.
     pub source: usize,
-    /// Whether it is an argument of a call.
-    pub is_argument: bool,
     pub name: String,
     /// A container's name, or JSON.
     pub format: String,
@@ -40,9 +38,8 @@ pub(crate) struct CallView {
     /// The index of the source that asked for it.
     pub source: usize,
     pub name: String,
-    pub function: String,
-    /// The number of the function's arguments.
-    pub count: u64,
+    /// `None`: the function that is called.
+    pub function: Option<Function>,
 }
 
 #[derive(Debug, Drop)]
@@ -148,16 +145,15 @@ impl Views {
         registry: &Registry,
         text: &str,
     ) -> Result<Option<RefusedView>, AllocError> {
-        let Some((name, format)) = name_and_rest(text) else {
+        let Some((name, Some(format))) = name_and_rest(text) else {
             return Ok(Some(bad_path(alloc, ViewKind::Inside, text)?));
         };
         if let Err(fault) = read_format(alloc, registry, format) {
-            return Ok(Some(refused_name(alloc, ViewKind::Inside, format, fault)?));
+            return Ok(Some(refused_format(alloc, registry, format, fault)?));
         }
         let source = self.add_source(alloc, ViewKind::Inside, name)?;
         self.insides.push(InsideView {
             source,
-            is_argument: false,
             name: String::from_str(alloc, name)?,
             format: String::from_str(alloc, format)?,
         })?;
@@ -173,39 +169,22 @@ impl Views {
         let Some((name, function)) = name_and_rest(text) else {
             return Ok(Some(bad_path(alloc, ViewKind::Call, text)?));
         };
-        let Some(arguments) = arguments_of(alloc, registry, function)? else {
-            return Ok(Some(unknown_function(alloc, function)?));
+        // (no language has to leave out the `=`)
+        let function = match function.filter(|name| !name.is_empty()) {
+            None => None,
+            Some(function) => match Function::named(alloc, registry, function)? {
+                Some(function) => Some(function),
+                None => return Ok(Some(unknown_function(alloc, registry, function)?)),
+            },
         };
         let source = self.add_source(alloc, ViewKind::Call, name)?;
-        self.add_arguments(alloc, source, name, function, &arguments)?;
+        let name = String::from_str(alloc, name)?;
         self.calls.push(CallView {
             source,
-            name: String::from_str(alloc, name)?,
-            function: String::from_str(alloc, function)?,
-            count: arguments.count,
+            name,
+            function,
         })?;
         Ok(None)
-    }
-
-    // The byte strings of a call: `NAME[0]` has `FUNCTION::arg0`, and so on.
-    fn add_arguments(
-        &mut self,
-        alloc: Global,
-        source: usize,
-        name: &str,
-        function: &str,
-        arguments: &Arguments,
-    ) -> Result<(), AllocError> {
-        let list = if name == "." { "" } else { name };
-        for number in &arguments.numbers {
-            self.insides.push(InsideView {
-                source,
-                is_argument: true,
-                name: format!(in alloc; "{list}[{number}]")?,
-                format: format!(in alloc; "{function}::arg{number}")?,
-            })?;
-        }
-        Ok(())
     }
 
     fn add_value(
@@ -235,10 +214,6 @@ impl Views {
 
     pub(crate) fn insides(&self) -> &[InsideView] {
         &self.insides
-    }
-
-    pub(crate) fn inside(&self, index: usize) -> Option<&InsideView> {
-        self.insides.get(index)
     }
 
     /// The function whose arguments are in the list with this printed name.

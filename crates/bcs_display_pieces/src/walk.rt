@@ -21,8 +21,8 @@ pub(crate) struct Scene<'e> {
 pub(crate) struct Hole {
     /// Where its pieces belong in the text of the value that it is in.
     pub at: usize,
-    /// The index of its view.
-    pub view: usize,
+    /// The name of a container, or JSON.
+    pub format: String,
     pub above: Above,
     /// The byte offset after its content.
     pub end: u64,

@@ -1,6 +1,7 @@
 //! Compares two registries.
 
 use crate::change::{Change, Difference};
+use bcs_registry_model::containers::Containers;
 use bcs_registry_model::equality::{is_same_struct, is_same_variant};
 use bcs_registry_model::{Container, Named, VariantFormat};
 use std::alloc::{AllocError, Global};
@@ -13,12 +14,12 @@ type Variants = BTreeMap<u32, Named<VariantFormat>>;
 /// variant number. Fails only if memory runs out.
 pub fn differences<'a>(
     alloc: Global,
-    older: &'a BTreeMap<String, Container>,
-    newer: &'a BTreeMap<String, Container>,
+    older: &'a Containers,
+    newer: &'a Containers,
 ) -> Result<Vec<Difference<'a>>, AllocError> {
     let mut found = Vec::new(alloc);
-    for name in &keys_of_both(alloc, older, newer)? {
-        let container = name.as_str();
+    for name in &names_of_both(alloc, older, newer)? {
+        let container = *name;
         let change = match (older.get(container), newer.get(container)) {
             (Some(Container::Enum(older)), Some(Container::Enum(newer))) => {
                 push_variant_changes(alloc, container, older, newer, &mut found)?;
@@ -59,6 +60,22 @@ fn push_variant_changes<'a>(
         found.push(Difference { container, change })?;
     }
     Ok(())
+}
+
+/// The names of the containers of both registries.
+fn names_of_both<'a>(
+    alloc: Global,
+    older: &'a Containers,
+    newer: &'a Containers,
+) -> Result<BTreeSet<&'a str>, AllocError> {
+    let mut names = BTreeSet::new(alloc);
+    for (name, _) in older.entries() {
+        let _ = names.insert(name.as_str())?;
+    }
+    for (name, _) in newer.entries() {
+        let _ = names.insert(name.as_str())?;
+    }
+    Ok(names)
 }
 
 /// The keys of both maps.

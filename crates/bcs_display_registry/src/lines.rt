@@ -5,6 +5,7 @@ use crate::header::put_header;
 use crate::sizes::Sizes;
 use crate::uses::used_by_others;
 use bcs_registry_model::Container;
+use bcs_registry_model::containers::Containers;
 use std::alloc::{AllocError, Global};
 use std::collections::{BTreeMap, BTreeSet};
 
@@ -40,7 +41,7 @@ impl<'a> Selection<'a> {
 /// memory runs out.
 pub fn registry_lines(
     alloc: Global,
-    containers: &BTreeMap<String, Container>,
+    containers: &Containers,
     selection: &Selection<'_>,
     sizes: &BTreeMap<&str, Sizes>,
 ) -> Result<Vec<u8>, AllocError> {
@@ -52,7 +53,7 @@ pub fn registry_lines(
             put_lines(name, container, sizes.get(name), is_used, &mut lines)?;
         }
     }
-    for (name, container) in containers {
+    for (name, container) in containers.entries() {
         let name = name.as_str();
         if selection.has_further(name) {
             let is_used = used.contains(name);

@@ -3,6 +3,7 @@
 use crate::formulas::{Formula, Step, sizes_at};
 use crate::sizes::Sizes;
 use bcs_registry_model::Container;
+use bcs_registry_model::containers::Containers;
 use std::alloc::{AllocError, Global};
 use std::collections::BTreeMap;
 
@@ -13,7 +14,7 @@ use std::collections::BTreeMap;
 /// containers whose sizes depend on sizes that changed, so it takes at most time linear in the size of the registry.
 pub fn container_sizes<'a>(
     alloc: Global,
-    containers: &'a BTreeMap<String, Container>,
+    containers: &'a Containers,
     depth: u32,
 ) -> Result<BTreeMap<&'a str, Sizes>, AllocError> {
     let formulas = formulas_of(alloc, containers)?;
@@ -30,16 +31,13 @@ pub fn container_sizes<'a>(
 }
 
 /// The formula of each container. A container's number is its position in the order of names.
-fn formulas_of(
-    alloc: Global,
-    containers: &BTreeMap<String, Container>,
-) -> Result<Vec<Formula>, AllocError> {
+fn formulas_of(alloc: Global, containers: &Containers) -> Result<Vec<Formula>, AllocError> {
     let mut numbers = BTreeMap::new(alloc);
-    for (number, (name, _)) in containers.iter().enumerate() {
+    for (number, (name, _)) in containers.entries().iter().enumerate() {
         numbers.insert(name.as_str(), number)?;
     }
     let mut formulas = Vec::with_capacity(alloc, containers.len())?;
-    for (_, container) in containers {
+    for (_, container) in containers.entries() {
         formulas.push(Formula::of(alloc, container, &numbers)?)?;
     }
     Ok(formulas)
@@ -155,11 +153,11 @@ fn set(number: usize, is_waiting: bool, waits: &mut [bool]) {
 /// The sizes by container name.
 fn named<'a>(
     alloc: Global,
-    containers: &'a BTreeMap<String, Container>,
+    containers: &'a Containers,
     known: &[Sizes],
 ) -> Result<BTreeMap<&'a str, Sizes>, AllocError> {
     let mut sizes = BTreeMap::new(alloc);
-    for (number, (name, _)) in containers.iter().enumerate() {
+    for (number, (name, _)) in containers.entries().iter().enumerate() {
         sizes.insert(name.as_str(), sizes_at(known, number))?;
     }
     Ok(sizes)

@@ -1,17 +1,18 @@
 //! Which containers use which.
 
 use bcs_registry_model::Container;
+use bcs_registry_model::containers::Containers;
 use bcs_registry_model::mentions::{Mentions, names_in};
 use std::alloc::{AllocError, Global};
-use std::collections::{BTreeMap, BTreeSet};
+use std::collections::BTreeSet;
 
 /// Returns the names mentioned in the formats of containers with other names. Fails only if memory runs out.
 pub(crate) fn used_by_others(
     alloc: Global,
-    containers: &BTreeMap<String, Container>,
+    containers: &Containers,
 ) -> Result<BTreeSet<&str>, AllocError> {
     let mut used = BTreeSet::new(alloc);
-    for (user, container) in containers {
+    for (user, container) in containers.entries() {
         put_used(alloc, user.as_str(), container, &mut used)?;
     }
     Ok(used)
@@ -35,14 +36,16 @@ fn put_used<'a>(
 /// included. The set is empty if no container has this name. Fails only if memory runs out.
 pub fn standing<'a>(
     alloc: Global,
-    containers: &'a BTreeMap<String, Container>,
+    containers: &'a Containers,
     name: &str,
 ) -> Result<BTreeSet<&'a str>, AllocError> {
     let mut reached = BTreeSet::new(alloc);
     let mut open = Vec::new(alloc);
-    if let Some((name, _)) = containers.get_key_value(name) {
-        let _ = reached.insert(name.as_str())?;
-        open.push(name.as_str())?;
+    for (word, _) in containers.entries() {
+        if word.as_str() == name {
+            let _ = reached.insert(word.as_str())?;
+            open.push(word.as_str())?;
+        }
     }
     // Each container is opened at most once, so this many rounds suffice.
     for _opened in 0..containers.len() {
@@ -57,7 +60,7 @@ pub fn standing<'a>(
 /// Adds the containers that this container uses, and queues the new ones.
 fn open_container<'a>(
     alloc: Global,
-    containers: &'a BTreeMap<String, Container>,
+    containers: &'a Containers,
     name: &str,
     reached: &mut BTreeSet<&'a str>,
     open: &mut Vec<&'a str>,

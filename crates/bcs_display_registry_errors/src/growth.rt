@@ -4,14 +4,14 @@ use crate::owners::{Owner, Slot};
 use bcs_display_refusal::{Name, Refusal};
 use bcs_display_registry::{Change, Difference, differences};
 use bcs_registry::{Container, GrowthFault};
+use bcs_registry_model::containers::Containers;
 use std::alloc::{AllocError, Global};
-use std::collections::BTreeMap;
 
 /// The refusal for the first container or variant that the newer registry lacks or changes. `None`: it only adds some.
 pub fn growth_refusal(
     alloc: Global,
-    older: &BTreeMap<String, Container>,
-    newer: &BTreeMap<String, Container>,
+    older: &Containers,
+    newer: &Containers,
 ) -> Result<Option<Refusal>, AllocError> {
     for difference in &differences(alloc, older, newer)? {
         if let Some(fault) = difference.change.fault() {

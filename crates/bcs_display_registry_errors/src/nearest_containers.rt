@@ -1,19 +1,18 @@
 //! The container that was probably meant by a name that a registry doesn't have.
 
 use bcs_display_mistakes::NearestName;
-use bcs_registry::Container;
+use bcs_registry_model::containers::Containers;
 use std::alloc::{AllocError, Global};
-use std::collections::BTreeMap;
 
 /// The first container with the same name but for type arguments, or for case and zeros at the front of addresses; or else
 /// the one with the nearest name, if one is near.
 pub(crate) fn nearest_container<'a>(
     alloc: Global,
-    containers: &'a BTreeMap<String, Container>,
+    containers: &'a Containers,
     word: &'a str,
 ) -> Result<Option<&'a str>, AllocError> {
     let mut search = NearestName::to(word);
-    for name in containers.keys() {
+    for (name, _) in containers.entries() {
         if has_same_addresses(name.as_str(), word) || lacks_arguments(word, name.as_str()) {
             return Ok(Some(name.as_str()));
         }

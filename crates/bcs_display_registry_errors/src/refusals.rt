@@ -28,12 +28,12 @@ pub fn registry_refusal(
 // The refusal of a registry that isn't JSON, with the line and the column of the first mistake. Chains keep registries as
 // YAML, so for text that begins like YAML, it says what to do.
 fn no_registry_json(alloc: Global, text: &[u8]) -> Option<Refusal> {
-    let mistake = json_mistake(alloc, text)?;
-    if begins_as_yaml(text) {
-        Mistake::at_start(YAML).refusal(alloc, text)
+    let mistake = if begins_as_yaml(text) {
+        Mistake::at_start(YAML)
     } else {
-        mistake.refusal(alloc, text)
-    }
+        json_mistake(alloc, text)
+    };
+    mistake.refusal(alloc, text)
 }
 
 /// Where FORMAT has this fault, for the registry with this JSON.
@@ -58,6 +58,6 @@ pub fn format_refusal(
 
 fn no_format_json(alloc: Global, word: &str) -> Option<Refusal> {
     let text = word.as_bytes();
-    let refusal = json_mistake(alloc, text)?.refusal(alloc, text)?;
+    let refusal = json_mistake(alloc, text).refusal(alloc, text)?;
     Some(refusal.in_argument("FORMAT"))
 }

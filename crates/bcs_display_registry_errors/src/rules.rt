@@ -6,6 +6,7 @@ use bcs_display_mistakes::Suggestion;
 use bcs_display_refusal::{Location, Name, Refusal};
 use bcs_registry::{Container, Format, Named, RegistryFault, VariantFormat};
 use bcs_registry_json::one_by_one::containers_one_by_one;
+use bcs_registry_model::containers::Containers;
 use bcs_registry_model::known::first_unknown;
 use bcs_registry_model::levels::has_few_levels;
 use std::alloc::{AllocError, Global};
@@ -15,9 +16,9 @@ use std::collections::{BTreeMap, BTreeSet};
 /// first place where they break it. `None`: they break none. Fails if the text isn't JSON or has a wrong shape, perhaps
 /// with another fault than the registry's.
 pub fn broken_rule(alloc: Global, text: &[u8]) -> Result<Option<Refusal>, RegistryFault> {
-    let containers = containers_one_by_one(alloc, text)?;
+    let containers = Containers::of(alloc, containers_one_by_one(alloc, text)?)?;
     let mut search = Search::over(alloc, &containers);
-    for (name, container) in &containers {
+    for (name, container) in containers.entries() {
         search.container(name.as_str(), container)?;
     }
     Ok(search.first())
@@ -31,14 +32,14 @@ fn broken(fault: &'static str, location: Location, message: String) -> Refusal {
 #[derive(Drop)]
 struct Search<'a> {
     alloc: Global,
-    containers: &'a BTreeMap<String, Container>,
+    containers: &'a Containers,
     too_nested: Option<Refusal>,
     repeated: Option<Refusal>,
     unknown: Option<Refusal>,
 }
 
 impl<'a> Search<'a> {
-    fn over(alloc: Global, containers: &'a BTreeMap<String, Container>) -> Search<'a> {
+    fn over(alloc: Global, containers: &'a Containers) -> Search<'a> {
         Search {
             alloc,
             containers,
