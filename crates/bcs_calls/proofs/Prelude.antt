@@ -1,11 +1,9 @@
 -- The imports that the proofs share.
 pub use Rattle.std.proofs.BoxSteps.Steps.{box_in, box_out}
-pub use Rattle.std.proofs.Common.{ap, append-nil, append_assoc, arith, Bool, drop, drop_of_length-le, Err, flat_map, get_or, inl, inr, length, List, map, None, Ok, Option, refl, Result, rules, Some, string_bytes, subst, sym, take, ℕ, ◌++◌, ◌+◌, ◌<◌, ◌∙◌, ◌∷◌, ◌≡◌, ◌≢◌, ◌≤◌, ◌⊎◌}
+pub use Rattle.std.proofs.Common.{ap, arith, Bool, drop, Err, inl, inr, length, List, map, None, Ok, Option, refl, Result, rules, Some, string_bytes, subst, sym, take, ℕ, ◌++◌, ◌∙◌, ◌∷◌, ◌≡◌, ◌≢◌, ◌⊎◌}
 pub use Rattle.std.proofs.Crossing.{crosses, frees, Vec-send}
 pub use Rattle.std.proofs.boxed.Box.from_raw.Met.{met}
 pub use Rattle.std.proofs.lemmas.Bool.{true≢false}
-pub use Rattle.std.proofs.lemmas.List.{drop_more}
-pub use Rattle.std.proofs.lemmas.Result.{err_from_is_err_and}
 pub use Rattle.std.specs.Prelude.{IfOk, IfSome, is_ok}
 pub use Rattle.std.specs.Result.{result_ok}
 pub use Rattle.std.specs.contracts.impls.GlobalAllocator.TheImpl.{ghosts}
@@ -61,7 +59,6 @@ pub use Rattle.bcs_calls.specs.Shown.{too_nested}
 pub use Rattle.bcs_calls.specs.contracts.handle.Handle.{the_row, the_type}
 pub use Rattle.bcs_calls.specs.contracts.raw_box.RawBox.into_box.{clauses, ended}
 pub use Rattle.bcs_calls.specs.declared.answer.Answer.{Answer}
-pub use Rattle.bcs_calls.specs.declared.question.Question.{Question}
 pub use Rattle.bcs_calls.specs.declared.fault.Fault.TheVariants.{Text}
 pub use Rattle.bcs_calls.specs.declared.handle.Handle.{Handle}
 pub use Rattle.bcs_calls.specs.declared.status.Status.{Status}

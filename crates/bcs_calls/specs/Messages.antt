@@ -1,10 +1,12 @@
 -- The message of a refused call.
-use Rattle.std.specs.Prelude.{◌≡◌, ◌≢◌, ℕ, List, Option}
+use Rattle.std.specs.Prelude.{◌≡◌, ◌≢◌, ◌⊎◌, ℕ, List, Option}
 use Rattle.bcs_registry_model.specs.Container.{Entries}
 use Rattle.bcs_registry_model.specs.Shape.{Shape}
 use Rattle.bcs_value_model.specs.Limits.{Bounds}
 use Rattle.bcs_value_model.specs.Tree.{Tree}
 use Rattle.bcs_json_spec.specs.Texts.{Denotes}
+use Rattle.bcs_json.specs.Refusing.{IsRefusedAs}
+use Rattle.bcs_json.specs.declared.text_refusal.TextRefusal.{TextRefusal}
 use Rattle.bcs_calls.specs.Answers.{plain}
 use Rattle.bcs_calls.specs.Asking.{Whatever, on_handle}
 use Rattle.bcs_calls.specs.Calls.{plain_call_number, value_call_number}
@@ -52,9 +54,16 @@ TellsPlain Grows old new x = x.status ≢ status_number Done → new ≡ old
 TellsPlain RegistryOfModules old new x = AnswersModulesRefusal old new x
 TellsPlain c old new x = IsSilent old new x
 
+-- this is the refusal of the one document that such a call reads
+abbrev pub IsRefusalOf : ValueCall → Question → Entries → Bounds → Shape → TextRefusal → Type 0
+IsRefusalOf c q r l s refusal = ((c ≡ ToBcs) ⊎ (c ≡ Normalise)) × IsRefusedAs r l s q.first.now refusal
+
 -- the message has this number of bytes
 abbrev pub IsToldOfValue : ValueCall → Question → Entries → Bounds → Shape → ℕ → List ℕ → List ℕ → ℕ → Type 0
 IsToldOfValue c q r l s fault old new n = (x : Answer) × TellsValue c q r l s fault old new x × (n ≡ x.length)
+
+abbrev pub IsToldOfText : Entries → Bounds → Shape → List ℕ → List ℕ → List ℕ → ℕ → Type 0
+IsToldOfText r l s text old new n = (x : Answer) × AnswersTextRefusal r l s text old new x × (n ≡ x.length)
 
 abbrev pub IsToldOfPlain : PlainCall → List ℕ → List ℕ → ℕ → Type 0
 IsToldOfPlain c old new n = (x : Answer) × TellsPlain c old new x × (n ≡ x.length)

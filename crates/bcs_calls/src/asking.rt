@@ -1,21 +1,22 @@
 //! One function for all calls besides opening and closing a registry.
-ghost use Rattle.std.specs.Prelude.{◌≡◌, ◌≢◌, []};
+ghost use Rattle.std.specs.Prelude.{◌≡◌, ◌≢◌, [], IfSome, None};
 ghost use Rattle.bcs_calls.specs.Answers.{without_message};
 ghost use Rattle.bcs_calls.specs.Answered.{AnswersPlain, AnswersQuestion, AnswersValue, OwesPlain, OwesValue};
 ghost use Rattle.bcs_calls.specs.Asking.{AnswersIfAsked, On, Whatever, on_handle};
-ghost use Rattle.bcs_calls.specs.Messages.{IsToldPlain, IsToldValue, TellsQuestion};
+ghost use Rattle.bcs_calls.specs.Messages.{IsRefusalOf, IsToldPlain, IsToldValue, TellsQuestion};
 ghost use Rattle.bcs_calls.specs.Statuses.{status_number};
 ghost use Rattle.bcs_calls.specs.declared.status.Status.TheVariants.{Done, Refused};
 
 use crate::answer::Answer;
 use crate::asked::Asked;
 use crate::call::{PlainCall, SHOW, ValueCall};
+use crate::candidates::listed_candidates;
 use crate::contents::content_place;
 use crate::documents::{example, schema};
 use crate::growing::{growth_list, told_growth};
 use crate::handle::Handle;
 use crate::lending::take_ask;
-use crate::messages::{plain_message, value_message};
+use crate::messages::{kept_message, plain_message, value_message};
 use crate::modules::{text_of_modules, told_modules};
 use crate::named_parts::named_place;
 use crate::naming::told_fault_name;
@@ -30,6 +31,7 @@ use crate::texts::{comparison, normal_text, text_bytes};
 use crate::views::explanation_with;
 use crate::whole_refusals::{text_refusal, told_registry_refusal, told_stop};
 use crate::word_places::{told_format, told_path};
+use bcs_json::TextRefusal;
 use std::alloc::Global;
 
 /// Answers a question about the registry that is open in the handle. What the call returns besides the answer is written
@@ -106,32 +108,39 @@ fn told_value(
     ensures quiet { result.status ≢ status_number Refused → message.new ≡ message.old }
     ensures unasked { result.status ≡ status_number Refused → message.old ≡ [] → result.length ≡ 0 }
 {
-    let answer = answer_value(alloc, asked, call, question, out);
+    let mut kept = None;
+    let answer = answer_value(alloc, asked, call, question, out, &mut kept);
     if !answer.is_refused() {
         return answer;
+    }
+    if let Some(refusal) = &kept {
+        let length = kept_message(alloc, asked, question.first, refusal, message);
+        return answer.with_length(length);
     }
     let length = value_message(alloc, asked, call, question, answer.fault, message);
     answer.with_length(length)
 }
 
-/// Answers a question about values of a format.
+/// Answers a question about values of a format. If it is about one document, its refusal is put into `kept`.
 fn answer_value(
     alloc: Global,
     asked: &Asked,
     call: ValueCall,
     question: &Question,
     out: &mut [u8],
+    kept: &mut Option<TextRefusal>,
 ) -> Answer
     ensures answers { On asked.now (λ r l s. AnswersValue call question.now r l s out.old out.new result) }
     ensures owed { On asked.now (λ r l s. OwesValue call question.now r l s result) }
+    ensures kept { kept.old ≡ None → On asked.now (λ r l s. IfSome kept.new (IsRefusalOf call question.now r l s)) }
     ensures untouched { result.status ≢ status_number Done → out.new ≡ out.old }
 {
     let (number, first, second) = (question.number, question.first, question.second);
     match call {
         ValueCall::Check => Answer::plain(Status::Done),
-        ValueCall::ToBcs => text_bytes(alloc, asked, first, out),
+        ValueCall::ToBcs => text_bytes(alloc, asked, first, out, kept),
         ValueCall::FromBcs => bytes_text(alloc, asked, first, out),
-        ValueCall::Normalise => normal_text(alloc, asked, first, out),
+        ValueCall::Normalise => normal_text(alloc, asked, first, out, kept),
         ValueCall::Compare => comparison(alloc, asked, first, second),
         ValueCall::Scan => value_length(asked, first),
         ValueCall::Part => path_place(alloc, asked, first, second),
@@ -142,6 +151,7 @@ fn answer_value(
         ValueCall::StopRefusal => told_stop(alloc, asked, first, out),
         ValueCall::Schema => schema(alloc, asked, out),
         ValueCall::Example => example(alloc, asked, number, second, out),
+        ValueCall::Candidates => listed_candidates(alloc, asked, number, first, out),
     }
 }
 

@@ -38,6 +38,8 @@ pub(crate) enum ValueCall {
     Schema,
     /// The JSON of an example value.
     Example,
+    /// The containers that the whole input is a value of.
+    Candidates,
 }
 
 impl ValueCall {
@@ -61,6 +63,7 @@ impl ValueCall {
             12 => Some(ValueCall::StopRefusal),
             13 => Some(ValueCall::Schema),
             14 => Some(ValueCall::Example),
+            15 => Some(ValueCall::Candidates),
             _ => None,
         }
     }

@@ -5,6 +5,7 @@ mod answer;
 mod asked;
 mod asking;
 mod call;
+mod candidates;
 mod contents;
 mod documents;
 mod explaining;

@@ -1,8 +1,9 @@
 //! The message of a refused call: the place, a NUL, and what was expected there.
 ghost use Rattle.std.specs.Prelude.{◌≡◌, ◌≢◌, []};
+ghost use Rattle.bcs_json.specs.Refusing.{IsRefusedAs};
 ghost use Rattle.bcs_calls.specs.Asking.{On};
 ghost use Rattle.bcs_calls.specs.Faults.{fault_number};
-ghost use Rattle.bcs_calls.specs.Messages.{AnswersEitherRefusal, IsSilent, IsToldOfPlain, IsToldOfValue, TellsPlain, TellsValue};
+ghost use Rattle.bcs_calls.specs.Messages.{AnswersEitherRefusal, IsSilent, IsToldOfPlain, IsToldOfText, IsToldOfValue, TellsPlain, TellsValue};
 ghost use Rattle.bcs_calls.specs.Places.{AnswersStopRefusal};
 ghost use Rattle.bcs_calls.specs.Statuses.{status_number};
 ghost use Rattle.bcs_calls.specs.declared.fault.Fault.TheVariants.{NoContent};
@@ -16,7 +17,8 @@ use crate::growing::told_growth;
 use crate::modules::told_modules;
 use crate::question::Question;
 use crate::status::Status;
-use crate::whole_refusals::{text_refusal, told_stop};
+use crate::whole_refusals::{text_refusal, told_refusal, told_stop};
+use bcs_json::TextRefusal;
 use std::alloc::Global;
 
 /// Writes the message of a call that has refused its input with this fault, and returns its number of bytes. It is 0 if
@@ -36,6 +38,23 @@ pub(crate) fn value_message(
         return 0;
     }
     value_refusal(alloc, asked, call, question, fault, message).length
+}
+
+/// The same for a call that keeps the refusal of its document.
+pub(crate) fn kept_message(
+    alloc: Global,
+    asked: &Asked,
+    text: &[u8],
+    refusal: &TextRefusal,
+    message: &mut [u8],
+) -> usize
+    ensures tells { message.old ≢ [] → On asked.now (λ r l s. IsRefusedAs r l s text.now refusal.now → IsToldOfText r l s text.now message.old message.new result) }
+    ensures unasked { message.old ≡ [] → result ≡ 0 }
+{
+    if message.is_empty() {
+        return 0;
+    }
+    told_refusal(alloc, asked, text, refusal, message).length
 }
 
 fn value_refusal(

@@ -15,7 +15,8 @@ use crate::fault::Fault;
 use crate::output::put;
 use crate::places::{place_of_text, words_of_text};
 use crate::status::Status;
-use bcs_display_pieces::stop_refusal;
+use bcs_display_candidates::put_only_candidate;
+use bcs_display_pieces::{Stopped, stop_refusal};
 use bcs_display_refusal::Refusal;
 use bcs_display_registry_errors::registry_refusal;
 use bcs_json::{JsonFault, TextRefusal, read_value_or_refusal};
@@ -36,10 +37,24 @@ pub(crate) fn text_refusal(alloc: Global, asked: &Asked, text: &[u8], out: &mut 
         Ok(_) => return Answer::plain(Status::No),
         Err(refusal) => refusal,
     };
+    told_refusal(alloc, asked, text, &refusal, out)
+}
+
+/// Why a document is refused, where, and what was expected there, if this is its refusal.
+pub(crate) fn told_refusal(
+    alloc: Global,
+    asked: &Asked,
+    text: &[u8],
+    refusal: &TextRefusal,
+    out: &mut [u8],
+) -> Answer
+    ensures answers { On asked.now (λ r l s. IsRefusedAs r l s text.now refusal.now → AnswersTextRefusal r l s text.now out.old out.new result) }
+    ensures untouched { result.status ≢ status_number Done → out.new ≡ out.old }
+{
     if refusal.fault == JsonFault::OutOfMemory {
         return Answer::plain(Status::Memory);
     }
-    match refusal_of_text(alloc, asked, text, &refusal) {
+    match refusal_of_text(alloc, asked, text, refusal) {
         Some(told) => put(&told, out).with_fault(Fault::Text(refusal.fault)),
         None => Answer::plain(Status::Memory),
     }
@@ -65,13 +80,36 @@ pub(crate) fn told_stop(alloc: Global, asked: &Asked, bytes: &[u8], out: &mut [u
     ensures untouched { result.status ≢ status_number Done → out.new ≡ out.old }
 {
     match stop_refusal(alloc, asked.registry, asked.format, &asked.limits, bytes) {
-        Ok(Some(stopped)) => match written(alloc, &stopped.refusal) {
-            Ok(told) => put(&told, out).with_stop(Some(stopped.stop)),
-            Err(AllocError) => Answer::plain(Status::Memory),
-        },
+        Ok(Some(stopped)) => {
+            let stop = stopped.stop;
+            match written_stop(alloc, asked, bytes, stopped) {
+                Ok(told) => put(&told, out).with_stop(Some(stop)),
+                Err(AllocError) => Answer::plain(Status::Memory),
+            }
+        }
         Ok(None) => Answer::plain(Status::No),
         Err(AllocError) => Answer::plain(Status::Memory),
     }
+}
+
+fn written_stop(
+    alloc: Global,
+    asked: &Asked,
+    bytes: &[u8],
+    stopped: Stopped,
+) -> Result<Vec<u8>, AllocError>
+    ensures { IfOk result (λ told. (place : List ℕ) × IsParted place told.items) }
+{
+    let Stopped { stop, mut refusal } = stopped;
+    put_only_candidate(
+        asked.registry,
+        asked.format,
+        &asked.limits,
+        bytes,
+        stop.reason,
+        &mut refusal.message,
+    )?;
+    written(alloc, &refusal)
 }
 
 /// Where the JSON of a registry is refused, a NUL, and what was expected there.

@@ -10,4 +10,4 @@ mod numbers;
 mod objects;
 mod parts;
 pub mod reading;
-mod refusal;
+pub mod refusal;

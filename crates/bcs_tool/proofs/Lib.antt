@@ -3,6 +3,8 @@ pub mod LineLemmas
 pub mod ReadLemmas
 pub mod SoFarLemmas
 pub mod TallyLemmas
+pub mod HeldLemmas
+pub mod BlockLemmas
 pub mod RunLemmas
 pub mod ScanLemmas
 pub mod EndingLemmas

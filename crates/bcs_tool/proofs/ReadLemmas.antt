@@ -1,5 +1,5 @@
 -- The lines of one input, from one to the next.
-use Rattle.bcs_tool.proofs.Prelude.{◌≡◌, ◌⊎◌, ◌≤◌, ◌<◌, ◌+◌, ◌^◌, ◌++◌, ◌∙◌, inl, inr, ℕ, Bool, List, [], ◌∷◌, Option, ap, append_assoc, append-nil, arith, length, length-append, refl, subst, sym, IfSome, All-nil, All-push, FailsInLine, HasNoLine, IsLastLine, IsTooLong, TakesLine, HeldLine, HasNoLineFeed, before_block, line_feeds, lines_of, block_behind, short_ahead, feeds_append, feeds_before_block, feeds_none, IsContent, size_limit, AreRead, StandBefore, BrokeInLine, GaveFew, AreFirst, IsLongBehind}
+use Rattle.bcs_tool.proofs.Prelude.{◌≡◌, ◌⊎◌, ◌≤◌, ◌<◌, ◌+◌, ◌^◌, ◌++◌, ◌∙◌, inl, inr, ℕ, Bool, List, [], ◌∷◌, All, Option, Some, None, ap, append_assoc, append-nil, arith, length, length-append, refl, subst, sym, IfSome, All-head, All-nil, All-push, All-tail, ended, FailsInLine, HasNoLine, IsLastLine, IsTooLong, TakesLine, HeldLine, HasNoLineFeed, before_block, line_feeds, lines_of, block_behind, short_ahead, feeds_append, feeds_before_block, feeds_none, IsContent, size_limit, AreRead, StandBefore, BrokeInLine, GaveFew, AreFirst, IsLongBehind}
 use Rattle.bcs_io.specs.Giving as source
 use Rattle.bcs_io.proofs.GivingLemmas as giving
 use Rattle.bcs_tool.proofs.LineLemmas.{stand_end, stand_first, stand_last, stand_line, stand_long, stand_nothing}
@@ -8,6 +8,11 @@ use Rattle.bcs_tool.proofs.LineLemmas.{stand_end, stand_first, stand_last, stand
 some_long : (xs : List ℕ) → (xs ≡ [] → ⊥) → 1 ≤ length xs
 some_long [] some = absurd (some refl)
 some_long (x ∷ xs) some = omega arith
+
+-- a prefix of the first lines
+pub front_first : (c : Option (List ℕ)) (lines more : List (List ℕ)) → AreFirst c (lines ++ more) → AreFirst c lines
+front_first None lines more first = tt
+front_first (Some all) lines more first = (more ++ first.0, first.1 ∙ append_assoc lines more first.0)
 
 module _ {S : Type 0} (content : S → Option (List ℕ)) (has_stopped : S → Bool) (allowance : S → ℕ) where
   pub none_read : (input : S) → AreRead content has_stopped allowance input input [] []
@@ -79,10 +84,6 @@ module _ {S : Type 0} (content : S → Option (List ℕ)) (has_stopped : S → B
           room = omega (arith, line_room now later before after takes, read.room, length-append lines (after.line ∷ []));
         }
 
-    -- one line more than these can be counted
-    pub room_for_one : allowance input < 2 ^ 64 → TakesLine content has_stopped allowance size_limit now later before after → length lines + 1 < 2 ^ 64
-    room_for_one bounded takes = omega (arith, bounded, line_room now later before after takes, read.room)
-
     -- no line is left
     pub all_read : HasNoLine content has_stopped allowance now later before after → (bytes : List ℕ) × IsContent (content input) bytes × (lines_of bytes ≡ lines)
     all_read ends = stand_end (content input) (content now) (content later) lines before.rest ends.took.front ends.none_left ends.ends read.plain read.stand
@@ -135,3 +136,24 @@ module _ {S : Type 0} (content : S → Option (List ℕ)) (has_stopped : S → B
 
     pub few_long : IsTooLong content has_stopped allowance size_limit now later before after → GaveFew content has_stopped allowance input later (length lines)
     few_long long = few_given long.given long.took (long.ahead (short_ahead before.rest read.ahead))
+
+  -- the first lines of what was already read are the next ones
+  pub block_read : (input now : S) (more lines : List (List ℕ)) (rest left : List ℕ) → All HasNoLineFeed more → rest ≡ ended more ++ left
+      → AreRead content has_stopped allowance input now lines rest → AreRead content has_stopped allowance input now (lines ++ more) left
+  block_read input now [] lines rest left plain is read =
+      subst (λ (ls : List (List ℕ)). AreRead content has_stopped allowance input now ls left) (sym (append-nil lines)) (subst (AreRead content has_stopped allowance input now lines) is read)
+  block_read input now (l ∷ ls) lines rest left plain is read =
+      let before : HeldLine = record { line = []; rest = rest } in
+      let after : HeldLine = record { line = l; rest = ended ls ++ left } in
+      let parts : rest ≡ l ++ 10 ∷ after.rest = is ∙ append_assoc l (10 ∷ ended ls) left in
+      let long = ap (λ (t : List ℕ). length t) parts in
+      let takes : TakesLine content has_stopped allowance size_limit now now before after = record {
+        given = [];
+        took = giving.Gave-nothing content has_stopped allowance now;
+        plain = All-head HasNoLineFeed l ls plain;
+        within = omega (arith, long, read.ahead, length-append l (10 ∷ after.rest));
+        parts = inl (append-nil rest ∙ parts);
+        ahead = λ _. omega (arith, long, read.ahead, length-append l (10 ∷ after.rest));
+      } in
+      subst (λ (t : List (List ℕ)). AreRead content has_stopped allowance input now t left) (append_assoc lines (l ∷ []) ls)
+      (block_read input now ls (lines ++ l ∷ []) after.rest left (All-tail HasNoLineFeed l ls plain) refl (line_read input now now lines before after read takes))

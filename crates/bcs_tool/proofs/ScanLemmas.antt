@@ -66,19 +66,8 @@ is_scanned work content a status output within prints told = record {
 
 -- such a job scans raw bytes
 scan_raw : (c : Command) (raw : Bool) → (is_scan c && raw) ≡ true → (c ≡ command.Scan) × (raw ≡ true)
-scan_raw command.Check raw is = cc
-scan_raw command.Grows raw is = cc
-scan_raw command.Show raw is = cc
-scan_raw command.Example raw is = cc
-scan_raw command.Schema raw is = cc
-scan_raw command.FromMove raw is = cc
-scan_raw command.Encode raw is = cc
-scan_raw command.Decode raw is = cc
-scan_raw command.Explain raw is = cc
-scan_raw command.Normalise raw is = cc
-scan_raw command.Same raw is = cc
-scan_raw command.Part raw is = cc
 scan_raw command.Scan raw is = (refl, is)
+scan_raw other raw is = cc
 
 module _ (work : Work) (asked : Asked) (asks : IsAskedBy work asked) (streams : Streams work) where
   pub scanned_count : (content left : Option (List ℕ)) (n : ℕ) (a : Answer) → Scans work.options.front asked.registry work.limits (shape_of asked.format) content left (Ok n)

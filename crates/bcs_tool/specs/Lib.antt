@@ -1,5 +1,7 @@
 pub mod Running
 pub mod Lines
+pub mod HeldAnswers
+pub mod Blocks
 pub mod Scanning
 pub mod Endings
 pub mod HeldOutput

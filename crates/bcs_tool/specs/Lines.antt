@@ -1,5 +1,5 @@
 -- What is known about a run over lines, between two of them.
-use Rattle.std.specs.Prelude.{◌≡◌, ◌==◌, ◌+◌, ◌<◌, ◌≤◌, ◌++◌, if◌then◌else◌, ℕ, List, Bool, true, false, All, Option, Some, None, Result, Ok, Err, length}
+use Rattle.std.specs.Prelude.{◌≡◌, ◌==◌, ◌+◌, ◌<◌, ◌≤◌, ◌++◌, ◌∷◌, if◌then◌else◌, ℕ, List, Bool, true, false, All, Option, Some, None, Result, Ok, Err, length}
 use Rattle.bcs_io.specs.Giving as source
 use Rattle.bcs_io.specs.Taking as sink
 use Rattle.bcs_io.specs.Advancing.{FailsInLine, HasNoLine, IsTooLong, RunsOut, TakesLine}
@@ -35,6 +35,11 @@ module _ {S : Type 0} (content : S → Option (List ℕ)) (has_stopped : S → B
   abbrev pub ReadsLine : ℕ → S → S → HeldLine → HeldLine → Result Bool Interruption → Type 0
   ReadsLine count old new before after (Ok has_line) = ReadsOn has_line old new before after
   ReadsLine count old new before after (Err e) = (fault : NextFault) × (e ≡ broken_at fault count) × FailsNext fault old new before after
+
+-- whether all of the next line was already read; it is then the current line
+abbrev pub TakesHeld : HeldLine → HeldLine → Bool → Type 0
+TakesHeld before after true = (before.rest ≡ after.line ++ 10 ∷ after.rest) × HasNoLineFeed after.line
+TakesHeld before after false = after.rest ≡ before.rest
 
 -- ---- between two lines
 

@@ -123,12 +123,6 @@ module _ {K : Type 0} (taken : K → Option (List ℕ)) (is_failed : K → Bool)
   PutsAnswer answer out out' (Ok outcome) = IsPut answer out out' outcome
   PutsAnswer answer out out' (Err e) = (e ≡ record { fault = Write; answered = 0 }) × PutFront out out' answer.output.items
 
-  -- the answer to a line was written, or a prefix of it; or an allocation failed
-  abbrev pub PutsLine : Work → List ℕ → K → K → Result ℕ RunFault → Type 0
-  PutsLine work line out out' (Ok status) = (output : List ℕ) × AnswersLine work line status output × sink.Took taken is_failed out out' output
-  PutsLine work line out out' (Err (Take fault)) = (fault ≡ OutOfMemory) × (out' ≡ out)
-  PutsLine work line out out' (Err Write) = (status : ℕ) × (output : List ℕ) × AnswersLine work line status output × PutFront out out' output
-
 -- ---- the run
 
 module _ {S : Type 0} (content : S → Option (List ℕ)) (has_stopped : S → Bool) (allowance : S → ℕ) where

@@ -14,7 +14,7 @@ pub use bcs_tool_command_line::{
     Misuse, Notation, Origin, Outcome, UnreadFile, Work,
 };
 pub use console::command_line::line;
-pub use console::entry::{args_of, program, start};
+pub use console::entry::{args_of, program};
 pub use console::reporting::{print_report, report_fault};
 pub use console::responding::respond;
 pub use files::input_files::InputFiles;

@@ -1,9 +1,9 @@
 -- Answers with an equal status and equal output, and the parsed request for an input.
-use Rattle.bcs_tool_answers.proofs.Prelude.{◌≡◌, ◌≢◌, ◌≤◌, ◌<◌, ◌⊎◌, ◌++◌, [], Err, List, Ok, arith, inl, inr, length, subst, sym, true, ℕ, Entries, Shape, shape_of, Tree, Bounds, Accepts, StopsAll, Stop, Shows, FromFault, json_fault_name, of, shown, Denotes, RefusesText, nesting_limit, JsonFault, decode_of, FromHexError, OutOfMemory, depth, Answers, AnswersTexts, IsAsked, checked, compared, damaged, decoded, described, made, unmade, different, encoded, equal, exampled, explained, first_refused, found, front_stopped, grown, no_bytes, no_content, normalised, nowhere, refusal_line, refused, refused_early, scan_stopped, scanned, second_refused, stopped, too_nested, unopened, IsAnswer, Places, PrintsWithoutPlace, MayReport, nothing, told, RefusesJobOf, RefusesFormatted, RefusesPart, bytes_command, works_on_values, IsAskedBy, Answer, JobFault, BadPath, Growth, Registry, Asked, BytesCommand, size_limit, Work, Command, Check, Show, Example, Schema, FromMove, Encode, Decode, Explain, Normalise, Same, Scan}
+use Rattle.bcs_tool_answers.proofs.Prelude.{◌≡◌, ◌≢◌, ◌≤◌, ◌<◌, ◌⊎◌, ◌++◌, [], Err, List, Ok, arith, inl, inr, length, subst, sym, true, ℕ, Entries, Shape, shape_of, Tree, Bounds, Accepts, StopsAll, Stop, Shows, FromFault, json_fault_name, of, shown, Denotes, RefusesText, nesting_limit, JsonFault, decode_of, FromHexError, OutOfMemory, depth, Answers, AnswersTexts, IsAsked, checked, compared, damaged, decoded, described, differed, made, unmade, different, encoded, equal, exampled, explained, first_refused, found, front_stopped, grown, no_bytes, no_content, normalised, nowhere, refusal_line, refused, refused_early, scan_stopped, scanned, second_refused, sifted, stopped, too_nested, unopened, IsAnswer, Places, PrintsWithoutPlace, MayReport, nothing, told, RefusesJobOf, RefusesFormatted, RefusesPart, bytes_command, works_on_values, IsAskedBy, Answer, JobFault, BadPath, Growth, Registry, Asked, BytesCommand, size_limit, Work, Command, Check, Show, Example, Schema, FromMove, Encode, Decode, Explain, Normalise, Same, Scan, Which}
 use Rattle.bcs_json.specs.declared.from_fault.FromFault.TheVariants as from
 use Rattle.bcs_tool_answers.specs.Answers as answers
 use Rattle.bcs_tool_answers.specs.declared.value_command.BytesCommand.TheVariants as on_bytes
-use Rattle.bcs_tool_command_line.specs.declared.command.Command.TheVariants.{Grows, Part}
+use Rattle.bcs_tool_command_line.specs.declared.command.Command.TheVariants.{Diff, Grows, Part}
 
 places_of : {work : Work} {input place : List ℕ} → MayReport work place → Places work input place
 places_of (inl none) = nothing none
@@ -50,7 +50,8 @@ pub takes_bytes : (asked : BytesCommand) (k : Command) → k ≡ bytes_command a
 takes_bytes on_bytes.Decode k is = inl is
 takes_bytes on_bytes.Part k is = inr (inl is)
 takes_bytes on_bytes.Explain k is = inr (inr (inl is))
-takes_bytes on_bytes.Scan k is = inr (inr (inr is))
+takes_bytes on_bytes.Scan k is = inr (inr (inr (inl is)))
+takes_bytes on_bytes.Which k is = inr (inr (inr (inr is)))
 
 -- the first of two texts is refused, or else the second
 pub refused_texts : (registry : Entries) (limits : Bounds) (s : Shape) (first second : List ℕ) (fault : JsonFault) → RefusesText registry limits s first fault
@@ -73,19 +74,16 @@ refuses_part work BadPath h = absurd h
 
 -- the arguments of a command on values are refused because of its registry or its format
 pub refuses_formatted : (asked : Command) (work : Work) (fault : JobFault) → works_on_values asked ≡ true → RefusesFormatted work fault → RefusesJobOf asked work fault
-refuses_formatted Check work fault on h = cc
-refuses_formatted Grows work fault on h = cc
-refuses_formatted Show work fault on h = cc
-refuses_formatted Example work fault on h = cc
-refuses_formatted Schema work fault on h = cc
-refuses_formatted FromMove work fault on h = cc
 refuses_formatted Encode work fault on h = h
 refuses_formatted Decode work fault on h = h
 refuses_formatted Explain work fault on h = h
 refuses_formatted Normalise work fault on h = h
 refuses_formatted Same work fault on h = h
+refuses_formatted Diff work fault on h = h
 refuses_formatted Part work fault on h = refuses_part work fault h
 refuses_formatted Scan work fault on h = h
+refuses_formatted Which work fault on h = h
+refuses_formatted other work fault on h = cc
 
 -- what is shown if the bytes stop, and if their text would nest too deeply
 module _ (registry : Entries) (limits : Bounds) (s : Shape) (bytes : List ℕ) (fault : FromFault) where
@@ -104,31 +102,11 @@ pair_below r limits f first second s p (first_refused e h) = omega arith
 pair_below r limits f first second s p (second_refused t e d h) = omega arith
 
 pub status_below : (work : Work) (input : List ℕ) (s : ℕ) (p : List ℕ) → Answers work input s p → s < 3
-status_below work input s p (refused_early f l h a) = omega arith
-status_below work input s p (checked r k h) = omega arith
-status_below work input s p (grown o n l k a b h c) = omega arith
-status_below work input s p (answers.shown r t k h n) = omega arith
 status_below work input s p (exampled r f z t a h) = omega (arith, h)
-status_below work input s p (described r f t a) = omega arith
-status_below work input s p (made r t k a) = omega arith
-status_below work input s p (unmade n k) = omega arith
-status_below work input s p (encoded r f b k h) = omega arith
-status_below work input s p (normalised r f t k h) = omega arith
-status_below work input s p (refused c r f e o k h) = omega arith
+status_below work input s p (sifted r f b z t a g h) = omega (arith, h)
 status_below work input s p (compared r f z o k h) = pair_below r work.limits f work.second.items input s p h
-status_below work input s p (decoded r f b t k g h) = omega arith
-status_below work input s p (stopped r f b e o k g h) = omega arith
-status_below work input s p (too_nested r f b c k g a h) = omega arith
-status_below work input s p (explained r f b t c k g h) = omega arith
-status_below work input s p (damaged r f b t e o k g h is) = omega arith
-status_below work input s p (no_bytes c r f o k h) = omega arith
-status_below work input s p (unopened r f b t k g h) = omega arith
-status_below work input s p (found r f t b n c x w k i g a h e) = omega arith
-status_below work input s p (no_content r f t b n c x k i g a h e) = omega arith
-status_below work input s p (nowhere r f t b n c k i g a h) = omega arith
-status_below work input s p (front_stopped r f b e o k g h) = omega arith
-status_below work input s p (scanned r f b n c k g a h) = omega arith
-status_below work input s p (scan_stopped r f b e o k g h) = omega arith
+status_below work input s p (differed r f z o k h) = h
+status_below work input s p other = omega arith
 
 -- a text with invalid digits gives no bytes
 pub no_digits : (text : List ℕ) (e : FromHexError) → (e ≡ OutOfMemory) ⊎ (decode_of text ≡ Err e) → e ≢ OutOfMemory

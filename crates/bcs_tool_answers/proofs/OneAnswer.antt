@@ -21,17 +21,13 @@ module _ (work : Work) (input : List ℕ) where
   Late Check s p = (r : Entries) × IsRegistry work.registry.items r × (s ≡ 0) × (p ≡ count_line (length r))
   Late command.Grows s p = (r : Entries) × (n : Entries) × IsRegistry work.registry.items r × IsRegistry work.second.items n × Grows r n
       × (list : List ℕ) × Lists work.options.list list × (s ≡ 0) × (p ≡ list ++ line_of (codes "grows"))
-  Late command.Show s p = Unit {0}
-  Late command.Example s p = Unit {0}
-  Late command.Schema s p = Unit {0}
-  Late command.FromMove s p = Unit {0}
   Late Encode s p = Valued (Encoded work input) s p
   Late Decode s p = Valued (Decoded work input) s p
-  Late command.Explain s p = Unit {0}
   Late Normalise s p = Valued (Normalised work input) s p
   Late command.Same s p = Valued Compared s p
   Late command.Scan s p = Valued (Scanned work input) s p
   Late command.Part s p = (path : List Step) × SpellsSteps work.options.notation (string_bytes work.path) path × Valued (λ r f. Parted work input r f path) s p
+  Late other s p = Unit {0}
 
   abbrev Early : Command → ℕ → List ℕ → Type 0
   Early c s p = (fault : JobFault) × (list : List ℕ) × RefusesJobOf c work fault × Lists (lists work fault) list × (s ≡ 2) × (p ≡ list ++ refusal_line (job_fault_name fault))
@@ -67,6 +63,7 @@ module _ (work : Work) (input : List ℕ) where
   told (answer.refused c r f e (inl is) a h) = by Encode 2 (refusal_line (json_fault_name e)) (a.is_command ∙ is) (valued (Encoded work input) c r f 2 (refusal_line (json_fault_name e)) a (inr (e, h, refl, refl)))
   told (answer.refused c r f e (inr is) a h) = by Normalise 2 (refusal_line (json_fault_name e)) (a.is_command ∙ is) (valued (Normalised work input) c r f 2 (refusal_line (json_fault_name e)) a (inr (e, h, refl, refl)))
   told (answer.compared r f z o a h) = by command.Same z o a.is_command (valued Compared command.Same r f z o a h)
+  told (answer.differed r f z o a h) = by command.Diff z o a.is_command tt
   told (answer.decoded r f b t a g h) = by Decode 0 (line_of t) a.is_command (valued (Decoded work input) Decode r f 0 (line_of t) a (inl (b, g, inl (t, h, refl, refl))))
   told (answer.stopped r f b e o a g h) = by Decode 2 (stop_line e o) a.is_command (valued (Decoded work input) Decode r f 2 (stop_line e o) a (inl (b, g, inr (inl (e, o, h, refl, refl)))))
   told (answer.too_nested r f b c a g h n) = by Decode 2 (refusal_line (codes "TooNested")) a.is_command (valued (Decoded work input) Decode r f 2 (refusal_line (codes "TooNested")) a (inl (b, g, inr (inr (c, h, n, refl, refl)))))
@@ -74,12 +71,14 @@ module _ (work : Work) (input : List ℕ) where
   told (answer.damaged r f b t e o a g h is) = by command.Explain 2 t a.is_command tt
   told (answer.no_bytes c r f (inl is) a h) = by Decode 2 (refusal_line (given.input_fault_name (coding_of work))) (a.is_command ∙ is) (valued (Decoded work input) c r f 2 (refusal_line (given.input_fault_name (coding_of work))) a (inr (h, refl, refl)))
   told (answer.no_bytes c r f (inr (inr (inl is))) a h) = by command.Explain 2 (refusal_line (given.input_fault_name (coding_of work))) (a.is_command ∙ is) tt
-  told (answer.no_bytes c r f (inr (inr (inr is))) a h) =
+  told (answer.no_bytes c r f (inr (inr (inr (inr is)))) a h) = by command.Which 2 (refusal_line (given.input_fault_name (coding_of work))) (a.is_command ∙ is) tt
+  told (answer.no_bytes c r f (inr (inr (inr (inl is)))) a h) =
       by command.Scan 2 (refusal_line (given.input_fault_name (coding_of work))) (a.is_command ∙ is) (valued (Scanned work input) c r f 2 (refusal_line (given.input_fault_name (coding_of work))) a (inr (h, refl, refl)))
   told (answer.no_bytes c r f (inr (inl is)) a h) =
       let path = spelled c r f is a in
       let own = subst (λ (k : Command). IsAsked work input k r f) is a in
       by command.Part 2 (refusal_line (given.input_fault_name (coding_of work))) own.is_command (parted r f path.0 2 (refusal_line (given.input_fault_name (coding_of work))) own path.1 (inr (h, refl, refl)))
+  told (answer.sifted r f b z t a g h) = by command.Which z t a.is_command tt
   told (answer.unopened r f b t a g looks) = by command.Explain 2 t a.is_command tt
   told (answer.found r f path b n c x w a spells g h at has) =
       let own = printed_part work.options.range (coding_of work) (printed_place work.options.content x) w in
@@ -115,13 +114,8 @@ module _ (work : Work) (input : List ℕ) where
       (hs ∙ sym ks, hp ∙ ap (λ (m : Entries). count_line (length m)) (same_registry work.registry.items r n h.0 k.0) ∙ sym kq)
   one_late command.Grows exact s z p q (r, n, h, g, w, l, a, hs, hp) (r2, n2, k, i, x, m, b, ks, kq) =
       (hs ∙ sym ks, hp ∙ ap (λ (list : List ℕ). list ++ line_of (codes "grows")) (a exact ∙ sym (b exact)) ∙ sym kq)
-  one_late command.Show exact s z p q h k = absurd exact
-  one_late command.Example exact s z p q h k = absurd exact
-  one_late command.Schema exact s z p q h k = absurd exact
-  one_late command.FromMove exact s z p q h k = absurd exact
   one_late Encode exact s z p q h k = one_valued (Encoded work input) (one_encoded work input) s z p q h k
   one_late Decode exact s z p q h k = one_valued (Decoded work input) (one_decoded work input) s z p q h k
-  one_late command.Explain exact s z p q h k = absurd exact
   one_late Normalise exact s z p q h k = one_valued (Normalised work input) (one_normalised work input) s z p q h k
   one_late command.Same exact s z p q h k = one_valued Compared (λ r f. one_pair r work.limits f work.second.items input) s z p q h k
   one_late command.Part exact s z p q (path, spells, h) (other, also, k) =
@@ -131,6 +125,7 @@ module _ (work : Work) (input : List ℕ) where
       one_valued (λ r f. Parted work input r f path) (λ r f orderly. one_parted work input r f orderly path) s z p q h
       (subst (λ (t : List Step). Valued (λ r f. Parted work input r f t) z q) same k)
   one_late command.Scan exact s z p q h k = one_valued (Scanned work input) (one_scanned work input) s z p q h k
+  one_late other exact s z p q h k = absurd exact
 
   -- a job refused for its arguments has no other answer
   of_valued : (P : Entries → Shape → ℕ → List ℕ → Type 0) (fault : JobFault) (s : ℕ) (p : List ℕ) → RefusesFormatted work fault → Valued P s p → ⊥
@@ -139,17 +134,13 @@ module _ (work : Work) (input : List ℕ) where
   not_late : (c : Command) (fault : JobFault) (s : ℕ) (p : List ℕ) → IsExact c work.options.notation work.options.list → RefusesJobOf c work fault → Late c s p → ⊥
   not_late Check fault s p exact h (r, is, ks, kq) = not_checked work fault r h is
   not_late command.Grows fault s p exact h (r, n, is, i, g, l, a, ks, kq) = not_grown work fault r n h is i g
-  not_late command.Show fault s p exact h k = absurd exact
-  not_late command.Example fault s p exact h k = absurd exact
-  not_late command.Schema fault s p exact h k = absurd exact
-  not_late command.FromMove fault s p exact h k = absurd exact
   not_late Encode fault s p exact h k = of_valued (Encoded work input) fault s p h k
   not_late Decode fault s p exact h k = of_valued (Decoded work input) fault s p h k
-  not_late command.Explain fault s p exact h k = absurd exact
   not_late Normalise fault s p exact h k = of_valued (Normalised work input) fault s p h k
   not_late command.Same fault s p exact h k = of_valued Compared fault s p h k
   not_late command.Scan fault s p exact h k = of_valued (Scanned work input) fault s p h k
   not_late command.Part fault s p exact h (path, spells, (r, f, is, a, x)) = not_parted work fault r f path h is a spells
+  not_late other fault s p exact h k = absurd exact
 
   one_of_both : (c : Command) (s z : ℕ) (p q : List ℕ) → IsExact c work.options.notation work.options.list → Early c s p ⊎ Late c s p → Early c z q ⊎ Late c z q → Agrees s p z q
   one_of_both c s z p q exact (inl (e, l, h, a, hs, hp)) (inl (g, m, k, b, ks, kq)) =

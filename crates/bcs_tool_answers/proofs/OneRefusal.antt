@@ -143,17 +143,13 @@ module _ (work : Work) where
 pub one_refusal : (c : Command) (work : Work) (e g : JobFault) → IsExact c work.options.notation work.options.list → RefusesJobOf c work e → RefusesJobOf c work g → e ≡ g
 one_refusal command.Check work e g exact h k = one_check work e g h k
 one_refusal command.Grows work e g exact h k = one_growth work e g h k
-one_refusal command.Show work e g exact h k = absurd exact
-one_refusal command.Example work e g exact h k = absurd exact
-one_refusal command.Schema work e g exact h k = absurd exact
-one_refusal command.FromMove work e g exact h k = absurd exact
 one_refusal command.Encode work e g exact h k = one_formatted work e g h k
 one_refusal command.Decode work e g exact h k = one_formatted work e g h k
-one_refusal command.Explain work e g exact h k = absurd exact
 one_refusal command.Normalise work e g exact h k = one_formatted work e g h k
 one_refusal command.Same work e g exact h k = one_formatted work e g h k
 one_refusal command.Part work e g exact h k = one_part work e g h k
 one_refusal command.Scan work e g exact h k = one_formatted work e g h k
+one_refusal other work e g exact h k = absurd exact
 
 -- no list comes before a refusal if the output is exact
 pub unlisted : (c : Command) (work : Work) (e : JobFault) → IsExact c work.options.notation work.options.list → RefusesJobOf c work e → lists work e ≡ false
@@ -161,63 +157,38 @@ unlisted c work (Registry e) exact h = refl
 unlisted c work BadPath exact h = refl
 unlisted command.Grows work (Growth e) exact h = exact
 unlisted command.Check work (Growth e) exact h = absurd h
-unlisted command.Show work (Growth e) exact h = absurd exact
-unlisted command.Example work (Growth e) exact h = absurd exact
-unlisted command.Schema work (Growth e) exact h = absurd exact
-unlisted command.FromMove work (Growth e) exact h = absurd exact
 unlisted command.Encode work (Growth e) exact h = absurd h
 unlisted command.Decode work (Growth e) exact h = absurd h
-unlisted command.Explain work (Growth e) exact h = absurd exact
 unlisted command.Normalise work (Growth e) exact h = absurd h
 unlisted command.Same work (Growth e) exact h = absurd h
 unlisted command.Part work (Growth e) exact h = absurd h
 unlisted command.Scan work (Growth e) exact h = absurd h
+unlisted other work (Growth e) exact h = absurd exact
 
 -- ---- the input
 
 -- a command that reads an input works on values
 module _ (work : Work) where
-  no_values : (c : Command) → work.command ≡ c → works_on_values c ≡ false → ReadsInput work → ⊥
-  no_values c is none reads = true≢false (sym (subst (λ (k : Command). works_on_values k ≡ true) is reads.2.command) ∙ none)
-
-  pub check_reads_nothing : work.command ≡ command.Check → ReadsInput work → ⊥
-  check_reads_nothing is reads = no_values command.Check is refl reads
-
-  pub show_reads_nothing : work.command ≡ command.Show → ReadsInput work → ⊥
-  show_reads_nothing is reads = no_values command.Show is refl reads
-
-  pub example_reads_nothing : work.command ≡ command.Example → ReadsInput work → ⊥
-  example_reads_nothing is reads = no_values command.Example is refl reads
-
-  pub schema_reads_nothing : work.command ≡ command.Schema → ReadsInput work → ⊥
-  schema_reads_nothing is reads = no_values command.Schema is refl reads
-
-  pub modules_read_nothing : work.command ≡ command.FromMove → ReadsInput work → ⊥
-  modules_read_nothing is reads = no_values command.FromMove is refl reads
-
-  pub growth_reads_nothing : work.command ≡ command.Grows → ReadsInput work → ⊥
-  growth_reads_nothing is reads = no_values command.Grows is refl reads
+  pub reads_nothing : (c : Command) → work.command ≡ c → works_on_values c ≡ false → ReadsInput work → ⊥
+  reads_nothing c is none reads = true≢false (sym (subst (λ (k : Command). works_on_values k ≡ true) is reads.2.command) ∙ none)
 
   not_valued : (fault : JobFault) → RefusesFormatted work fault → ReadsInput work → ⊥
   not_valued fault h (r, s, asks) = not_formatted work fault r s h asks.is_registry asks.is_format
 
   -- a job that is refused for its arguments reads no input
   refused_reads_nothing : (c : Command) (fault : JobFault) → work.command ≡ c → RefusesJobOf c work fault → ReadsInput work → ⊥
-  refused_reads_nothing command.Check fault is h reads = check_reads_nothing is reads
-  refused_reads_nothing command.Grows fault is h reads = growth_reads_nothing is reads
-  refused_reads_nothing command.Show fault is h reads = show_reads_nothing is reads
-  refused_reads_nothing command.Example fault is h reads = example_reads_nothing is reads
-  refused_reads_nothing command.Schema fault is h reads = schema_reads_nothing is reads
-  refused_reads_nothing command.FromMove fault is h reads = absurd h
   refused_reads_nothing command.Encode fault is h reads = not_valued fault h reads
   refused_reads_nothing command.Decode fault is h reads = not_valued fault h reads
   refused_reads_nothing command.Explain fault is h reads = not_valued fault h reads
   refused_reads_nothing command.Normalise fault is h reads = not_valued fault h reads
   refused_reads_nothing command.Same fault is h reads = not_valued fault h reads
+  refused_reads_nothing command.Diff fault is h reads = not_valued fault h reads
   refused_reads_nothing command.Scan fault is h reads = not_valued fault h reads
+  refused_reads_nothing command.Which fault is h reads = not_valued fault h reads
   refused_reads_nothing command.Part fault is h (r, s, asks) =
       let has = asks.has_path in
       not_parted work fault r s has.0 h asks.is_registry asks.is_format (subst (λ (k : Command). IsPathOf k work.options.notation (string_bytes work.path) has.0) is has.1)
+  refused_reads_nothing other fault is h reads = reads_nothing other is refl reads
 
   pub refusal_reads_nothing : (fault : JobFault) → RefusesEarly work fault → ReadsInput work → ⊥
   refusal_reads_nothing fault h reads = refused_reads_nothing work.command fault refl h reads

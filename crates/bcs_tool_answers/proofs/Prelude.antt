@@ -1,5 +1,5 @@
 -- What the proofs use from other crates, and from this crate's definitions.
-pub use Rattle.std.proofs.Common.{[], ap, append-nil, append_assoc, ap₂, arith, Bool, bytes_eq, codes, cond, drop, Err, false, IfErr, IfOk, IfSome, if◌then◌else◌, inl, inr, length, List, map, max, None, Ok, Option, refl, Result, Some, string_bytes, subst, suc, sym, take, true, zero, ℕ, ◌++◌, ◌+◌, ◌-◌, ◌<◌, ◌==◌, ◌∙◌, ◌∷◌, ◌≡◌, ◌≢◌, ◌≤◌, ◌⊎◌}
+pub use Rattle.std.proofs.Common.{[], ap, append-nil, append_assoc, ap₂, arith, Bool, bytes_eq, codes, cond, drop, Err, false, IfErr, IfOk, if◌then◌else◌, inl, inr, length, List, map, max, None, Ok, Option, refl, Result, Some, string_bytes, subst, suc, sym, take, true, zero, ℕ, ◌++◌, ◌+◌, ◌-◌, ◌<◌, ◌==◌, ◌∙◌, ◌∷◌, ◌≡◌, ◌≢◌, ◌≤◌, ◌⊎◌}
 pub use Rattle.std.proofs.lemmas.Bool.{cases_Bool, cases_lt, true≢false}
 pub use Rattle.std.proofs.lemmas.Bool.Decides.{eqb_tells}
 pub use Rattle.std.proofs.lemmas.List.Elements.{All-cons, All-from_get_or, All-head, All-nil, All-tail}
@@ -20,7 +20,6 @@ pub use Rattle.bcs_decode_parts.proofs.Parts.{one_path}
 pub use Rattle.bcs_decode_parts.proofs.SomePath.{some_path}
 pub use Rattle.bcs_decode_parts.specs.Parts.{Part, part_at, Step}
 pub use Rattle.bcs_decode_parts.specs.Path.{SpellsPath}
-pub use Rattle.bcs_decode_parts.specs.PathSteps.{all_spelled}
 pub use Rattle.bcs_decode_parts.specs.Steps.{GivesPart, step_of}
 pub use Rattle.bcs_decode_spec.proofs.Verdicts.{accepts_once_is, no_two_verdicts_are, no_two_verdicts_of_all_are, some_verdict_is, some_verdict_of_all_is, stops_all_once_is, stops_once_is}
 pub use Rattle.bcs_decode_spec.specs.Accepting.{Accepts}
@@ -33,7 +32,6 @@ pub use Rattle.bcs_part_names.specs.Names.{is_name}
 pub use Rattle.bcs_part_names.specs.Pointers.{is_pointer}
 pub use Rattle.bcs_encode_spec.proofs.FormLaws.{bytes_decide_same, forms_same}
 pub use Rattle.bcs_encode_spec.specs.Encodes.{Encodes, IsForm}
-pub use Rattle.bcs_encode_spec.specs.Plain.{plain}
 pub use Rattle.bcs_io.specs.Lines.{lines_of, onto}
 pub use Rattle.bcs_json.proofs.Outcomes.{compares}
 pub use Rattle.bcs_json.specs.Showing.{Shows}
@@ -69,7 +67,7 @@ pub use Rattle.bcs_tool_command_line.specs.Jobs.{coding_of}
 pub use Rattle.bcs_tool_command_line.specs.declared.coding.Coding.{Coding}
 pub use Rattle.bcs_tool_command_line.specs.declared.coding.Coding.TheVariants.{Base64, Hexadecimal, Raw}
 pub use Rattle.bcs_tool_command_line.specs.declared.command.Command.{Command}
-pub use Rattle.bcs_tool_command_line.specs.declared.command.Command.TheVariants.{Check, Decode, Encode, Example, Explain, FromMove, Normalise, Same, Scan, Schema, Show}
+pub use Rattle.bcs_tool_command_line.specs.declared.command.Command.TheVariants.{Check, Decode, Diff, Encode, Example, Explain, FromMove, Normalise, Same, Scan, Schema, Show, Which}
 pub use Rattle.bcs_tool_command_line.specs.declared.notation.Notation.{Notation}
 pub use Rattle.bcs_tool_command_line.specs.declared.work.Work.{Work}
 pub use Rattle.bcs_value_model.proofs.Equivalence.{same-refl}
@@ -82,7 +80,7 @@ pub use Rattle.hex.specs.declared.error.FromHexError.TheVariants.{OutOfMemory}
 pub use Rattle.serde_json.specs.Data.{depth}
 pub use Rattle.serde_json.specs.Written.{compact_text}
 pub use Rattle.bcs_tool_answers.specs.AnswerLaws.{IsExact, OneAnswer, OneAnswerALine, SomeAnswer, SomeAnswerALine}
-pub use Rattle.bcs_tool_answers.specs.Answers.{Answers, AnswersTexts, checked, compared, count_line, damaged, decoded, described, made, unmade, different, encoded, equal, exampled, explained, first_refused, found, front_stopped, grown, IsAsked, IsWithin, line_of, Lists, lists, no_bytes, no_content, normalised, nowhere, printed, printed_none, printed_part, refusal_line, refused, refused_early, scan_stopped, scanned, ScanStops, second_refused, stop_line, stopped, too_nested, unopened}
+pub use Rattle.bcs_tool_answers.specs.Answers.{Answers, AnswersTexts, checked, compared, count_line, damaged, decoded, described, differed, made, unmade, different, encoded, equal, exampled, explained, first_refused, found, front_stopped, grown, IsAsked, IsWithin, line_of, Lists, lists, no_bytes, no_content, normalised, nowhere, printed, printed_none, printed_part, refusal_line, refused, refused_early, scan_stopped, scanned, ScanStops, second_refused, sifted, stop_line, stopped, too_nested, unopened}
 pub use Rattle.bcs_tool_answers.specs.Input.{GivesBytes, input_fault_name, is_blank, IsBase64Of, without_blanks}
 unfoldable pub use Rattle.bcs_tool_answers.specs.Input.{base64_text}
 pub use Rattle.bcs_tool_answers.specs.JsonRefusals.{HasForm, InForm, IsJsonRefusal, is_digit, is_of_name, place_digits, place_member, refusal_name}

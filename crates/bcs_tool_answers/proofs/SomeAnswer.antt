@@ -1,5 +1,5 @@
 -- Each job has an answer to each input within the size limit, with a lemma for each command.
-use Rattle.bcs_tool_answers.proofs.Prelude.{◌≡◌, inl, inr, ℕ, List, true, refl, string_bytes, subst, sym, [], Option, Some, None, cases_lt, depth, Entries, Shape, UnknownName, Tree, some_verdict_is, some_verdict_of_all_is, Accepts, AreBytes, Part, Step, part_at, of, nesting_limit, some_bytes, some_normal_text, some_shown_text, SomeAnswer, Answers, IsAsked, IsWithin, checked, compared, damaged, decoded, described, unmade, encoded, exampled, explained, found, front_stopped, grown, no_bytes, no_content, normalised, nowhere, printed_bytes, refused, refused_early, scan_stopped, scanned, stop_line, stopped, too_nested, GivesBytes, IsFormatWord, IsPathOf, IsRegistry, RefusesJobOf, name_of, works_on_values, JobFault, BadPath, Growth, Registry, coding_of, Work, SpellsSteps, Command}
+use Rattle.bcs_tool_answers.proofs.Prelude.{◌≡◌, arith, inl, inr, ℕ, List, true, refl, string_bytes, subst, sym, [], Option, Some, None, cases_lt, depth, Entries, Shape, UnknownName, Tree, some_verdict_is, some_verdict_of_all_is, Accepts, AreBytes, Part, Step, part_at, of, nesting_limit, some_bytes, some_normal_text, some_shown_text, SomeAnswer, Answers, IsAsked, IsWithin, checked, compared, damaged, decoded, described, differed, unmade, encoded, exampled, explained, found, front_stopped, grown, no_bytes, no_content, normalised, nowhere, printed_bytes, refused, refused_early, scan_stopped, scanned, sifted, stop_line, stopped, too_nested, GivesBytes, IsFormatWord, IsPathOf, IsRegistry, RefusesJobOf, name_of, works_on_values, JobFault, BadPath, Growth, Registry, coding_of, Work, SpellsSteps, Command}
 use Rattle.bcs_registry_model.specs.Container as container
 use Rattle.bcs_move_types.specs.declared.refusal.MoveRefusalName.TheVariants.{NotModules}
 use Rattle.bcs_json_spec.specs.Shown as value
@@ -85,6 +85,9 @@ module _ (work : Work) (input : List ℕ) where
         let pair = some_pair r work.limits s work.second.items input registry.0.2.orderly in
         (_, _, compared r s pair.0 pair.1 asked pair.2)
 
+    some_diff : IsAsked work input command.Diff r s → Answered
+    some_diff asked = (_, _, differed r s 2 [] asked (omega arith))
+
     -- the bytes are a value's, whose text is within the nesting limit or not; or they stop
     bytes_answered : IsAsked work input command.Decode r s → (bytes : List ℕ) → AreBytes bytes → GivesBytes (coding_of work) input bytes → Answered
     bytes_answered asked bytes are given = elim (some_verdict_of_all_is r work.limits s bytes are) [
@@ -148,7 +151,13 @@ module _ (work : Work) (input : List ℕ) where
     some_scanned : AreBytes input → IsAsked work input command.Scan r s → Answered
     some_scanned are asked = elim (some_given input (coding_of work) are) [
       | inl h ↦ scan_answered asked h.0 h.1 h.2
-      | inr none ↦ (_, _, no_bytes command.Scan r s (inr (inr (inr refl))) asked none)
+      | inr none ↦ (_, _, no_bytes command.Scan r s (inr (inr (inr (inl refl)))) asked none)
+    ]
+
+    some_sifted : AreBytes input → IsAsked work input command.Which r s → Answered
+    some_sifted are asked = elim (some_given input (coding_of work) are) [
+      | inl h ↦ (_, _, sifted r s h.0 0 [] asked h.2 (inl refl))
+      | inr none ↦ (_, _, no_bytes command.Which r s (inr (inr (inr (inr refl)))) asked none)
     ]
 
   -- ---- each command
@@ -191,8 +200,10 @@ module _ (work : Work) (input : List ℕ) where
   of_command are within command.Explain is = valued command.Explain refl refl within (λ r s registry asked. some_explain r s registry are asked) is
   of_command are within command.Normalise is = valued command.Normalise refl refl within some_normalise is
   of_command are within command.Same is = valued command.Same refl refl within some_same is
+  of_command are within command.Diff is = valued command.Diff refl refl within some_diff is
   of_command are within command.Part is = of_part are within is
   of_command are within command.Scan is = valued command.Scan refl refl within (λ r s registry asked. some_scanned r s registry are asked) is
+  of_command are within command.Which is = valued command.Which refl refl within (λ r s registry asked. some_sifted r s registry are asked) is
 
 pub some_answer : SomeAnswer
 some_answer work input are within = of_command work input are within work.command refl

@@ -15,14 +15,15 @@ use Rattle.bcs_tool_command_line.specs.declared.notation.Notation.TheVariants.{P
 -- the command's output is specified byte by byte: it isn't for display, no list is requested before it, and a part is given
 -- by PATH rather than by names or a pointer
 abbrev pub IsExact : Command → Notation → Bool → Type 0
+IsExact command.Check notation listed = Unit {0}
 IsExact command.Grows notation listed = listed ≡ false
-IsExact command.Show notation listed = ⊥
-IsExact command.Example notation listed = ⊥
-IsExact command.Schema notation listed = ⊥
-IsExact command.FromMove notation listed = ⊥
-IsExact command.Explain notation listed = ⊥
+IsExact command.Encode notation listed = Unit {0}
+IsExact command.Decode notation listed = Unit {0}
+IsExact command.Normalise notation listed = Unit {0}
+IsExact command.Same notation listed = Unit {0}
 IsExact command.Part notation listed = notation ≡ Path
-IsExact other notation listed = Unit {0}
+IsExact command.Scan notation listed = Unit {0}
+IsExact other notation listed = ⊥
 
 -- there is at most one answer if the output is exact
 abbrev pub OneAnswer : Type 0

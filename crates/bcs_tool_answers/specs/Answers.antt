@@ -100,7 +100,7 @@ IsOneText asked = (asked ≡ command.Encode) ⊎ (asked ≡ command.Normalise)
 
 -- the input of these commands gives the bytes of a value
 abbrev pub TakesBytes : Command → Type 0
-TakesBytes asked = (asked ≡ command.Decode) ⊎ (asked ≡ command.Part) ⊎ (asked ≡ command.Explain) ⊎ (asked ≡ command.Scan)
+TakesBytes asked = (asked ≡ command.Decode) ⊎ (asked ≡ command.Part) ⊎ (asked ≡ command.Explain) ⊎ (asked ≡ command.Scan) ⊎ (asked ≡ command.Which)
 
 -- the job is for this command on this format, and has no input
 pub record AsksOfFormat (work : Work) (asked : Command) (registry : Entries) (s : Shape) : Type 0 where
@@ -148,6 +148,8 @@ pub data Answers (work : Work) (input : List ℕ) : ℕ → List ℕ → Type 0 
   refused : (asked : Command) (registry : Entries) (s : Shape) (fault : JsonFault) → IsOneText asked → IsAsked work input asked registry s → RefusesText registry work.limits s input fault → Answers work input 2 (refusal_line (json_fault_name fault))
   -- `same`: the answer to the job's text and that of the input
   compared : (registry : Entries) (s : Shape) (status : ℕ) (output : List ℕ) → IsAsked work input command.Same registry s → AnswersTexts registry work.limits s work.second.items input status output → Answers work input status output
+  -- `diff`: lines for display, if its arguments are valid. Which texts are refused is only tested
+  differed : (registry : Entries) (s : Shape) (status : ℕ) (output : List ℕ) → IsAsked work input command.Diff registry s → status < 3 → Answers work input status output
   -- `decode`: the text of the value whose bytes the input gives
   decoded : (registry : Entries) (s : Shape) (bytes text : List ℕ) → IsAsked work input command.Decode registry s → given.GivesBytes (coding_of work) input bytes → ShowsBytes registry work.limits s bytes text → Answers work input 0 (line_of text)
   -- `decode`: the bytes stop being a value at a place
@@ -158,7 +160,7 @@ pub data Answers (work : Work) (input : List ℕ) : ℕ → List ℕ → Type 0 
   explained : (registry : Entries) (s : Shape) (bytes text : List ℕ) (c : Tree) → IsAsked work input command.Explain registry s → given.GivesBytes (coding_of work) input bytes → Accepts registry work.limits s bytes (length bytes) c → Answers work input 0 text
   -- `explain`: the bytes stop being a value: a text for display, or if refusals are JSON, the line of the stop
   damaged : (registry : Entries) (s : Shape) (bytes text : List ℕ) (reason : Reason) (place : ℕ) → IsAsked work input command.Explain registry s → given.GivesBytes (coding_of work) input bytes → StopsAll registry work.limits s bytes reason place → (work.options.json_refusals ≡ true → text ≡ stop_line reason place) → Answers work input 2 text
-  -- `decode`, `explain`, `part` and `scan`: the input gives no bytes
+  -- `decode`, `explain`, `part`, `scan` and `which`: the input gives no bytes
   no_bytes : (asked : Command) (registry : Entries) (s : Shape) → TakesBytes asked → IsAsked work input asked registry s → ((bytes : List ℕ) → given.GivesBytes (coding_of work) input bytes → ⊥) → Answers work input 2 (refusal_line (given.input_fault_name (coding_of work)))
   -- `explain --inside`: the bytes of a byte string aren't a value of its format, or such an option is invalid: a text for display
   unopened : (registry : Entries) (s : Shape) (bytes text : List ℕ) → IsAsked work input command.Explain registry s → given.GivesBytes (coding_of work) input bytes → is_some work.options.views ≡ true → Answers work input 2 text
@@ -174,3 +176,5 @@ pub data Answers (work : Work) (input : List ℕ) : ℕ → List ℕ → Type 0 
   scanned : (registry : Entries) (s : Shape) (bytes : List ℕ) (n : ℕ) (c : Tree) → IsAsked work input command.Scan registry s → given.GivesBytes (coding_of work) input bytes → Accepts registry work.limits s bytes n c → (work.options.front ≡ false → n ≡ length bytes) → Answers work input 0 (count_line n)
   -- `scan`: the bytes stop being a value at a place
   scan_stopped : (registry : Entries) (s : Shape) (bytes : List ℕ) (reason : Reason) (place : ℕ) → IsAsked work input command.Scan registry s → given.GivesBytes (coding_of work) input bytes → ScanStops work.options.front registry work.limits s bytes reason place → Answers work input 2 (stop_line reason place)
+  -- `which`: names of containers for display, or that there is none, if the input gives bytes
+  sifted : (registry : Entries) (s : Shape) (bytes : List ℕ) (status : ℕ) (text : List ℕ) → IsAsked work input command.Which registry s → given.GivesBytes (coding_of work) input bytes → (status ≡ 0) ⊎ (status ≡ 1) → Answers work input status text

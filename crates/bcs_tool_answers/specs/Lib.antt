@@ -8,6 +8,7 @@ pub mod LineAnswers
 pub mod AnswerLaws
 pub mod Places
 pub mod Preparing
+pub mod Differing
 pub use Rattle.bcs_io.specs.Lines
 pub use Rattle.bcs_tool_command_line.specs.Files
 pub use Rattle.bcs_decode_parts.specs.Path

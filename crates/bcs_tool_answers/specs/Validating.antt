@@ -80,15 +80,18 @@ IsPathOf other notation word path = path ≡ []
 
 -- ---- the job
 
--- the command works on values: it has a format and an input
+-- the command works on values: it has a format, even if `which` doesn't use it, and an input
 abbrev pub works_on_values : Command → Bool
-works_on_values command.Check = false
-works_on_values command.Grows = false
-works_on_values command.Show = false
-works_on_values command.Example = false
-works_on_values command.Schema = false
-works_on_values command.FromMove = false
-works_on_values other = true
+works_on_values command.Encode = true
+works_on_values command.Decode = true
+works_on_values command.Explain = true
+works_on_values command.Normalise = true
+works_on_values command.Same = true
+works_on_values command.Diff = true
+works_on_values command.Part = true
+works_on_values command.Scan = true
+works_on_values command.Which = true
+works_on_values other = false
 
 -- the command of a job whose input gives bytes
 abbrev pub bytes_command : BytesCommand → Command
@@ -96,12 +99,14 @@ bytes_command on_bytes.Decode = command.Decode
 bytes_command on_bytes.Explain = command.Explain
 bytes_command on_bytes.Part = command.Part
 bytes_command on_bytes.Scan = command.Scan
+bytes_command on_bytes.Which = command.Which
 
 -- the command of a job that works on values
 abbrev pub command_of : ValueCommand → Command
 command_of on_values.Encode = command.Encode
 command_of on_values.Normalise = command.Normalise
 command_of on_values.Same = command.Same
+command_of on_values.Diff = command.Diff
 command_of (on_values.Bytes asked) = bytes_command asked
 
 -- the command only validates bytes

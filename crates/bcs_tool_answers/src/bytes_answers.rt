@@ -17,6 +17,7 @@ use crate::scan_answers::answer_scan;
 use crate::stop_answers::answer_stop;
 use crate::validating::Asked;
 use crate::value_command::BytesCommand;
+use crate::which_answers::answer_which;
 use base64::DecodeAllocError;
 use bcs_json::{FromFault, from_bcs};
 use bcs_tool_command_line::{Coding, Command, Work};
@@ -140,6 +141,7 @@ fn answer_bytes(
         BytesCommand::Explain => answer_explain(alloc, work, asked, bytes),
         BytesCommand::Part => answer_part(alloc, work, asked, bytes),
         BytesCommand::Scan => answer_scan(alloc, work, asked, bytes),
+        BytesCommand::Which => answer_which(alloc, work, asked, bytes),
     }
 }
 

@@ -11,6 +11,7 @@ use crate::places::{place_in_input, place_of_line, reports_place};
 use crate::stop_answers::answer_stop;
 use crate::validating::Asked;
 use bcs_decode::Stop;
+use bcs_display_candidates::put_only_candidate;
 use bcs_display_pieces::{Explanation, RefusedCall, RefusedView, Views, explain_text, put_notes};
 use bcs_display_refusal::Refusal;
 use bcs_display_text::style::Form;
@@ -128,10 +129,56 @@ fn answer_ended(
             if work.options.json_refusals {
                 answer_stop(alloc, work, asked, bytes, stop)
             } else {
-                with_pieces(alloc, work, 2, damaged(alloc, work, text, stop)?)
+                damaged_pieces(alloc, work, asked, bytes, text, stop)
             }
         }
     }
+}
+
+// The pieces up to a stop. Standard error has the container that the bytes are a value of.
+fn damaged_pieces(
+    alloc: Global,
+    work: &Work,
+    asked: &Asked,
+    bytes: &[u8],
+    text: Vec<u8>,
+    stop: Stop,
+) -> Result<Answer, AllocError>
+    ensures { IfOk result (λ a. (a.status ≡ 2) × MayReport work.now a.place.items) }
+{
+    let text = damaged(alloc, work, text, stop)?;
+    let place = place_of_candidate(alloc, work, asked, bytes, stop);
+    Ok(placed(with_pieces(alloc, work, 2, text)?, place))
+}
+
+// Empty for a job that reports no places, if there is no such container, or if an allocation fails.
+fn place_of_candidate(
+    alloc: Global,
+    work: &Work,
+    asked: &Asked,
+    bytes: &[u8],
+    stop: Stop,
+) -> Vec<u8>
+    ensures { MayReport work.now result.items }
+{
+    if !reports_place(work) {
+        return Vec::new(alloc);
+    }
+    let (registry, format) = (&asked.registry, &asked.format);
+    let mut line = Vec::new(alloc);
+    let put = put_only_candidate(
+        registry,
+        format,
+        &work.limits,
+        bytes,
+        stop.reason,
+        &mut line,
+    );
+    let line = match put {
+        Ok(()) => Some(line),
+        Err(AllocError) => None,
+    };
+    place_of_line(alloc, line)
 }
 
 // The pieces up to a stop inside a byte string.

@@ -5,6 +5,7 @@ use crate::blanks::{blanks_before, without_blanks};
 use crate::places::{place_in_input, reports_place};
 use base64::DecodeError;
 use bcs_display_mistakes::{WrongText, input_refusal, wrong_input_digits};
+use bcs_display_refusal::Refusal;
 use bcs_tool_command_line::Work;
 use std::alloc::Global;
 
@@ -24,6 +25,23 @@ pub fn place_of_base64(alloc: Global, work: &Work, input: &[u8], fault: DecodeEr
     ensures { MayReport work.now result.items }
 {
     place_of_input(alloc, work, input, "BadBase64", wrong_base64(fault))
+}
+
+/// Why this input isn't valid hexadecimal.
+pub fn refusal_of_digits(alloc: Global, input: &[u8]) -> Option<Refusal> {
+    let wrong = wrong_input_digits(without_blanks(input))?;
+    input_refusal(alloc, blanks_before(input), "BadHex", wrong).ok()
+}
+
+/// Why this input isn't valid base64.
+pub fn refusal_of_base64(alloc: Global, input: &[u8], fault: DecodeError) -> Option<Refusal> {
+    input_refusal(
+        alloc,
+        blanks_before(input),
+        "BadBase64",
+        wrong_base64(fault),
+    )
+    .ok()
 }
 
 fn wrong_base64(fault: DecodeError) -> WrongText {

@@ -1,6 +1,6 @@
 //! Validates the arguments of a job before its input is read.
-ghost use Rattle.std.specs.Prelude.{◌≡◌, ℕ, List, IfOk};
-ghost use Rattle.bcs_tool_answers.specs.Validating.{command_of};
+ghost use Rattle.std.specs.Prelude.{◌≡◌, ℕ, List, IfOk, false};
+ghost use Rattle.bcs_tool_answers.specs.Validating.{command_of, works_on_values};
 ghost use Rattle.bcs_tool_answers.specs.Places.{IsAnswer};
 ghost use Rattle.bcs_tool_answers.specs.Preparing.{IsPrepared};
 
@@ -12,7 +12,7 @@ use crate::refusing::refused_words;
 use crate::schemas::answer_schema;
 use crate::showing::answer_show;
 use crate::validating::{Asked, validate_asked, validate_check};
-use crate::value_command::{BytesCommand, ValueCommand};
+use crate::value_command::{ValueCommand, value_command_of};
 use bcs_tool_command_line::{Command, Work};
 use std::alloc::{AllocError, Global};
 
@@ -29,20 +29,25 @@ pub enum Prepared {
 pub fn prepare(alloc: Global, work: &Work) -> Result<Prepared, AllocError>
     ensures { IfOk result (λ prepared. IsPrepared work.now prepared) }
 {
+    match value_command_of(work.command) {
+        Some(command) => prepare_asked(alloc, work, command),
+        None => Ok(Prepared::Answered(answer_alone(alloc, work)?)),
+    }
+}
+
+// The answer of a command without an input.
+fn answer_alone(alloc: Global, work: &Work) -> Result<Answer, AllocError>
+    requires { works_on_values work.now.command ≡ false }
+    ensures { IfOk result (λ a. (bytes : List ℕ) → IsAnswer work.now bytes a) }
+{
     match work.command {
-        Command::Check => Ok(Prepared::Answered(answer_check(alloc, work)?)),
-        Command::Grows => Ok(Prepared::Answered(answer_growth(alloc, work)?)),
-        Command::Show => Ok(Prepared::Answered(answer_show(alloc, work)?)),
-        Command::Example => Ok(Prepared::Answered(answer_example(alloc, work)?)),
-        Command::Schema => Ok(Prepared::Answered(answer_schema(alloc, work)?)),
-        Command::FromMove => Ok(Prepared::Answered(answer_from_move(alloc, work)?)),
-        Command::Encode => prepare_asked(alloc, work, ValueCommand::Encode),
-        Command::Normalise => prepare_asked(alloc, work, ValueCommand::Normalise),
-        Command::Same => prepare_asked(alloc, work, ValueCommand::Same),
-        Command::Decode => prepare_asked(alloc, work, ValueCommand::Bytes(BytesCommand::Decode)),
-        Command::Explain => prepare_asked(alloc, work, ValueCommand::Bytes(BytesCommand::Explain)),
-        Command::Part => prepare_asked(alloc, work, ValueCommand::Bytes(BytesCommand::Part)),
-        Command::Scan => prepare_asked(alloc, work, ValueCommand::Bytes(BytesCommand::Scan)),
+        Command::Check => answer_check(alloc, work),
+        Command::Grows => answer_growth(alloc, work),
+        Command::Show => answer_show(alloc, work),
+        Command::Example => answer_example(alloc, work),
+        Command::Schema => answer_schema(alloc, work),
+        Command::FromMove => answer_from_move(alloc, work),
+        _ => unreachable!(),
     }
 }
 

@@ -8,6 +8,7 @@ use crate::answer::{Answer, placed, stopped};
 use crate::places::{place_in_input, reports_place};
 use crate::validating::Asked;
 use bcs_decode::Stop;
+use bcs_display_candidates::put_only_candidate;
 use bcs_display_errors::put_limit;
 use bcs_display_pieces::{Stopped, stop_refusal};
 use bcs_display_refusal::Refusal;
@@ -45,7 +46,8 @@ fn place_of_stop(alloc: Global, work: &Work, asked: &Asked, bytes: &[u8], stop: 
     }
 }
 
-fn halt_refusal(
+/// The refusal for a stop.
+pub fn halt_refusal(
     alloc: Global,
     work: &Work,
     asked: &Asked,
@@ -57,6 +59,14 @@ fn halt_refusal(
     match stop_refusal(alloc, &asked.registry, &asked.format, &work.limits, bytes)? {
         Some(Stopped { mut refusal, .. }) => {
             put_limit(&work.limits, stop.reason, &mut refusal.message)?;
+            put_only_candidate(
+                &asked.registry,
+                &asked.format,
+                &work.limits,
+                bytes,
+                stop.reason,
+                &mut refusal.message,
+            )?;
             Ok(Some(refusal))
         }
         None => Ok(None),

@@ -51,8 +51,8 @@ fn refusal_of(alloc: Global, work: &Work, asked: &Asked, text: &[u8]) -> Option<
     read_value_or_refusal(alloc, &asked.registry, &asked.format, &work.limits, text).err()
 }
 
-// A text's refusal, with the limit that was exceeded.
-fn limited_refusal(
+/// A text's refusal, with the limit that was exceeded.
+pub fn limited_refusal(
     alloc: Global,
     work: &Work,
     asked: &Asked,

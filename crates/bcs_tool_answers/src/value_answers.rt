@@ -6,6 +6,7 @@ ghost use Rattle.bcs_tool_answers.specs.Preparing.{IsAskedBy};
 
 use crate::answer::{Answer, encoded, placed, refused_text, shown};
 use crate::bytes_answers::answer_given;
+use crate::differing::answer_diff;
 use crate::pair_answers::answer_pair;
 use crate::text_places::{place_of_pair, place_of_refusal};
 use crate::validating::Asked;
@@ -29,6 +30,7 @@ pub fn answer_values(
         ValueCommand::Encode => answer_encode(alloc, work, asked, input),
         ValueCommand::Normalise => answer_normalise(alloc, work, asked, input),
         ValueCommand::Same => answer_same(alloc, work, asked, input),
+        ValueCommand::Diff => answer_diff(alloc, work, asked, input),
         ValueCommand::Bytes(command) => answer_given(alloc, work, asked, command, input),
     }
 }

@@ -72,9 +72,10 @@ depths =
     let explain : AreRules id q (rules_at 8) = (no id q _ refl, (no id q _ refl, (λ is. record { action = refl; parser = refl; exact = refl; defaults = refl }, none id q (drop 3 (rules_at 8)) refl))) in
     let normalise : AreRules id q (rules_at 9) = (no id q _ refl, (no id q _ refl, (λ is. record { action = refl; parser = refl; exact = refl; defaults = refl }, none id q (drop 3 (rules_at 9)) refl))) in
     let same : AreRules id q (rules_at 10) = (no id q _ refl, (no id q _ refl, (λ is. record { action = refl; parser = refl; exact = refl; defaults = refl }, none id q (drop 3 (rules_at 10)) refl))) in
-    let part : AreRules id q (rules_at 11) = (no id q _ refl, (no id q _ refl, (λ is. record { action = refl; parser = refl; exact = refl; defaults = refl }, none id q (drop 3 (rules_at 11)) refl))) in
-    let scan : AreRules id q (rules_at 12) = (no id q _ refl, (no id q _ refl, (λ is. record { action = refl; parser = refl; exact = refl; defaults = refl }, none id q (drop 3 (rules_at 12)) refl))) in
-    (others 0 refl, (others 1 refl, (others 2 refl, (example, (others 4 refl, (others 5 refl, (encode, (decode, (explain, (normalise, (same, (part, (scan, (others 13 refl, tt))))))))))))))
+    let diff : AreRules id q (rules_at 11) = (no id q _ refl, (no id q _ refl, (λ is. record { action = refl; parser = refl; exact = refl; defaults = refl }, none id q (drop 3 (rules_at 11)) refl))) in
+    let part : AreRules id q (rules_at 12) = (no id q _ refl, (no id q _ refl, (λ is. record { action = refl; parser = refl; exact = refl; defaults = refl }, none id q (drop 3 (rules_at 12)) refl))) in
+    let scan : AreRules id q (rules_at 13) = (no id q _ refl, (no id q _ refl, (λ is. record { action = refl; parser = refl; exact = refl; defaults = refl }, none id q (drop 3 (rules_at 13)) refl))) in
+    (others 0 refl, (others 1 refl, (others 2 refl, (example, (others 4 refl, (others 5 refl, (encode, (decode, (explain, (normalise, (same, (diff, (part, (scan, (others 14 refl, (others 15 refl, tt))))))))))))))))
 
 nodes : AreShapes (codes "nodes") 4294967295 (built bcs_app).subs
 nodes =
@@ -88,9 +89,10 @@ nodes =
     let explain : AreRules id q (rules_at 8) = (no id q _ refl, (no id q _ refl, (no id q _ refl, (λ is. record { action = refl; parser = refl; exact = refl; defaults = refl }, none id q (drop 4 (rules_at 8)) refl)))) in
     let normalise : AreRules id q (rules_at 9) = (no id q _ refl, (no id q _ refl, (no id q _ refl, (λ is. record { action = refl; parser = refl; exact = refl; defaults = refl }, none id q (drop 4 (rules_at 9)) refl)))) in
     let same : AreRules id q (rules_at 10) = (no id q _ refl, (no id q _ refl, (no id q _ refl, (λ is. record { action = refl; parser = refl; exact = refl; defaults = refl }, none id q (drop 4 (rules_at 10)) refl)))) in
-    let part : AreRules id q (rules_at 11) = (no id q _ refl, (no id q _ refl, (no id q _ refl, (λ is. record { action = refl; parser = refl; exact = refl; defaults = refl }, none id q (drop 4 (rules_at 11)) refl)))) in
-    let scan : AreRules id q (rules_at 12) = (no id q _ refl, (no id q _ refl, (no id q _ refl, (λ is. record { action = refl; parser = refl; exact = refl; defaults = refl }, none id q (drop 4 (rules_at 12)) refl)))) in
-    (others 0 refl, (others 1 refl, (others 2 refl, (example, (others 4 refl, (others 5 refl, (encode, (decode, (explain, (normalise, (same, (part, (scan, (others 13 refl, tt))))))))))))))
+    let diff : AreRules id q (rules_at 11) = (no id q _ refl, (no id q _ refl, (no id q _ refl, (λ is. record { action = refl; parser = refl; exact = refl; defaults = refl }, none id q (drop 4 (rules_at 11)) refl)))) in
+    let part : AreRules id q (rules_at 12) = (no id q _ refl, (no id q _ refl, (no id q _ refl, (λ is. record { action = refl; parser = refl; exact = refl; defaults = refl }, none id q (drop 4 (rules_at 12)) refl)))) in
+    let scan : AreRules id q (rules_at 13) = (no id q _ refl, (no id q _ refl, (no id q _ refl, (λ is. record { action = refl; parser = refl; exact = refl; defaults = refl }, none id q (drop 4 (rules_at 13)) refl)))) in
+    (others 0 refl, (others 1 refl, (others 2 refl, (example, (others 4 refl, (others 5 refl, (encode, (decode, (explain, (normalise, (same, (diff, (part, (scan, (others 14 refl, (others 15 refl, tt))))))))))))))))
 
 -- ---- of a parse
 

@@ -1,5 +1,5 @@
 -- What the proofs use of other crates, and of this crate's definitions.
-pub use Rattle.std.proofs.Common.{[], ap, ap₂, arith, Bool, Bor, codes, cond, drop, encode_utf8, Err, false, find, fold, IfOk, IfSome, inl, inr, is_some, IsOkAnd, length, List, map, min, None, not, Ok, Option, option_map, pos, refl, Result, rules, slice_get, Some, subst, suc, sym, true, true≢false, unwrap_or, zero, ℕ, ◌&&◌, ◌||◌, ◌++◌, ◌+◌, ◌<◌, ◌==◌, ◌^◌, ◌∙◌, ◌∷◌, ◌≡◌, ◌≤◌, ◌⊎◌}
+pub use Rattle.std.proofs.Common.{[], ap, ap₂, arith, Bool, Bor, codes, cond, drop, encode_utf8, Err, false, find, fold, IfSome, inl, inr, is_some, length, List, map, min, None, not, Ok, Option, option_map, pos, refl, Result, rules, slice_get, Some, subst, suc, sym, true, true≢false, unwrap_or, zero, ℕ, ◌&&◌, ◌||◌, ◌++◌, ◌+◌, ◌<◌, ◌==◌, ◌^◌, ◌∙◌, ◌∷◌, ◌≡◌, ◌≤◌, ◌⊎◌}
 pub use Rattle.std.proofs.lemmas.Bool.{ne_eqb}
 pub use Rattle.std.proofs.lemmas.Grind.{common_steps}
 pub use Rattle.std.proofs.lemmas.Int.{ints}
@@ -15,9 +15,8 @@ pub use Rattle.std.specs.Option.{option_map_or, option_or}
 pub use Rattle.std.specs.Prelude.{Box, flat_map, IsSomeAnd, option_and_then, string_bytes}
 pub use Rattle.std.specs.Str.{bytes_eq, chars}
 pub use Rattle.std.specs.Str.Parse.{digits_value, ExplainsUnsignedError, HasUnsignedDigitsIfOk, IsNumeral, ParsesUnsigned, starts_with_minus, without_leading_plus}
-pub use Rattle.std.specs.declared.alloc.AllocError.{AllocError}
 pub use Rattle.bcs_value_model.specs.Limits.{Bounds}
-pub use Rattle.bcs_view_texts.specs.Kinds.{asked_of, view_name}
+pub use Rattle.bcs_view_texts.specs.Kinds.{asked_of}
 pub use Rattle.bcs_view_texts.specs.declared.view_kind.ViewKind.{ViewKind}
 unfoldable pub use Rattle.clap.proofs.OnLiterals.{clap_on_literals}
 pub use Rattle.clap.proofs.ValueTestLemmas.{accepts-Accepts}
@@ -52,10 +51,10 @@ pub use Rattle.clap.specs.declared.parser.matches.ValueSource.{ValueSource}
 pub use Rattle.clap.specs.declared.parser.matches.ValueSource.TheVariants.{CommandLine, DefaultValue}
 pub use Rattle.bcs_tool_command_line.specs.AcceptedArguments.{AcceptsArguments}
 pub use Rattle.bcs_tool_command_line.specs.CommandLine.{bcs_app, reports_version, texts_of, wants_command, with_command}
-pub use Rattle.bcs_tool_command_line.specs.Jobs.{coding, coding_found, file_by, file_found, has_value, is_raw, is_set, IsJob, IsJobOf, notation_found, path_found, some_unless_empty, text_or_empty, views_by, WritesLimit, WritesLimits}
+pub use Rattle.bcs_tool_command_line.specs.Jobs.{coding, file_by, IsJob, IsJobOf, text_or_empty, views_by, WritesLimit, WritesLimits}
 pub use Rattle.bcs_tool_command_line.specs.LineFaults.{IsFaultAmong, IsFaultOf, IsFaultOfKind, ReportsMisuse}
 pub use Rattle.bcs_tool_command_line.specs.Misuses.{misuse_in, misuse_of}
-pub use Rattle.bcs_tool_command_line.specs.Options.{app_of_command, app_of_row, command_named, commands, row_of, with_alias}
+pub use Rattle.bcs_tool_command_line.specs.Options.{app_of_command, command_named, commands, is_misuse, row_of, with_alias}
 pub use Rattle.bcs_tool_command_line.specs.Spelling.{may_be_option, spelled, spelled_word}
 unfoldable pub use Rattle.bcs_tool_command_line.specs.Spelling.{spelled_from}
 pub use Rattle.bcs_tool_command_line.specs.Words.{rule_of_word}
@@ -63,5 +62,5 @@ pub use Rattle.bcs_tool_command_line.specs.declared.command.Command.{Command}
 pub use Rattle.bcs_tool_command_line.specs.declared.job.Job.{Job}
 pub use Rattle.bcs_tool_command_line.specs.declared.line_fault.LineFault.{LineFault}
 pub use Rattle.bcs_tool_command_line.specs.declared.line_fault.LineFault.TheVariants.{Help, OutOfMemory, Usage}
-pub use Rattle.bcs_tool_command_line.specs.declared.misuse.Misuse.{Misuse}
+pub use Rattle.bcs_tool_command_line.specs.declared.options.Misuse.{Misuse}
 pub use Rattle.bcs_tool_command_line.specs.declared.notation.Notation.{Notation}

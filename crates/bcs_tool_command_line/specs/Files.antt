@@ -2,7 +2,7 @@
 use Rattle.std.specs.Prelude.{◌≡◌, ◌≢◌, ◌⊎◌, ◌≤◌, ◌<◌, ◌==◌, ◌||◌, ℕ, List, [], ◌∷◌, Bool, true, false, codes, length, IfSome, Option, Some, None, string_bytes}
 use Rattle.bcs_io.specs.Notes.{take_note}
 use Rattle.bcs_tool_command_line.specs.declared.command.Command.{Command}
-use Rattle.bcs_tool_command_line.specs.declared.command.Command.TheVariants.{Check, Grows, Show, Example, Schema, FromMove, Encode, Decode, Explain, Normalise, Same, Part, Scan}
+use Rattle.bcs_tool_command_line.specs.declared.command.Command.TheVariants.{Diff, FromMove, Grows, Same}
 use Rattle.bcs_tool_command_line.specs.declared.file_fault.FileFault.{FileFault}
 use Rattle.bcs_tool_command_line.specs.declared.file_fault.FileFault.TheVariants as fault
 use Rattle.bcs_tool_command_line.specs.declared.file_refusal.FileRefusal.{FileRefusal}
@@ -45,6 +45,12 @@ abbrev pub is_first_text : Command → List ℕ → Bool
 is_first_text FromMove word = is_modules_text word
 is_first_text other word = is_registry_text word
 
+-- whether the second word of a command names a file with a value
+abbrev pub has_first_value : Command → Bool
+has_first_value Same = true
+has_first_value Diff = true
+has_first_value other = false
+
 -- these bytes may be the content: they are it, where it is known
 abbrev pub IsContent : Option (List ℕ) → List ℕ → Type 0
 IsContent None bytes = Unit {0}
@@ -52,13 +58,13 @@ IsContent (Some content) bytes = bytes ≡ content
 
 -- the job's registries, or its modules, are texts themselves, and it has no A, so that no file is read for its work
 abbrev pub NamesNoFile : Job → Type 0
-NamesNoFile job = (is_first_text job.command (string_bytes job.registry) ≡ true) × (job.command ≢ Same)
+NamesNoFile job = (is_first_text job.command (string_bytes job.registry) ≡ true) × (has_first_value job.command ≡ false)
     × (job.command ≡ Grows → is_registry_text (string_bytes job.second) ≡ true)
 
 -- the job's second word names the file that its work needs: that of NEW, or of A
 abbrev pub NamesSecond : Job → List ℕ → Type 0
 NamesSecond job name = ((job.command ≡ Grows) × (is_registry_text name ≡ false) × (name ≡ string_bytes job.second))
-    ⊎ ((job.command ≡ Same) × (name ≡ string_bytes job.second))
+    ⊎ ((has_first_value job.command ≡ true) × (name ≡ string_bytes job.second))
 
 -- What files gave. Which file a name opens, no clause of std says: it is known what an opened file gave, and
 -- not which it is.
@@ -97,19 +103,10 @@ module _ {F : Type 0} (remaining : F → Option (List ℕ)) where
 
   -- bytes that were read for the second word of a command: none where the command has none
   abbrev pub IsSecondOf : Command → List ℕ → List ℕ → Type 0
-  IsSecondOf Check word text = text ≡ []
   IsSecondOf Grows word text = IsTextOfWord word text
-  IsSecondOf Show word text = text ≡ []
-  IsSecondOf Example word text = text ≡ []
-  IsSecondOf Schema word text = text ≡ []
-  IsSecondOf FromMove word text = text ≡ []
-  IsSecondOf Encode word text = text ≡ []
-  IsSecondOf Decode word text = text ≡ []
-  IsSecondOf Explain word text = text ≡ []
-  IsSecondOf Normalise word text = text ≡ []
   IsSecondOf Same word text = IsFileText text
-  IsSecondOf Part word text = text ≡ []
-  IsSecondOf Scan word text = text ≡ []
+  IsSecondOf Diff word text = IsFileText text
+  IsSecondOf other word text = text ≡ []
 
   -- the job's work. Its options are the job's, except for those of output that people read
   pub record IsWorkOf (job : Job) (work : Work) : Type 0 where

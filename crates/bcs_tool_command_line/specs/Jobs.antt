@@ -10,7 +10,8 @@ use Rattle.bcs_view_texts.specs.Kinds.{asked_of, view_kinds, view_name}
 use Rattle.bcs_view_texts.specs.declared.view_kind.ViewKind.{ViewKind}
 use Rattle.bcs_view_texts.specs.declared.view_text.ViewText.{ViewText}
 use Rattle.bcs_tool_command_line.specs.CommandLine.{bcs_app}
-use Rattle.bcs_tool_command_line.specs.Options.{command_named}
+pub use Rattle.bcs_tool_command_line.specs.Found.{has_value, is_set, text_or_empty}
+use Rattle.bcs_tool_command_line.specs.Options.{command_named, has_no_format}
 use Rattle.bcs_tool_command_line.specs.declared.coding.Coding.{Coding}
 use Rattle.bcs_tool_command_line.specs.declared.coding.Coding.TheVariants.{Hexadecimal, Base64, Raw}
 use Rattle.bcs_tool_command_line.specs.declared.command.Command.{Command}
@@ -20,18 +21,6 @@ use Rattle.bcs_tool_command_line.specs.declared.notation.Notation.{Notation}
 use Rattle.bcs_tool_command_line.specs.declared.notation.Notation.TheVariants.{Path, Names, Pointer}
 use Rattle.bcs_tool_command_line.specs.declared.work.Work.{Work}
 use Rattle.bcs_tool_command_line.specs.Spelling.{spelled}
-
--- the text of a word, which is empty where there is none
-abbrev pub text_or_empty : Option Text → Text
-text_or_empty word = unwrap_or word []
-
--- clap gives an option without a value the text `true` where it was used, and `false` else
-abbrev pub is_set : Text → List Row → Bool
-is_set name found = bytes_eq (text_or_empty (first_of name found)) (codes "true")
-
--- whether an argument has a value
-abbrev pub has_value : Text → List Row → Bool
-has_value name found = is_some (first_of name found)
 
 -- how PATH is written. `--name` comes first, though it isn't accepted together with `--pointer`
 abbrev pub notation_found : List Row → Notation
@@ -53,6 +42,10 @@ file_by Pointer found = first_of (codes "PATH") found
 
 abbrev pub file_found : List Row → Option Text
 file_found found = file_by (notation_found found) found
+
+-- FORMAT; or for a command on bytes without one, a format that doesn't matter
+abbrev pub format_found : Command → List Row → Option Text
+format_found command found = if has_no_format command then Some (codes "\"UNIT\"") else first_of (codes "FORMAT") found
 
 -- how bytes are read and written, with `--raw` and with `--base64`, which overrides it
 abbrev pub coding : Bool → Bool → Coding
@@ -123,7 +116,7 @@ pub record IsJob (command : Command) (found : List Row) (job : Job) : Type 0 whe
   pub same_command : job.command ≡ command
   pub registry : string_bytes job.registry ≡ text_or_empty (registry_found found)
   pub second : string_bytes job.second ≡ text_or_empty (option_or (first_of (codes "NEW") found) (first_of (codes "A") found))
-  pub format : string_bytes job.format ≡ text_or_empty (first_of (codes "FORMAT") found)
+  pub format : string_bytes job.format ≡ text_or_empty (format_found command found)
   pub path : string_bytes job.path ≡ text_or_empty (path_found found)
   pub file : option_map string_bytes job.file ≡ file_found found
   pub raw : job.raw ≡ is_set (codes "raw") found

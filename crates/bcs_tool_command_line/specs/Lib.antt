@@ -1,3 +1,4 @@
+pub mod Found
 pub mod Jobs
 pub mod LineFaults
 pub mod Options

@@ -6,9 +6,10 @@ use Rattle.clap.specs.declared.error.kind.ErrorKind.TheVariants as kind
 use Rattle.bcs_tool_command_line.specs.CommandLine.{bcs_app}
 use Rattle.bcs_tool_command_line.specs.declared.line_fault.LineFault.{LineFault}
 use Rattle.bcs_tool_command_line.specs.declared.line_fault.LineFault.TheVariants.{Usage, Help, OutOfMemory}
-use Rattle.bcs_tool_command_line.specs.Misuses.{misuse_of, misuse_text}
+use Rattle.bcs_tool_command_line.specs.Misuses.{misuse_of}
+use Rattle.bcs_tool_command_line.specs.Options.{misuse_text}
 use Rattle.bcs_tool_command_line.specs.Spelling.{spelled}
-use Rattle.bcs_tool_command_line.specs.declared.misuse.Misuse.{Misuse}
+use Rattle.bcs_tool_command_line.specs.declared.options.Misuse.{Misuse}
 
 -- clap's error of this kind has a text that the words ask for: help, or the version
 abbrev pub IsAskedFor : ErrorKind → Type 0

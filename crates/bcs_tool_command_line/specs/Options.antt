@@ -1,13 +1,17 @@
 -- The commands of `bcs`, and the arguments and options of each, in the terms of clap's contracts.
-use Rattle.std.specs.Prelude.{ℕ, List, [], ◌∷◌, ◌++◌, Option, Some, None, true, codes, find, fold, pos}
+use Rattle.std.specs.Prelude.{◌&&◌, ◌||◌, ℕ, List, [], ◌∷◌, ◌++◌, Bool, Option, Some, None, true, false, codes, find, fold, not, pos}
 use Rattle.std.specs.Str.{bytes_eq}
 use Rattle.clap.specs.Words.{App, Rule, Text, new_app, new_rule, with_rule}
+use Rattle.clap.specs.Words as given
 use Rattle.clap.specs.Simple.{on_top}
 use Rattle.clap.specs.Lexer.{usize_max}
 use Rattle.clap.specs.declared.builder.action.ArgAction.TheVariants.{Append, SetTrue}
 use Rattle.clap.specs.declared.builder.value_parser.ValueParser.TheVariants.{Signed}
 use Rattle.bcs_tool_command_line.specs.declared.command.Command.{Command}
-use Rattle.bcs_tool_command_line.specs.declared.command.Command.TheVariants.{Check, Grows, Show, Example, Schema, FromMove, Encode, Decode, Explain, Normalise, Same, Part, Scan}
+use Rattle.bcs_tool_command_line.specs.declared.command.Command.TheVariants.{Check, Grows, Show, Example, Schema, FromMove, Encode, Decode, Explain, Normalise, Same, Diff, Part, Scan, Which}
+use Rattle.bcs_tool_command_line.specs.declared.options.Misuse.{Misuse}
+use Rattle.bcs_tool_command_line.specs.declared.options.Misuse.TheVariants.{RawLines, OutputLines, RefusalsAlone, UnknownRefusals, UnknownColor, UnknownFirstForm, UnknownSecondForm, NameAndPointer, NameAndPath, PointerAndPath, NoPath}
+use Rattle.bcs_tool_command_line.specs.Found.{has_value, is_set}
 
 -- ---- arguments and options
 
@@ -67,6 +71,65 @@ abbrev pub of_pieces : List Rule
 of_pieces = flag_option (codes "paths") ∷ flag_option (codes "tree") ∷ flag_option (codes "json") ∷ text_option (codes "color") ∷ flag_option (codes "no-color")
     ∷ repeated_option (codes "inside") ∷ repeated_option (codes "call") ∷ repeated_option (codes "address") ∷ repeated_option (codes "u256") ∷ repeated_option (codes "i256") ∷ []
 
+-- ---- options that don't go together
+
+-- the value of `--refusals`, if it was given, isn't `json`
+abbrev pub is_unknown_form : Option Text → Bool
+is_unknown_form None = false
+is_unknown_form (Some form) = not (bytes_eq form (codes "json"))
+
+-- the value of `--color`, if it was given, isn't one of three
+abbrev pub is_unknown_color : Option Text → Bool
+is_unknown_color None = false
+is_unknown_color (Some text) = not (bytes_eq text (codes "auto") || (bytes_eq text (codes "always") || bytes_eq text (codes "never")))
+
+-- the value of `--a` or `--b`, if it was given, isn't one of four
+abbrev pub is_unknown_value_form : Option Text → Bool
+is_unknown_value_form None = false
+is_unknown_value_form (Some text) = not (bytes_eq text (codes "json") || (bytes_eq text (codes "hex") || (bytes_eq text (codes "base64") || bytes_eq text (codes "raw"))))
+
+-- the command needs PATH, or an option in its place
+abbrev pub needs_path : Command → Bool
+needs_path Part = true
+needs_path other = false
+
+-- the command reads bytes, and has no FORMAT
+abbrev pub has_no_format : Command → Bool
+has_no_format Which = true
+has_no_format other = false
+
+-- the arguments that clap found for a command are misused so
+abbrev pub is_misuse : Misuse → Command → List given.Row → Bool
+is_misuse RawLines command found = is_set (codes "raw") found && not (is_set (codes "base64") found) && is_set (codes "lines") found
+is_misuse OutputLines command found = has_value (codes "output") found && is_set (codes "lines") found
+is_misuse RefusalsAlone command found = has_value (codes "refusals") found && not (is_set (codes "lines") found)
+is_misuse UnknownRefusals command found = is_unknown_form (given.first_of (codes "refusals") found)
+is_misuse UnknownColor command found = is_unknown_color (given.first_of (codes "color") found)
+is_misuse UnknownFirstForm command found = is_unknown_value_form (given.first_of (codes "a") found)
+is_misuse UnknownSecondForm command found = is_unknown_value_form (given.first_of (codes "b") found)
+is_misuse NameAndPointer command found = has_value (codes "name") found && has_value (codes "pointer") found
+is_misuse NameAndPath command found = has_value (codes "name") found && has_value (codes "FILE") found
+is_misuse PointerAndPath command found = has_value (codes "pointer") found && has_value (codes "FILE") found
+is_misuse NoPath command found = needs_path command && not (has_value (codes "name") found) && not (has_value (codes "pointer") found) && not (has_value (codes "PATH") found)
+
+-- all of them, of which the first is reported
+abbrev pub misuses : List Misuse
+misuses = RawLines ∷ OutputLines ∷ RefusalsAlone ∷ UnknownRefusals ∷ UnknownColor ∷ UnknownFirstForm ∷ UnknownSecondForm ∷ NameAndPointer ∷ NameAndPath ∷ PointerAndPath ∷ NoPath ∷ []
+
+-- the usage error, in clap's form
+abbrev pub misuse_text : Misuse → List ℕ
+misuse_text RawLines = codes "error: the argument '--raw' cannot be used with '--lines'\n\nFor more information, try '--help'.\n"
+misuse_text OutputLines = codes "error: the argument '--output <FILE>' cannot be used with '--lines'\n\nFor more information, try '--help'.\n"
+misuse_text RefusalsAlone = codes "error: the following required arguments were not provided:\n  --lines\n\nFor more information, try '--help'.\n"
+misuse_text UnknownRefusals = codes "error: invalid value for '--refusals <FORM>'\n  [possible values: json]\n\nFor more information, try '--help'.\n"
+misuse_text UnknownColor = codes "error: invalid value for '--color <WHEN>'\n  [possible values: auto, always, never]\n\nFor more information, try '--help'.\n"
+misuse_text UnknownFirstForm = codes "error: invalid value for '--a <FORM>'\n  [possible values: json, hex, base64, raw]\n\nFor more information, try '--help'.\n"
+misuse_text UnknownSecondForm = codes "error: invalid value for '--b <FORM>'\n  [possible values: json, hex, base64, raw]\n\nFor more information, try '--help'.\n"
+misuse_text NameAndPointer = codes "error: the argument '--name <NAME>' cannot be used with '--pointer <POINTER>'\n\nFor more information, try '--help'.\n"
+misuse_text NameAndPath = codes "error: the argument '--name <NAME>' cannot be used with '<PATH>'\n\nFor more information, try '--help'.\n"
+misuse_text PointerAndPath = codes "error: the argument '--pointer <POINTER>' cannot be used with '<PATH>'\n\nFor more information, try '--help'.\n"
+misuse_text NoPath = codes "error: the following required arguments were not provided:\n  <PATH>\n\nFor more information, try '--help'.\n"
+
 -- ---- the commands
 
 pub record Row : Type 0 where
@@ -90,13 +153,15 @@ row_of Decode = row (codes "decode") (of_format ++ optional (codes "FILE") ∷ o
 row_of Explain = row (codes "explain") (of_format ++ optional (codes "FILE") ∷ of_bytes ++ of_lines ++ of_pieces)
 row_of Normalise = record (row (codes "normalise") (of_format ++ optional (codes "FILE") ∷ of_lines)) { alias = Some (codes "normalize") }
 row_of Same = row (codes "same") (of_format ++ required (codes "A") ∷ optional (codes "B") ∷ [])
+row_of Diff = row (codes "diff") (of_format ++ required (codes "A") ∷ optional (codes "B") ∷ text_option (codes "a") ∷ text_option (codes "b") ∷ flag_option (codes "json") ∷ [])
 row_of Part = row (codes "part") (of_format ++ optional (codes "PATH") ∷ optional (codes "FILE") ∷ of_bytes ++ of_lines
     ++ text_option (codes "name") ∷ text_option (codes "pointer") ∷ flag_option (codes "content") ∷ flag_option (codes "range") ∷ [])
 row_of Scan = row (codes "scan") (of_format ++ optional (codes "FILE") ∷ of_bytes ++ of_lines ++ flag_option (codes "front") ∷ [])
+row_of Which = row (codes "which") (required (codes "REG") ∷ common ++ optional (codes "FILE") ∷ of_bytes ++ flag_option (codes "list") ∷ flag_option (codes "json") ∷ [])
 
 -- all of them, in the order of the help
 abbrev pub commands : List Command
-commands = Check ∷ Grows ∷ Show ∷ Example ∷ Schema ∷ FromMove ∷ Encode ∷ Decode ∷ Explain ∷ Normalise ∷ Same ∷ Part ∷ Scan ∷ []
+commands = Check ∷ Grows ∷ Show ∷ Example ∷ Schema ∷ FromMove ∷ Encode ∷ Decode ∷ Explain ∷ Normalise ∷ Same ∷ Diff ∷ Part ∷ Scan ∷ Which ∷ []
 
 -- the command of a name
 abbrev pub command_named : Text → Option Command

@@ -29,10 +29,14 @@ pub enum Command {
     Normalise,
     /// `same`: finds whether two JSON texts have the same value.
     Same,
+    /// `diff`: finds where two values differ.
+    Diff,
     /// `part`: gives the bytes of a part of a value, out of the value's bytes.
     Part,
     /// `scan`: checks the bytes of a value and counts them.
     Scan,
+    /// `which`: finds the containers that bytes are exactly one value of.
+    Which,
 }
 
 impl Command {
@@ -49,8 +53,10 @@ impl Command {
         Command::Explain,
         Command::Normalise,
         Command::Same,
+        Command::Diff,
         Command::Part,
         Command::Scan,
+        Command::Which,
     ];
 
     /// The command of this name.

@@ -2,20 +2,24 @@
 
 use crate::arguments::is_set;
 use crate::color::Color;
+use crate::value_form::ValueForm;
 use bcs_display_text::style::{Form, Paint, Style};
 use clap::ArgMatches;
 
-/// The options that only `explain`, `show` and `example` read. Everything between the command line and these commands passes
+/// The options that only `explain`, `show`, `example` and `diff` read. Everything between the command line and these commands passes
 /// them on as a whole, and no contract mentions a field.
 #[derive(Clone, Copy, Debug)]
 pub struct Display {
     /// `--paths`, `--tree`, `--json`: how pieces are printed; the last of these overrides the others. `--json` applies to a
-    /// registry, too.
+    /// registry and to differences, too.
     pub form: Form,
     /// `--color`, `--no-color`: whether pieces are printed in color. `--no-color` overrides `--color`.
     pub color: Color,
     /// `--full`: an example has one element in each list, map and option.
     pub full: bool,
+    /// `--a`, `--b`: how A and B are written.
+    pub a: ValueForm,
+    pub b: ValueForm,
 }
 
 impl Display {
@@ -25,6 +29,8 @@ impl Display {
             form: Form::Ways,
             color: Color::Auto,
             full: false,
+            a: ValueForm::Json,
+            b: ValueForm::Json,
         }
     }
 
@@ -34,6 +40,8 @@ impl Display {
             form: form_of(given),
             color: color_of(given),
             full: is_set(given, "full"),
+            a: ValueForm::given(given.get_str("a")),
+            b: ValueForm::given(given.get_str("b")),
         }
     }
 

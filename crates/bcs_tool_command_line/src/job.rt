@@ -17,7 +17,7 @@ pub struct Job {
     pub registry: String,
     /// NEW of `grows`: a registry's JSON, or the name of its file. A of `same`: the name of a file.
     pub second: String,
-    /// FORMAT: a format's JSON, or a container's name.
+    /// FORMAT: a format's JSON, or a container's name. For `which`, which has none, the JSON of `UNIT`.
     pub format: String,
     /// PATH, the steps to a part of a value; or the value of `--name` or of `--pointer`.
     pub path: String,

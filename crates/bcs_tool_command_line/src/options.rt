@@ -1,12 +1,15 @@
-//! The commands of `bcs`, and the arguments and options of each: their names, types and help. The command line is made from
-//! these tables. Each example in a help works as it stands, and prints what comes after its `#`.
-ghost use Rattle.std.specs.Prelude.{◌≡◌, find};
+//! The commands of `bcs`, and the arguments and options of each: their names, types and help, and which ones don't go together.
+//! The command line is made from these tables. Each example in a help works as it stands, and prints what comes after its `#`.
+ghost use Rattle.std.specs.Prelude.{◌≡◌, find, option_map};
 ghost use Rattle.std.specs.Str.{bytes_eq};
-ghost use Rattle.bcs_tool_command_line.specs.Options.{row_of};
+ghost use Rattle.clap.specs.Words.{found_of, rows_of};
+ghost use Rattle.bcs_tool_command_line.specs.Options.{is_misuse, is_unknown_color, is_unknown_form, is_unknown_value_form, misuse_text, needs_path, row_of};
 ghost use Rattle.bcs_tool_command_line.specs.Words.{row_in_table};
 
+use crate::arguments::{has_value, is_set, text_in};
 use crate::command::Command;
 use crate::word::Word;
+use clap::ArgMatches;
 
 /// What a command is called, and what it accepts.
 #[derive(Clone, Copy)]
@@ -76,6 +79,16 @@ const FIRST_FILE: Word<'static> = Word::Required("A", "The file with the JSON of
 const SECOND_FILE: Word<'static> = Word::Optional(
     "B",
     "The file with the JSON of the second value, instead of standard input",
+);
+
+const FIRST_VALUE: Word<'static> = Word::Required(
+    "A",
+    "The file with the first value: its JSON, or what --a says",
+);
+
+const SECOND_VALUE: Word<'static> = Word::Optional(
+    "B",
+    "The file with the second value, instead of standard input: its JSON, or what --b says",
 );
 
 // ---- options of every command
@@ -184,6 +197,33 @@ const FULL: Word<'static> = Word::Flag(
     "Puts one element into each list, map and option, except inside a container that contains itself",
 );
 
+// ---- options of `which`
+
+const GROUNDS: Word<'static> = Word::Flag(
+    "list",
+    "Prints after each name how many pieces the value has, and how many of its bytes are checked",
+);
+
+const CANDIDATE_JSON: Word<'static> = Word::Flag(
+    "json",
+    "Prints each name and these numbers as a JSON object on a line. Overrides --list",
+);
+
+// ---- options of `diff`
+
+const FIRST_FORM: Word<'static> = Word::Text(
+    "a",
+    "FORM",
+    "How A is written: json, the default, or hex, base64 or raw for its bytes",
+);
+
+const SECOND_FORM: Word<'static> = Word::Text("b", "FORM", "How B is written");
+
+const DIFFERENCES_JSON: Word<'static> = Word::Flag(
+    "json",
+    "Prints each difference as a JSON object on a line, and their number last",
+);
+
 // ---- options of `explain`
 
 const PATHS: Word<'static> = Word::Flag(
@@ -220,9 +260,9 @@ const INSIDE: Word<'static> = Word::Repeated(
 
 const CALL: Word<'static> = Word::Repeated(
     "call",
-    "NAME=FUNCTION",
-    "Explains the byte strings of the list at NAME as the arguments of FUNCTION: those with containers in REG, \
-    such as FUNCTION::arg0. May be given several times",
+    "NAME",
+    "Explains the byte strings of the list at NAME as the arguments of the function that is called, by its containers \
+    in REG, such as FUNCTION::arg0. With NAME=FUNCTION, only if FUNCTION is called. May be given several times",
 );
 
 const ADDRESS: Word<'static> = Word::Repeated(
@@ -242,6 +282,148 @@ const I256: Word<'static> = Word::Repeated(
     "NAME",
     "Shows the 32 bytes of this container as a signed number, as it does for one named i256",
 );
+
+// ---- options that don't go together
+
+/// Why the arguments of a command don't go together, though clap accepts each of them. clap's contracts are exact only for
+/// commands without such rules, so they are checked after clap.
+#[derive(Clone, Copy, Debug, PartialEq, Eq)]
+pub enum Misuse {
+    /// `--raw`, unless `--base64` overrides it, with `--lines`: raw bytes have no lines.
+    RawLines,
+    /// `--output` with `--lines`: answers to lines have no common status that decides about the file.
+    OutputLines,
+    /// `--refusals` without `--lines`.
+    RefusalsAlone,
+    /// `--refusals` with another value than `json`.
+    UnknownRefusals,
+    /// `--color` with another value than `auto`, `always` or `never`.
+    UnknownColor,
+    /// `--a` with another value than `json`, `hex`, `base64` or `raw`.
+    UnknownFirstForm,
+    /// `--b` with another value than these.
+    UnknownSecondForm,
+    /// `part` with both `--name` and `--pointer`.
+    NameAndPointer,
+    /// `part` with `--name`, PATH and FILE. clap calls FILE so only if PATH comes before it.
+    NameAndPath,
+    /// `part` with `--pointer`, PATH and FILE.
+    PointerAndPath,
+    /// `part` without PATH, `--name` and `--pointer`.
+    NoPath,
+}
+
+impl Misuse {
+    /// All of them. The first one that the arguments are guilty of is reported.
+    pub(crate) const ALL: &'static [Misuse] = &[
+        Misuse::RawLines,
+        Misuse::OutputLines,
+        Misuse::RefusalsAlone,
+        Misuse::UnknownRefusals,
+        Misuse::UnknownColor,
+        Misuse::UnknownFirstForm,
+        Misuse::UnknownSecondForm,
+        Misuse::NameAndPointer,
+        Misuse::NameAndPath,
+        Misuse::PointerAndPath,
+        Misuse::NoPath,
+    ];
+
+    /// Whether the arguments of a command are misused so.
+    pub(crate) fn is_in(self, command: Command, given: &ArgMatches<'_>) -> bool
+        ensures { result ≡ is_misuse self command (rows_of (found_of given.now)) }
+    {
+        match self {
+            Misuse::RawLines => is_set(given, "raw")
+                & !is_set(given, "base64")
+                & is_set(given, "lines"),
+            Misuse::OutputLines => has_value(given, "output") & is_set(given, "lines"),
+            Misuse::RefusalsAlone => has_value(given, "refusals") & !is_set(given, "lines"),
+            Misuse::UnknownRefusals => is_unknown_form(text_in(given, "refusals")),
+            Misuse::UnknownColor => is_unknown_color(text_in(given, "color")),
+            Misuse::UnknownFirstForm => is_unknown_value_form(text_in(given, "a")),
+            Misuse::UnknownSecondForm => is_unknown_value_form(text_in(given, "b")),
+            Misuse::NameAndPointer => has_value(given, "name") & has_value(given, "pointer"),
+            Misuse::NameAndPath => has_value(given, "name") & has_value(given, "FILE"),
+            Misuse::PointerAndPath => has_value(given, "pointer") & has_value(given, "FILE"),
+            Misuse::NoPath => {
+                needs_path(command)
+                    & !has_value(given, "name")
+                    & !has_value(given, "pointer")
+                    & !has_value(given, "PATH")
+            }
+        }
+    }
+
+    /// The usage error, in clap's form.
+    pub fn text(self) -> &'static str
+        ensures { result.now ≡ misuse_text self }
+    {
+        match self {
+            Misuse::RawLines =>
+                "error: the argument '--raw' cannot be used with '--lines'\n\nFor more information, try '--help'.\n",
+            Misuse::OutputLines =>
+                "error: the argument '--output <FILE>' cannot be used with '--lines'\n\nFor more information, try '--help'.\n",
+            Misuse::RefusalsAlone =>
+                "error: the following required arguments were not provided:\n  --lines\n\nFor more information, try '--help'.\n",
+            Misuse::UnknownRefusals =>
+                "error: invalid value for '--refusals <FORM>'\n  [possible values: json]\n\nFor more information, try '--help'.\n",
+            Misuse::UnknownColor =>
+                "error: invalid value for '--color <WHEN>'\n  [possible values: auto, always, never]\n\nFor more information, try '--help'.\n",
+            Misuse::UnknownFirstForm =>
+                "error: invalid value for '--a <FORM>'\n  [possible values: json, hex, base64, raw]\n\nFor more information, try '--help'.\n",
+            Misuse::UnknownSecondForm =>
+                "error: invalid value for '--b <FORM>'\n  [possible values: json, hex, base64, raw]\n\nFor more information, try '--help'.\n",
+            Misuse::NameAndPointer =>
+                "error: the argument '--name <NAME>' cannot be used with '--pointer <POINTER>'\n\nFor more information, try '--help'.\n",
+            Misuse::NameAndPath =>
+                "error: the argument '--name <NAME>' cannot be used with '<PATH>'\n\nFor more information, try '--help'.\n",
+            Misuse::PointerAndPath =>
+                "error: the argument '--pointer <POINTER>' cannot be used with '<PATH>'\n\nFor more information, try '--help'.\n",
+            Misuse::NoPath =>
+                "error: the following required arguments were not provided:\n  <PATH>\n\nFor more information, try '--help'.\n",
+        }
+    }
+}
+
+// Whether the value of `--refusals` isn't one.
+fn is_unknown_form(form: Option<&str>) -> bool
+    ensures { result ≡ is_unknown_form (option_map (λ t. t.now) form.entry) }
+{
+    match form {
+        None | Some("json") => false,
+        Some(_) => true,
+    }
+}
+
+// Whether the value of `--color` isn't one.
+fn is_unknown_color(when: Option<&str>) -> bool
+    ensures { result ≡ is_unknown_color (option_map (λ t. t.now) when.entry) }
+{
+    match when {
+        None | Some("auto" | "always" | "never") => false,
+        Some(_) => true,
+    }
+}
+
+// Whether the value of `--a` or `--b` isn't one.
+fn is_unknown_value_form(form: Option<&str>) -> bool
+    ensures { result ≡ is_unknown_value_form (option_map (λ t. t.now) form.entry) }
+{
+    match form {
+        None | Some("json" | "hex" | "base64" | "raw") => false,
+        Some(_) => true,
+    }
+}
+
+fn needs_path(command: Command) -> bool
+    ensures { result ≡ needs_path command }
+{
+    match command {
+        Command::Part => true,
+        _ => false,
+    }
+}
 
 // ---- commands
 
@@ -433,6 +615,8 @@ Status: 0 done, 2 refused, 3 usage, 4 file or memory",
   echo 7 > a.json; echo '\"7\"' | bcs same '{}' '\"U8\"' a.json  # equal
   echo 7 > a.json; echo 8 | bcs same '{}' '\"U8\"' a.json  # different
 
+To see where two values differ, use bcs diff.
+
 To compare two files line by line:
   diff <(bcs normalise --lines REG FORMAT A) <(bcs normalise --lines REG FORMAT B)
 
@@ -446,6 +630,29 @@ Status: 0 equal, 1 different, 2 refused, 3 usage, 4 file or memory",
                 Word::Output,
                 FIRST_FILE,
                 SECOND_FILE,
+            ],
+        },
+        Command::Diff => Row {
+            name: "diff",
+            alias: None,
+            about: "Prints where two values differ",
+            examples: "Example:
+  echo 7 > a.json; echo 8 | bcs diff '{}' '\"U8\"' a.json | xargs  # ., at 0: U8 7 -> U8 8 different
+  echo 7 > a.json; echo 07 | bcs diff --b hex '{}' '\"U8\"' a.json  # equal
+
+Status: 0 equal, 1 different, 2 refused, 3 usage, 4 file or memory",
+            words: &[
+                REGISTRY,
+                FORMAT,
+                Word::Depth,
+                Word::Nodes,
+                QUIET,
+                Word::Output,
+                FIRST_VALUE,
+                SECOND_VALUE,
+                FIRST_FORM,
+                SECOND_FORM,
+                DIFFERENCES_JSON,
             ],
         },
         Command::Part => Row {
@@ -498,6 +705,26 @@ Status: 0 done, 2 refused, 3 usage, 4 file or memory",
                 LINES,
                 REFUSALS,
                 FRONT,
+            ],
+        },
+        Command::Which => Row {
+            name: "which",
+            alias: None,
+            about: "Prints the containers that the bytes are exactly one value of, the likeliest first",
+            examples: "Example:
+  echo 0161 | bcs which '{\"Id\":{\"NEWTYPESTRUCT\":\"U64\"},\"Name\":{\"NEWTYPESTRUCT\":\"STR\"}}'  # Name
+  echo 0161 | bcs which --list '{\"Name\":{\"NEWTYPESTRUCT\":\"STR\"}}'  # Name: 2 pieces, 2 of 2 bytes checked
+
+Status: 0 done, 1 none, 2 refused, 3 usage, 4 file or memory",
+            words: &[
+                REGISTRY,
+                QUIET,
+                Word::Output,
+                FILE,
+                RAW_INPUT,
+                BASE64_INPUT,
+                GROUNDS,
+                CANDIDATE_JSON,
             ],
         },
     }

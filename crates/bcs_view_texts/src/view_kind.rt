@@ -9,7 +9,8 @@ use crate::move_kind::MoveKind;
 pub enum ViewKind {
     /// `NAME=FORMAT`: the byte string at NAME has a value of FORMAT.
     Inside,
-    /// `NAME=FUNCTION`: the list at NAME has the arguments of FUNCTION, each as a byte string.
+    /// `NAME=FUNCTION`: the list at NAME has the arguments of FUNCTION, each as a byte string. Without FUNCTION, it is the one
+    /// that is called.
     Call,
     /// A container of 32 `U8` that is a value of Move.
     Value(MoveKind),

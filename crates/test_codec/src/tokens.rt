@@ -31,9 +31,13 @@ fn way_of(alloc: Global, question: &Question, text: &[u8]) -> Result<&'static st
     let by_tree = granted(tree_value(alloc, question, text), JsonFault::OutOfMemory)?;
     agree_with_call(alloc, question, text, &by_tree)?;
     match token_value(alloc, question, text)? {
-        Some(value) => {
+        Some(Ok(value)) => {
             agree(is_same(&value, &by_tree), "the tree")?;
             Ok("tokens")
+        }
+        Some(Err(fault)) => {
+            agree(is_fault(fault, &by_tree), "the tree")?;
+            Ok("tree")
         }
         None => Ok("tree"),
     }
@@ -43,6 +47,13 @@ fn is_same(value: &Value, other: &Result<Value, JsonFault>) -> bool {
     match other {
         Ok(other) => same(value, other),
         Err(_) => false,
+    }
+}
+
+fn is_fault(fault: JsonFault, other: &Result<Value, JsonFault>) -> bool {
+    match other {
+        Ok(_) => false,
+        Err(other) => fault == *other,
     }
 }
 
@@ -65,15 +76,20 @@ fn agree_with_call(
     agree(is_so, "read_value")
 }
 
-// The value read from the tokens alone, unless this reading gives up.
-fn token_value(alloc: Global, question: &Question, text: &[u8]) -> Result<Option<Value>, RowFault> {
+// The value read from the tokens alone, or why they are refused, unless this reading gives up.
+fn token_value(
+    alloc: Global,
+    question: &Question,
+    text: &[u8],
+) -> Result<Option<Result<Value, JsonFault>>, RowFault> {
     let Question {
         registry,
         format,
         limits,
     } = question;
     match value_of_text(alloc, registry, format, limits, text) {
-        Ok(value) => Ok(Some(value)),
+        Ok(value) => Ok(Some(Ok(value))),
+        Err(GivenUp::Refused(refusal)) => Ok(Some(Err(Box::into_inner(refusal).fault))),
         Err(GivenUp::Unusual) => Ok(None),
         Err(GivenUp::OutOfMemory) => Err(RowFault::OutOfMemory),
     }

@@ -153,7 +153,7 @@ fn responded<S: ByteSource>(
     let mut errors = PieceSink::<4000>::new(4000, call(reports)?);
     let args = args_of(alloc, words)?;
     let mut file = SystemFile::new(rt);
-    let status = respond(rt, &args, input, &mut out, &mut file, &mut errors);
+    let status = respond(rt, Ok(args), input, &mut out, &mut file, &mut errors);
     let told = if status == 3 {
         errors.taken().get(..7).unwrap_or_default()
     } else {

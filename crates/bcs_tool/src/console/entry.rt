@@ -1,21 +1,13 @@
 //! The program, as the system starts it.
-ghost use Rattle.std.specs.Prelude.{◌≡◌, ◌⊎◌, ◌<◌, not, true, IfErr, IfOk};
+ghost use Rattle.std.specs.Prelude.{◌<◌, IfErr};
 ghost use Rattle.std.specs.Process.{exit_status};
-ghost use Rattle.bcs_tool_command_line.specs.CommandLine.{texts_of};
-ghost use Rattle.bcs_tool_command_line.specs.Jobs.{IsJobOf};
-ghost use Rattle.bcs_tool_command_line.specs.LineFaults.{IsFaultOf};
-ghost use Rattle.bcs_tool_command_line.specs.AcceptedArguments.{AcceptsArguments};
-ghost use Rattle.bcs_tool.specs.Delivering.{Finishes};
-ghost use Rattle.bcs_tool.specs.Endings.{IsWordsFault, ReportsFault};
-ghost use Rattle.bcs_tool.specs.Visible.{breaks_lines};
+ghost use Rattle.bcs_tool.specs.Endings.{IsWordsFault};
 
 use crate::console::reporting::report_fault;
 use crate::console::responding::respond;
-use crate::files::input_files::InputFiles;
-use crate::files::output_file::OutputFile;
 use crate::files::system_file::SystemFile;
-use bcs_io::{ByteSink, ByteSource, ReadSource, WriteSink};
-use bcs_tool_command_line::{Job, LineFault};
+use bcs_io::{ReadSource, WriteSink};
+use bcs_tool_command_line::LineFault;
 use std::env;
 use std::env::Env;
 use std::io::{BufReader, ErrorKind};
@@ -29,7 +21,7 @@ pub fn program(rt: &HostRuntime) -> ExitCode
     let mut out = WriteSink::new(rt.stdout());
     let mut errors = WriteSink::new(rt.stderr());
     let status = match BufReader::with_capacity(rt.alloc(), read_ahead(&words), rt.reader()) {
-        Ok(reader) => start(
+        Ok(reader) => respond(
             rt,
             words,
             &mut ReadSource::new(reader),
@@ -50,38 +42,6 @@ fn read_ahead(words: &Result<Vec<String>, LineFault>) -> usize {
     match words {
         Ok(words) if words.iter().any(|word| word.as_str() == "--front") => 0,
         _ => BLOCK,
-    }
-}
-
-/// Does what the arguments ask for, or reports why they couldn't be read, and returns the status.
-pub fn start<R: InputFiles + AllocGlobal, S: ByteSource, O: ByteSink, T: OutputFile, E: ByteSink>(
-    rt: &R,
-    words: Result<Vec<String>, LineFault>,
-    input: &mut S,
-    out: &mut O,
-    file: &mut T,
-    errors: &mut E,
-) -> u8
-    ensures status { result < 5 }
-
-    // Nothing is read or written, no file is opened for writing, and the fault is reported.
-    ensures no_words { IfErr words (λ fault. (input.new ≡ input.old) × (file.new ≡ file.old)
-        × ReportsFault O.taken O.is_failed E.taken E.is_failed true fault out.old out.new errors.old errors.new result) }
-
-    // The rest is like `respond`.
-    ensures no_job { IfOk words (λ given. ¬ AcceptsArguments (texts_of given.items) → (fault : LineFault)
-        × IsFaultOf (texts_of given.items) fault × (input.new ≡ input.old) × (file.new ≡ file.old)
-        × ReportsFault O.taken O.is_failed E.taken E.is_failed (not (breaks_lines (texts_of given.items))) fault out.old out.new errors.old errors.new result) }
-    ensures job { IfOk words (λ given. AcceptsArguments (texts_of given.items) →
-        ((input.new ≡ input.old) × (file.new ≡ file.old) × ReportsFault O.taken O.is_failed E.taken E.is_failed
-        (not (breaks_lines (texts_of given.items))) LineFault.OutOfMemory out.old out.new errors.old errors.new result)
-        ⊎ ((job : Job) × IsJobOf (texts_of given.items) job
-        × Finishes R.File.remaining S.content S.is_failed S.allowance O.taken O.is_failed T.stage T.received E.taken E.is_failed
-        job input.old input.new out.old out.new file.old file.new errors.old errors.new result)) }
-{
-    match words {
-        Ok(words) => respond(rt, words.as_slice(), input, out, file, errors),
-        Err(fault) => report_fault(&fault, out, errors),
     }
 }
 

@@ -3,7 +3,7 @@ ghost use Rattle.std.specs.Prelude.{◌≡◌, ◌≢◌, ◌⊎◌, ◌≤◌, 
 ghost use Rattle.std.specs.Io.KnownBytes.{IsAtEnd};
 ghost use Rattle.bcs_io.specs.Giving.{Gave, GaveThenFailed};
 ghost use Rattle.bcs_tool_command_line.specs.Files.{size_limit};
-ghost use Rattle.bcs_tool_command_line.specs.Files.{IsFaultOfFiles, IsFileText, IsFirstOf, IsRefusalOf, IsSecondOf, IsTextOfWord, IsWorkOf, NamesNoFile, file_fault_of, is_first_text, is_registry_text};
+ghost use Rattle.bcs_tool_command_line.specs.Files.{IsFaultOfFiles, IsFileText, IsFirstOf, IsRefusalOf, IsSecondOf, IsTextOfWord, IsWorkOf, NamesNoFile, file_fault_of, has_first_value, is_first_text, is_registry_text};
 
 use crate::files::input_files::InputFiles;
 use bcs_io::{ByteSource, ReadSource, TakeFault, take_all};
@@ -126,14 +126,14 @@ fn read_second<R: InputFiles + AllocGlobal>(
 ) -> Result<Vec<u8>, UnreadFile>
     ensures text { IfOk result (λ v. IsSecondOf R.File.remaining command word.now v.items) }
     ensures fault { IfErr result (λ e. IsFaultOfFiles R.File.remaining (file_fault_of e)) }
-    ensures good { command ≢ Command.Same → (command ≡ Command.Grows → is_registry_text word.now ≡ true)
+    ensures good { has_first_value command ≡ false → (command ≡ Command.Grows → is_registry_text word.now ≡ true)
         → IsOkUnless result (UnreadFile.ReadFailed TakeFault.OutOfMemory) }
     ensures named { IfErr result (λ e. e ≢ UnreadFile.ReadFailed TakeFault.OutOfMemory
-        → (command ≡ Command.Same) ⊎ ((command ≡ Command.Grows) × (is_registry_text word.now ≡ false))) }
+        → (has_first_value command ≡ true) ⊎ ((command ≡ Command.Grows) × (is_registry_text word.now ≡ false))) }
 {
     match command {
         Command::Grows => read_registry(rt, word),
-        Command::Same => read_file(rt, word),
+        Command::Same | Command::Diff => read_file(rt, word),
         _ => Ok(Vec::new(rt.alloc())),
     }
 }

@@ -5,7 +5,7 @@ ghost use Rattle.bcs_tool.specs.Endings.{IsUnread, Performs};
 use crate::console::entry::BLOCK;
 use crate::files::input_files::InputFiles;
 use crate::files::reading::read_work;
-use crate::jobs::running::{failed, run_from};
+use crate::jobs::running::{failed, outcome_of, validate_and_answer};
 use bcs_io::{ByteSink, ByteSource, ReadSource, TakeFault};
 use bcs_tool_command_line::{
     FileCause, FileFault, Job, Origin, Outcome, UnreadFile, place_of_file,
@@ -32,17 +32,15 @@ pub(crate) fn open_and_run<R: InputFiles + AllocGlobal, S: ByteSource, O: ByteSi
         }
     };
     let Some(name) = file else {
-        return run_from(alloc, &work, Origin::StandardInput, input, out);
+        let ended = validate_and_answer(alloc, &work, input, out);
+        return outcome_of(alloc, &work, ended, Origin::StandardInput);
     };
     let name = name.as_str();
     match open_input(rt, name) {
-        Ok(reader) => run_from(
-            alloc,
-            &work,
-            Origin::File(name),
-            &mut ReadSource::new(reader),
-            out,
-        ),
+        Ok(reader) => {
+            let ended = validate_and_answer(alloc, &work, &mut ReadSource::new(reader), out);
+            outcome_of(alloc, &work, ended, Origin::File(name))
+        }
         Err(reason) => unread(alloc, work.options.quiet, reason, name),
     }
 }

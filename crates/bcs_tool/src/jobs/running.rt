@@ -16,8 +16,8 @@ use bcs_tool_command_line::{Origin, Outcome, Work};
 use std::alloc::Global;
 
 /// Writes the answer to a job and its input; or, with `--lines`, the answer to each line of it. An answer is complete before
-/// its first byte is written, and written before the next line is read. The input is read only if the job has one and its
-/// arguments are accepted.
+/// its first byte is written. The answers to all lines that were read are written before more is read. The input is read only
+/// if the job has one and its arguments are accepted.
 pub fn run<S: ByteSource, K: ByteSink>(
     alloc: Global,
     work: &Work,
@@ -46,8 +46,8 @@ pub fn run_from<S: ByteSource, K: ByteSink>(
     outcome_of(alloc, work, ended, origin)
 }
 
-// The outcome of a run on an input of this origin: its own, or where it was interrupted.
-fn outcome_of(
+/// The outcome of a run on an input of this origin: its own, or where it was interrupted.
+pub(crate) fn outcome_of(
     alloc: Global,
     work: &Work,
     ended: Result<Outcome, Interruption>,
@@ -77,8 +77,8 @@ pub fn failed(note: &'static str, place: Vec<u8>) -> Outcome
     }
 }
 
-// Validates the arguments of the job, and then answers its input, or each line of it.
-fn validate_and_answer<S: ByteSource, K: ByteSink>(
+/// Validates the arguments of the job, and then answers its input, or each line of it.
+pub(crate) fn validate_and_answer<S: ByteSource, K: ByteSink>(
     alloc: Global,
     work: &Work,
     input: &mut S,

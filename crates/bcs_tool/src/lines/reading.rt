@@ -1,8 +1,9 @@
 //! The next line of an input.
-ghost use Rattle.bcs_tool.specs.Lines.{ReadsLine};
+ghost use Rattle.bcs_tool.specs.Lines.{ReadsLine, TakesHeld};
 
 use crate::jobs::interruption::Interruption;
 use crate::jobs::run_fault::RunFault;
+use crate::lines::no_source::NoSource;
 use bcs_io::{ByteSource, LineBuffer};
 use bcs_tool_command_line::limits::SIZE_LIMIT;
 
@@ -21,5 +22,15 @@ pub fn read_line<S: ByteSource>(
             fault: RunFault::of_next(fault),
             answered,
         }),
+    }
+}
+
+/// Makes the next line the current one if all of it was already read, and returns whether that is so. It reads nothing.
+pub fn take_held_line(buffer: &mut LineBuffer) -> bool
+    ensures { TakesHeld buffer.old buffer.new result }
+{
+    match buffer.advance(&mut NoSource, SIZE_LIMIT) {
+        Ok(has_line) => has_line,
+        Err(_) => false,
     }
 }

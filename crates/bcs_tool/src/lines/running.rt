@@ -1,17 +1,16 @@
 //! The lines of an input, each of which is answered by itself.
-ghost use Rattle.std.specs.Prelude.{◌≡◌, ◌≤◌, length, true};
+ghost use Rattle.std.specs.Prelude.{◌≡◌, true};
 ghost use Rattle.bcs_tool.specs.Lines.{EndsLines};
-ghost use Rattle.bcs_tool.specs.Running.{Ends, PutsLine};
+ghost use Rattle.bcs_tool.specs.Running.{Ends};
 ghost use Rattle.bcs_tool_answers.specs.Preparing.{IsAskedBy};
-ghost use Rattle.bcs_tool_command_line.specs.Files.{size_limit};
 
 use crate::jobs::interruption::Interruption;
 use crate::jobs::places::place_of_tally;
-use crate::jobs::run_fault::RunFault;
+use crate::lines::block::answer_block;
 use crate::lines::reading::read_line;
 use crate::lines::tally::Tally;
-use bcs_io::{ByteSink, ByteSource, LineBuffer, TakeFault, put_all};
-use bcs_tool_answers::{Asked, answer_line};
+use bcs_io::{ByteSink, ByteSource, LineBuffer};
+use bcs_tool_answers::Asked;
 use bcs_tool_command_line::{Outcome, Work};
 use std::alloc::Global;
 
@@ -36,7 +35,7 @@ pub fn answer_lines<S: ByteSource, K: ByteSink>(
     })
 }
 
-// Reads line after line, and writes the answer to each before it reads the next one.
+// Reads line after line, and writes the answers to all lines that were read before it reads more.
 fn answer_each_line<S: ByteSource, K: ByteSink>(
     alloc: Global,
     work: &Work,
@@ -55,35 +54,6 @@ fn answer_each_line<S: ByteSource, K: ByteSink>(
         if !read_line(&mut buffer, input, tally.answered)? {
             return Ok(tally);
         }
-        match put_answer_of_line(alloc, work, asked, buffer.line(), out) {
-            Ok(status) => tally = tally.with(status),
-            Err(fault) => {
-                return Err(Interruption {
-                    fault,
-                    answered: tally.answered,
-                });
-            }
-        }
-    }
-}
-
-// Writes the answer to one line, and returns its status. Its place isn't reported.
-fn put_answer_of_line<K: ByteSink>(
-    alloc: Global,
-    work: &Work,
-    asked: &Asked,
-    line: &[u8],
-    out: &mut K,
-) -> Result<u8, RunFault>
-    requires asked { IsAskedBy work.now asked.now }
-    requires within { length line.now ≤ size_limit }
-    ensures { PutsLine K.taken K.is_failed work.now line.now out.old out.new result }
-{
-    let Ok(answer) = answer_line(alloc, work, asked, line) else {
-        return Err(RunFault::Take(TakeFault::OutOfMemory));
-    };
-    match put_all(answer.output.as_slice(), out) {
-        Ok(()) => Ok(answer.status),
-        Err(_) => Err(RunFault::Write),
+        tally = answer_block(alloc, work, asked, &mut buffer, tally, out)?;
     }
 }

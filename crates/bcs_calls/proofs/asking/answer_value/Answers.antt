@@ -1,4 +1,5 @@
-use Rattle.bcs_calls.proofs.Prelude.{rules}
+use Rattle.std.proofs.lemmas.Option.{IfSome_then}
+use Rattle.bcs_calls.proofs.Prelude.{inl, inr, rules}
 use Rattle.bcs_calls.specs.Asking.{On}
 use Rattle.bcs_calls.specs.Scanned.{AnswersScan}
 use Rattle.bcs_calls.proofs.Calls.{value_said}
@@ -39,3 +40,11 @@ returns-in-TextRefusal-clause-answers c = value_said c.args.asked.now c.args.que
 
 pub returns-in-StopRefusal-clause-answers : goal.returns-in-StopRefusal-clause-answers
 returns-in-StopRefusal-clause-answers c = value_said c.args.asked.now c.args.question.now c.args.out.now _ c.told_stop.result c.args.call StopRefusal c.in-StopRefusal.is c.told_stop.ensures.answers
+
+-- ---- the refusal of one document
+
+pub returns-in-ToBcs-clause-kept : goal.returns-in-ToBcs-clause-kept
+returns-in-ToBcs-clause-kept c none = IfSome_then c.text_bytes.new.kept (c.text_bytes.ensures.kept none) (λ refusal refused. (inl c.in-ToBcs.is, refused))
+
+pub returns-in-Normalise-clause-kept : goal.returns-in-Normalise-clause-kept
+returns-in-Normalise-clause-kept c none = IfSome_then c.normal_text.new.kept (c.normal_text.ensures.kept none) (λ refusal refused. (inr c.in-Normalise.is, refused))

@@ -1,4 +1,5 @@
 use Rattle.bcs_calls.proofs.Prelude.{List, ℕ, subst, string_bytes, shape_of, Normalises, put, Puts}
+use Rattle.bcs_json_spec.proofs.TextOutcomes.{memory_alone}
 use Rattle.bcs_calls.proofs.Refusals.{text_refused}
 use Rattle.bcs_calls.proofs.texts.normal_text.Goals as goal
 
@@ -11,5 +12,6 @@ pub returns-in-Err-clause-answers : goal.returns-in-Err-clause-answers
 returns-in-Err-clause-answers c =
     let asked = c.args.asked.now in
     let s = shape_of asked.format.now in
+    let fault = c.in-Err.ensures.refused.0 in
     text_refused asked.registry.now asked.limits s (Normalises asked.registry.now asked.limits s c.args.text.now) c.args.text.now c.args.out.now c.args.out.now
-    c.in-Err.fault c.text_refusal.result c.in-Err.ensures.fault c.in-Err.ensures.memory c.text_refusal.ensures.memory c.text_refusal.ensures.refusal
+    c.in-Err.refusal.fault c.keep.result fault (memory_alone asked.registry.now asked.limits s c.args.text.now c.in-Err.refusal.fault fault) c.keep.ensures.memory c.keep.ensures.refusal

@@ -10,7 +10,7 @@ returns c =
       registry = c.in_ok-text_of.ensures ∙ ap text_or_empty c.registry_of.ensures;
       second = c.in_ok-text_of-2.ensures ∙ ap text_or_empty (either c.get_str.result c.get_str-2.result c.or.result _ _ c.or.ensures (c.get_str.ensures ∙ first_value-rows f (codes "NEW"))
           (c.get_str-2.ensures ∙ first_value-rows f (codes "A")));
-      format = c.in_ok-text_of-3.ensures ∙ ap text_or_empty (c.get_str-3.ensures ∙ first_value-rows f (codes "FORMAT"));
+      format = c.in_ok-text_of-3.ensures ∙ ap text_or_empty c.format_of.ensures;
       path = c.in_ok-text_of-4.ensures ∙ ap text_or_empty c.path_of.ensures;
       file = c.in_ok-given_name.ensures ∙ c.file_of.ensures;
       raw = c.is_set.ensures;

@@ -24,17 +24,29 @@ returns-in-Err g c =
 -- standard input
 pub returns-in_default : goal.returns-in_default
 returns-in_default g c =
-    has_files c.in-Ok.read.0 c.in-Ok.ensures.work (over_input (sym c.in-Ok.ensures.file ∙ c.in_default.is) c.run_from.ensures)
+    has_files c.in-Ok.read.0 c.in-Ok.ensures.work
+    (over_input (sym c.in-Ok.ensures.file ∙ c.in_default.is) (record {
+      result = c.validate_and_answer-ended.result;
+      ends = c.validate_and_answer-ended.ensures.ends;
+      is = c.outcome_of.ensures;
+      untouched = c.validate_and_answer-ended.ensures.untouched;
+    }))
 
 -- a file
 pub returns-in-Ok-open_input : goal.returns-in-Ok-open_input
 returns-in-Ok-open_input g c =
     let work = c.in-Ok.read.0 in
-    let run = c.run_from-in-Ok-open_input in
+    let run = c.validate_and_answer-ended-in-Ok-open_input in
+    let outcome = c.outcome_of-in-Ok-open_input in
     let P : List ℕ → Type 0 = λ text. Runs (λ s. reader_remaining g.R.File.Read.remaining (reader_of s)) failed allowance_of g.O.ByteSink.taken g.O.ByteSink.is_failed
-    work (file_text text) c.new.result run.new.input c.args.out.now run.new.out run.result in
+    work (file_text text) c.new.result run.new.input c.args.out.now run.new.out outcome.result in
     has_files work c.in-Ok.ensures.work
-    (over_file c.in-Some.name c.new.result run.new.input (sym c.in-Ok.ensures.file ∙ c.in-Some.is) (subst P c.as_str-name.ensures.value run.ensures) refl)
+    (over_file c.in-Some.name c.new.result run.new.input (sym c.in-Ok.ensures.file ∙ c.in-Some.is) (subst P c.as_str-name.ensures.value (record {
+      result = run.result;
+      ends = run.ensures.ends;
+      is = outcome.ensures;
+      untouched = run.ensures.untouched;
+    })) refl)
 
 -- a file that couldn't be opened, or a block of it couldn't be allocated
 pub returns : goal.returns
