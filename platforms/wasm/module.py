@@ -1,10 +1,10 @@
 #!/usr/bin/env python3
-"""bindings/web/module.py FOLDER: makes the proved code as WebAssembly.
+"""platforms/wasm/module.py FOLDER: makes the proved code as WebAssembly.
 
 FOLDER/bcs64.wasm has the proved calls, in a memory with 64-bit addresses. bcs.wasm has them in a memory with 32-bit
-addresses, for engines that know no other. bcs_scalar.wasm is the same without vectors: bindings/portable translates
+addresses, for engines that know no other. bcs_scalar.wasm is the same without vectors: platforms/portable translates
 it into C. bcs_program.wasm is the whole proved program `bcs`, with 32-bit addresses and without vectors. It imports
-the functions that bindings/hosts describes, and exports `main` and its memory.
+the functions that platforms/hosts describes, and exports `main` and its memory.
 
 The toolchain proves the static library crates/bcs_c and the program crates/bcs, and passes an LLVM module of each to
 clang, for x86-64. It makes none for WebAssembly, since code that allocates calls C. So this script keeps those LLVM
@@ -44,7 +44,7 @@ import toolchain  # noqa: E402 (the folder has to be known first)
 from module_rewriting import by_shuffles, by_whole_loads, with_plain_names  # noqa: E402
 from proved_code import make_below, make_module  # noqa: E402
 
-HEADER = HERE.parent / "c/proved.h"
+HEADER = HERE.parent.parent / "bindings/c/proved.h"
 # (When it optimizes, clang recognises a product of 128 bits in __multi3, and compiles it to a call of __multi3.)
 OWN_PARTS = {"heap_wasm64": "-O2", "wide_wasm64": "-O0"}
 FOR_THE_LOADER = ["take_memory", "give_memory"]

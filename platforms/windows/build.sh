@@ -1,5 +1,5 @@
 #!/bin/sh
-# bindings/windows/build.sh [--code FILE] [--program-code FILE] FOLDER: makes FOLDER/bcs.exe, the program for Windows on
+# platforms/windows/build.sh [--code FILE] [--program-code FILE] FOLDER: makes FOLDER/bcs.exe, the program for Windows on
 # x86-64, FOLDER/bcs.dll, the library of C, and FOLDER/bcs.lib, which you link with programs that use bcs.dll. The files are
 # the LLVM modules of the proved library and of the proved program, as `tools/proved_code.py` makes them with `--module` and
 # `--program-module`. A module that isn't named is made first. All tools are the toolchain's own, and no header or library of
@@ -21,7 +21,7 @@ while [ $# -gt 1 ]; do
     shift 2
 done
 if [ $# != 1 ] || [ "$1" != "${1#-}" ]; then
-    echo "Usage: bindings/windows/build.sh [--code FILE] [--program-code FILE] FOLDER" >&2
+    echo "Usage: platforms/windows/build.sh [--code FILE] [--program-code FILE] FOLDER" >&2
     exit 3
 fi
 mkdir -p "$1"

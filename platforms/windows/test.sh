@@ -1,7 +1,7 @@
 #!/bin/sh
 # Tests bcs.exe and bcs.dll with Debian's wine: what they import and export, all rows of tests/rows/bcs.rows, files and
 # streams, the tests of the library of C with its rows, and threads with small stacks. BCS_WINDOWS is the folder that
-# bindings/windows/build.sh made; without it, bindings/windows/out.
+# platforms/windows/build.sh made; without it, platforms/windows/out.
 set -eu
 unset CDPATH
 here=$(cd "$(dirname "$0")" && pwd)
@@ -22,7 +22,7 @@ if [ $# != 0 ]; then
     "$root/tests/debian.py" "$@" || fail "these packages can't be installed: $*"
 fi
 for name in bcs.exe bcs.dll bcs.lib; do
-    [ -e "$folder/$name" ] || fail "there is no $folder/$name: bindings/windows/build.sh makes it"
+    [ -e "$folder/$name" ] || fail "there is no $folder/$name: platforms/windows/build.sh makes it"
 done
 
 room=$(mktemp -d)

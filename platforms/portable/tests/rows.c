@@ -1,5 +1,5 @@
 /* rows TABLE COMMAND [WORD]...: asks the rows of a table of the program, which is started once for each, and compares its status,
-   its output and its standard error with the answers there. bindings/portable/flat_rows.py in the repository of bcs says what
+   its output and its standard error with the answers there. platforms/portable/flat_rows.py in the repository of bcs says what
    the table has. The last line says how many rows passed and failed. Where some failed, or none passed, the status is 1. */
 #define _GNU_SOURCE
 #define _DARWIN_C_SOURCE

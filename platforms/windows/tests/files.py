@@ -1,5 +1,5 @@
 #!/usr/bin/env python3
-"""bindings/windows/tests/files.py PROGRAM: asks the program about files with unusual names, and all kinds of bytes.
+"""platforms/windows/tests/files.py PROGRAM: asks the program about files with unusual names, and all kinds of bytes.
 
 PROGRAM runs bcs.exe under wine.
 """

@@ -1,5 +1,5 @@
 #!/usr/bin/env python3
-"""bindings/arm64/shims.py FOLDER: makes FOLDER/shims.c, a function for each proved call that returns an answer.
+"""platforms/arm64/shims.py FOLDER: makes FOLDER/shims.c, a function for each proved call that returns an answer.
 
 A call returns its answer of 24 bytes through a pointer. On x86-64 that pointer is the first parameter, as in the LLVM
 module. On arm64 it is in a register of its own. So each function here calls that of the module, and passes the answer's
@@ -10,7 +10,7 @@ import pathlib
 import re
 import sys
 
-HEADER = pathlib.Path(__file__).resolve().parent.parent / "c/proved.h"
+HEADER = pathlib.Path(__file__).resolve().parents[2] / "bindings/c/proved.h"
 
 
 def shim(name: str, parameters: str) -> str:

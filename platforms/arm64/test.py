@@ -1,5 +1,5 @@
 #!/usr/bin/env python3
-"""Tests what was built for arm64, in Debian's emulator: `bindings/arm64/test.py [PART]..`, by default all parts.
+"""Tests what was built for arm64, in Debian's emulator: `platforms/arm64/test.py [PART]..`, by default all parts.
 
 Prints a line for each thing that passes. The parts are:
 
@@ -10,7 +10,7 @@ Prints a line for each thing that passes. The parts are:
     java       a wallet and the rows in Debian's Java for arm64, with the jar that has the libraries for both processors
     stack      deep values of every kind on threads of all sizes; it takes the longest, and the gate leaves it out
 
-BCS_ARM64 is the folder with bcs, libbcs.a and libbcs.so (default: bindings/arm64/out). The part java also
+BCS_ARM64 is the folder with bcs, libbcs.a and libbcs.so (default: platforms/arm64/out). The part java also
 needs a library for x86-64: in BCS_PREFIX, or bindings/c/out, as bindings/c/build.sh installs it.
 """
 
@@ -66,7 +66,7 @@ def main(parts: list[str]) -> None:
     debian.install(NEEDED)
     for name in "bcs", "libbcs.a", "libbcs.so":
         if not (built / name).exists():
-            fail(f"there is no {built / name}: bindings/arm64/build.sh makes it")
+            fail(f"there is no {built / name}: platforms/arm64/build.sh makes it")
     # So that the folder is removed then, too.
     signal.signal(signal.SIGTERM, lambda *_: sys.exit(143))
     room = pathlib.Path(tempfile.mkdtemp())

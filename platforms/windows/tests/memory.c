@@ -1,7 +1,7 @@
 /* tests/memory.c of the library of C over bcs.dll as it is: the addresses of malloc, realloc and free that it imports are replaced
    by those of functions that refuse each request in turn. */
 #define main sweep_all
-#include "../../c/tests/memory.c"
+#include "../../../bindings/c/tests/memory.c"
 #undef main
 #include <malloc.h>
 

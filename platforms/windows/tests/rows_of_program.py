@@ -1,5 +1,5 @@
 #!/usr/bin/env python3
-"""bindings/windows/tests/rows_of_program.py PROGRAM: asks all rows of tests/rows/bcs.rows of the program.
+"""platforms/windows/tests/rows_of_program.py PROGRAM: asks all rows of tests/rows/bcs.rows of the program.
 
 Those that rows_apart lists must fail, and all others must hold. tests/rows/program.py runs the program for each row.
 Several processes ask a part of the rows each.

@@ -1,4 +1,4 @@
-"""What bindings/web/module.py changes between clang's steps: names, or instructions for others of the same meaning."""
+"""What module.py changes between clang's steps: names, or instructions for others of the same meaning."""
 
 import re
 

@@ -1,5 +1,5 @@
 #!/usr/bin/env python3
-"""bindings/hosts/tests/imports.py DIST: compares the functions that bindings/hosts lists with what files import.
+"""platforms/hosts/tests/imports.py DIST: compares the functions that platforms/hosts lists with what files import.
 
 DIST is a folder like dist/. Its modules, programs and libraries have to import exactly these functions.
 """
@@ -48,11 +48,11 @@ def printed(*command: str | pathlib.Path) -> str:
 
 
 def listed(heading: str) -> list[str]:
-    """The functions in the first column of the table below a heading of docs/PLATFORMS.md."""
-    page = (HERE.parents[1] / "docs/PLATFORMS.md").read_text(encoding="utf-8")
-    section = re.search(rf"^### {heading}$(.*?)(?=^##|\Z)", page, re.MULTILINE | re.DOTALL)
+    """The functions in the first column of the table below a heading of platforms/hosts/README.md."""
+    page = (HERE / "README.md").read_text(encoding="utf-8")
+    section = re.search(rf"^## {heading}$(.*?)(?=^##|\Z)", page, re.MULTILINE | re.DOTALL)
     if not section:
-        fail(f"docs/PLATFORMS.md has no heading {heading}")
+        fail(f"README.md has no heading {heading}")
     cells = re.findall(r"^(\| `[^|]*\|)", section[1], re.MULTILINE)
     return sorted(name for cell in cells for name in re.findall(r"`([a-z_]*)\(", cell))
 
@@ -87,7 +87,7 @@ def same(name: str, expected: Iterable[str], found: Iterable[str]) -> None:
 
 def check_modules(web: pathlib.Path, program: list[str]) -> None:
     same(
-        "docs/PLATFORMS.md and the file functions",
+        "README.md and the file functions",
         (HERE / "functions").read_text(encoding="utf-8").splitlines(),
         program,
     )

@@ -1,4 +1,4 @@
-/* The functions that docs/PLATFORMS.md lists, on Windows, and where bcs.exe begins. They are made of the functions of
+/* The functions that platforms/hosts/README.md lists, on Windows, and where bcs.exe begins. They are made of the functions of
    KERNEL32.dll and msvcrt.dll that imports/ lists. */
 #include "windows.h"
 #include "../hosts/descriptor.h"

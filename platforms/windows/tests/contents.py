@@ -1,5 +1,5 @@
 #!/usr/bin/env python3
-"""bindings/windows/tests/contents.py FOLDER: checks what bcs.exe, bcs.dll and bcs.lib in the folder export and import.
+"""platforms/windows/tests/contents.py FOLDER: checks what bcs.exe, bcs.dll and bcs.lib in the folder export and import.
 
 Also that each stack frame of a page or more is probed, and that the files say of each function how to leave it.
 """
@@ -12,7 +12,7 @@ import subprocess
 import sys
 
 HERE = pathlib.Path(__file__).resolve().parent
-HEADER = HERE.parents[1] / "c/include/bcs.h"
+HEADER = HERE.parents[2] / "bindings/c/include/bcs.h"
 PROGRAMS = ["bcs.exe", "bcs.dll"]
 # A frame that isn't probed is made in one step.
 LARGE_STEP = re.compile(r"sub +\$0x[0-9a-f]{4,},%rsp")

@@ -9,7 +9,7 @@ import sys
 import tempfile
 
 HERE = pathlib.Path(__file__).resolve().parent
-C = HERE.parent / "c"
+C = HERE.parent.parent / "bindings/c"
 # The version of Debian 12. The edits below don't fit the output of another one.
 WASM2C = "1.0.32"
 

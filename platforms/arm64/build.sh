@@ -1,5 +1,5 @@
 #!/bin/sh
-# bindings/arm64/build.sh [--code FILE] [--program-code FILE] FOLDER: makes the program bcs and the C libraries libbcs.a and
+# platforms/arm64/build.sh [--code FILE] [--program-code FILE] FOLDER: makes the program bcs and the C libraries libbcs.a and
 # libbcs.so in FOLDER, for Linux on arm64. The files are the LLVM modules of the proved code of the library and of
 # the program, as `tools/proved_code.py` makes them with `--module` and `--program-module`. If you don't name one, that is done
 # first. All tools come from the toolchain, and no header, start file or library comes from the machine, so the files are the
@@ -11,7 +11,7 @@ root=$(cd "$here/../.." && pwd)
 target=aarch64-unknown-linux-gnu
 
 usage() {
-    echo "Usage: bindings/arm64/build.sh [--code FILE] [--program-code FILE] FOLDER" >&2
+    echo "Usage: platforms/arm64/build.sh [--code FILE] [--program-code FILE] FOLDER" >&2
     exit 3
 }
 
@@ -122,7 +122,7 @@ if [ -z "$program_module" ]; then
     "$root/tools/proved_code.py" --program-module "$program_module"
 fi
 compile_c "$here/start.c"
-compile_c "$root/bindings/hosts/linux.c"
+compile_c "$root/platforms/hosts/linux.c"
 compile_c "$root/tools/link/program_heap.c"
 compile_c "$root/tools/link/statx.c"
 compile_c "$root/tools/link/calls.c"

@@ -1,5 +1,5 @@
 #!/bin/sh
-# bindings/arm64/tests/debian.sh FOLDER PACKAGE..: unpacks these packages of Debian 12 for arm64, and everything that they depend
+# platforms/arm64/tests/debian.sh FOLDER PACKAGE..: unpacks these packages of Debian 12 for arm64, and everything that they depend
 # on, into FOLDER. Nothing is installed. The packages stay in ${XDG_CACHE_HOME:-/var/cache}/bcs for the next time.
 set -eu
 folder=$1

@@ -1,5 +1,5 @@
-/* The host of the program, which provides the functions that bindings/hosts describes: a part of bcs.c, after the translated
-   code and bindings/hosts/descriptor.h. It is for any system with POSIX.
+/* The host of the program, which provides the functions that platforms/hosts describes: a part of bcs.c, after the translated
+   code and platforms/hosts/descriptor.h. It is for any system with POSIX.
 
    The program runs on a thread of its own, whose stack is large enough for all limits on depth. If the code traps, it ends
    with `fault: memory` and the status 4. */
@@ -231,7 +231,7 @@ static int describe(u32 file, const char *name, u32 flags, struct stat *its) {
     return 0;
 }
 
-/* Stores what a file is as bindings/hosts/statx.h has it. */
+/* Stores what a file is as platforms/hosts/statx.h has it. */
 static u32 Z_envZ_statx(HOST, u32 file, u64 path, u32 flags, u32 mask, u64 found) {
     struct stat its;
     (void)host, (void)mask;
