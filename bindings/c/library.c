@@ -341,6 +341,7 @@ static const struct rule rules[] = {
     [BCS_STOP_REFUSAL] = {.kind = ON_HANDLE, .before = BCS_SCAN},
     [BCS_SCHEMA] = {.kind = ON_HANDLE},
     [BCS_EXAMPLE] = {.kind = ON_HANDLE, .is_of_depth = true},
+    [BCS_CANDIDATES] = {.kind = ON_HANDLE, .is_of_depth = true},
     [BCS_SHOW] = {.kind = ON_HANDLE},
     [BCS_FORMAT_PLACE] = {.kind = ON_JSON, .reads_format = true, .reads_first = true, .stack = FIXED},
     [BCS_GROWS] = {.kind = WITHOUT_HANDLE, .reads_first = true, .reads_second = true, .stack = FIXED},

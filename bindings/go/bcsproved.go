@@ -19,7 +19,7 @@ import (
 
 // Limits restrict the values that a call accepts.
 type Limits struct {
-	Depth uint32 // how many containers may be open at once, at most 500
+	Depth uint32 // how deeply containers may nest, at most 500
 	Nodes uint32 // how many nodes a value may have
 }
 
@@ -226,6 +226,17 @@ func (r *Registry) Scan(format string, data []byte) (int, error) {
 	return q.scan(data)
 }
 
+// Which returns the containers that data is exactly one value of, the likeliest first: their names, as `bcs which` prints them.
+func (r *Registry) Which(data []byte) ([]string, error) {
+	q, err := r.askAbout(`"UNIT"`, data)
+	if err != nil {
+		return nil, err
+	}
+	defer q.end()
+	out, answer := q.output(q.about(C.BCS_CANDIDATES, data, nil), 1024)
+	return lines(out), q.refusal(answer, KindBytes)
+}
+
 func (q *question) scan(data []byte) (int, error) {
 	answer := q.ask(q.about(C.BCS_SCAN, data, nil), nil)
 	if err := q.refusal(answer, KindBytes); err != nil {
@@ -363,6 +374,11 @@ func Grows(older, newer []byte) error {
 	}
 }
 
+// lines returns the lines of a text.
+func lines(text []byte) []string {
+	return strings.FieldsFunc(string(text), func(r rune) bool { return r == '\n' })
+}
+
 // Differences returns all differences between two registries, one per line, as `bcs grows --list` prints them.
 func Differences(older, newer []byte) ([]string, error) {
 	if !isSupported {
@@ -371,7 +387,7 @@ func Differences(older, newer []byte) ([]string, error) {
 	out, answer := new(question).output(plain(C.BCS_GROWTH_LIST, older, newer), 4096)
 	switch answer.status {
 	case C.BCS_DONE:
-		return strings.FieldsFunc(string(out), func(r rune) bool { return r == '\n' }), nil
+		return lines(out), nil
 	case C.BCS_NEWER:
 		return nil, refusalOfRegistry(answer.status, answer.fault, KindNewer, newer)
 	default:

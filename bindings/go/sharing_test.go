@@ -27,34 +27,6 @@ func pages(t testing.TB, field int) int {
 	return count
 }
 
-func TestSharing(t *testing.T) {
-	registry := open(t, string(example(t, "aptos_registry.json")))
-	json, data := example(t, "aptos_transfer.json"), unhex(t, string(example(t, "aptos_transfer.hex")))
-	var group sync.WaitGroup
-	for goroutine := 0; goroutine < 48; goroutine++ {
-		group.Add(1)
-		go func() {
-			defer group.Done()
-			for round := 0; round < 50; round++ {
-				coded, err := registry.EncodeJSON("RawTransaction", json)
-				if err != nil || !bytes.Equal(coded, data) {
-					t.Errorf("%x, %v", coded, err)
-					return
-				}
-				if length, err := registry.WithLimits(Limits{500, 1000}).Scan("RawTransaction", data); length != len(data) || err != nil {
-					t.Errorf("%d, %v", length, err)
-					return
-				}
-				if _, err := registry.DecodeJSON("RawTransaction", data[:100]); err == nil || err.(*Error).Reason != "EndOfInput" {
-					t.Error(err)
-					return
-				}
-			}
-		}()
-	}
-	group.Wait()
-}
-
 // Each call succeeds, or finds the registry closed.
 func TestClosingDuringCalls(t *testing.T) {
 	for round := 0; round < 50; round++ {

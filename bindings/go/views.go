@@ -20,7 +20,7 @@ type Views struct {
 type Inside struct{ Name, Format string }
 
 // Call explains the elements of the list with this name as the arguments of a function, in a registry that [RegistryOfModules] made
-// for it.
+// for it. An empty Function is the one that is called.
 type Call struct{ Name, Function string }
 
 // ExplainWith is Explain with views. Bytes in a byte string that aren't exactly one value are damage, at their place in data. So is a list

@@ -44,7 +44,7 @@ while [ $# -gt 0 ]; do
 done
 
 [ -e "$prefix/lib/libbcs.a" ] || fail "no library in $prefix: bindings/c/build.sh makes it"
-[ -z "$arm64" ] || [ -e "$arm64/libbcs.a" ] || fail "no library in $arm64: bindings/arm64/build.sh makes it"
+[ -z "$arm64" ] || [ -e "$arm64/libbcs.a" ] || fail "no library in $arm64: platforms/arm64/build.sh makes it"
 home=${JAVA_HOME:-}
 if [ -z "$home" ]; then
     compiler=$(command -v javac) || fail "command not found: javac; on Debian: apt-get install openjdk-17-jdk-headless"

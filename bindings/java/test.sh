@@ -65,9 +65,9 @@ passes() {
     echo "java: $(cat "$room/log")"
 }
 passes "the tests" env MALLOC_PERTURB_=165 "$@" -Xmx64m Tests "$root/examples"
-passes "the table of values" "$@" ValueTable
 passes "values as types" "$@" ValueTypes "$root/examples"
 passes "values without end" env MALLOC_PERTURB_=165 "$@" -Xmx400m ValueCosts
+passes "values on threads" env MALLOC_PERTURB_=165 "$@" Threads
 registries=$((${ROUNDS:-40} * 25 / 2))
 "$root/tests/rows/random_values.py" "$registries" >"$room/values" || fail "random values"
 passes "random values" "$@" RandomValues "$room/values" $((20 * registries))

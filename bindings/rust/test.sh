@@ -60,7 +60,7 @@ test_transfer() {
 }
 
 ask_rows() {
-    step cargo build --quiet --release --example rows
+    step cargo build --quiet --release --all-features --example rows
     step python3 ../../tests/rows rust "${CARGO_TARGET_DIR:-target}/release/examples/rows"
 }
 

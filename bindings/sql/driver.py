@@ -28,7 +28,7 @@ class Answered(Exception):
 MEMBERS = {"refused": "refused", "place": "place", "at": "name"}
 # How the message of bcs_fault goes on behind what was expected.
 FOUND = (", ", "; ", " in UTF-8, ")
-# What bcs_explain calls the numbers before others, as in docs/PROGRAM.md. Messages have an article before them.
+# What bcs_explain calls the numbers before others, as in docs/EXPLAIN.md. Messages have an article before them.
 NUMBERS = ("length of ", "number of a variant")
 # The whole message where bcs_explain expects no value of the format.
 NO_VALUE = "BCS has no F32, F64 or CHAR; this format can't have a value"

@@ -258,7 +258,7 @@ static inline bcs_answer tell_format(const struct refused *refused, uint8_t *out
 
 static inline bcs_answer tell_path(const struct refused *refused, uint8_t *out, size_t room) {
     if (refused->view.number != 0) {
-        return tell_words("expected inside NAME=FORMAT, call NAME=FUNCTION, address NAME, u256 NAME or i256 NAME", out, room);
+        return tell_words("expected inside NAME=FORMAT, call NAME[=FUNCTION], address NAME, u256 NAME or i256 NAME", out, room);
     }
     switch (refused->notation) {
         case BCS_NAME:

@@ -1,7 +1,7 @@
 #!/bin/sh
 # bindings/web/build.sh [--code FILE] [--program-code FILE] FOLDER: makes everything that JavaScript needs in a folder:
 # bcs.wasm, bcs64.wasm and bcs_program.wasm; bcs.mjs with the modules that it imports, bcs.cjs, and the types of both; the page
-# bcs.html; and bcs_scalar.wasm.gz, from which bindings/portable makes C. The files are the LLVM modules of the proved library and
+# bcs.html; and bcs_scalar.wasm.gz, from which platforms/portable makes C. The files are the LLVM modules of the proved library and
 # of the proved program, as `tools/proved_code.py` makes them with `--module` and `--program-module`. A module that isn't named
 # is made first.
 set -eu
@@ -22,7 +22,7 @@ if [ $# != 1 ] || [ "$1" != "${1#-}" ]; then
     exit 3
 fi
 folder=$1
-"$here/module.py" ${code+--code "$code"} ${program_code+--program-code "$program_code"} "$folder"
+"$here/../../platforms/wasm/module.py" ${code+--code "$code"} ${program_code+--program-code "$program_code"} "$folder"
 gzip -9nf "$folder/bcs_scalar.wasm"
 for name in bcs own_module loader registry format_calls holder modules views refusals limits interruptions errors support question calls \
     writing reading json_output move_types shapes texts hex octets program host system types declarations identifiers; do

@@ -75,7 +75,7 @@ tsc --noEmit --strict --target es2022 --lib es2022 --module nodenext --moduleRes
     "$room/bare_types.cts" || fail "the declarations for TypeScript, without those of browsers"
 echo "web: the declarations for TypeScript accept right calls, and no wrong ones"
 "$here/tests/typed.sh" "$web" || fail "the types of registries' values"
-for name in loader values reentry question heap examples parts; do
+for name in loader values reentry question heap examples parts threads; do
     tested "$name" bcs.wasm node --expose-gc
 done
 

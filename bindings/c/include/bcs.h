@@ -25,7 +25,7 @@
 extern "C" {
 #endif
 
-/* The limits that most calls take. `depth`: how many containers may be open at once, at most BCS_DEPTH. `nodes`: how many
+/* The limits that most calls take. `depth`: how deeply containers may nest, at most BCS_DEPTH. `nodes`: how many
    nodes a value may have. BCS_NODES doesn't restrict it; bcs_handle_nodes_for returns a better limit for bytes from strangers. */
 #define BCS_DEPTH 500
 #define BCS_NODES UINT32_MAX
@@ -184,6 +184,7 @@ enum bcs_call {
     BCS_STOP_REFUSAL = 12, /* first: bytes */
     BCS_SCHEMA = 13,
     BCS_EXAMPLE = 14,      /* second: the name of a variant, or empty; number: enum bcs_example */
+    BCS_CANDIDATES = 15,   /* first: bytes; number: enum bcs_form */
     /* about a registry: on a handle */
     BCS_SHOW = 20,         /* second: the name of a container, or empty; number: enum bcs_form */
     BCS_FORMAT_PLACE = 21, /* format */
@@ -208,7 +209,7 @@ typedef struct bcs_question {
     uint32_t call;          /* enum bcs_call; BCS_NO_CALL: the library has no call of this number */
     uint32_t number;        /* a form, a notation, or a fault */
     uint32_t second_number; /* no call reads it yet */
-    uint32_t depth;         /* how many containers may be open at once, at most BCS_DEPTH */
+    uint32_t depth;         /* how deeply containers may nest, at most BCS_DEPTH */
     uint32_t nodes;         /* how many nodes a value may have, for instance bcs_handle_nodes_for(handle, first_length) */
     const uint8_t *format;  /* JSON, as bcs_format writes it */
     size_t format_length;
@@ -367,13 +368,15 @@ static inline bcs_answer bcs_handle_stop_refusal(bcs_handle *handle, const uint8
 
        inside NAME=FORMAT     the byte string (BYTES, STR, or list or array of U8) at NAME is explained piece by piece, as FORMAT
        call NAME=FUNCTION     each byte string of the list at NAME is an argument of this function of a Move module
+       call NAME              the same, of the function that is called
        address NAME, u256 NAME, i256 NAME     values of the container NAME, which has 32 U8, are written as Move does
 
    They mean what the options of `bcs explain` mean. FORMAT is the name of a container or the JSON of a format. Empty lines are
    skipped, and a NAME that matches nothing changes nothing. BCS_PATH: a line isn't one of these. BCS_FORMAT: FORMAT is refused, or
    the registry doesn't have FUNCTION, or no container NAME of 32 U8. If a byte string isn't a value of its format, `fault` and
-   `place` report that stop; and so they do if another function is called than FUNCTION (BCS_PATH_OTHER_FUNCTION), or the list isn't
-   one of byte strings (BCS_PATH_BAD_PATH). The text then ends at that place, and its last line has both names.
+   `place` report that stop; and so they do if another function is called than FUNCTION, or one that the registry lacks
+   (BCS_PATH_OTHER_FUNCTION), or the list isn't one of byte strings (BCS_PATH_BAD_PATH). The text then ends at that place, and its
+   last line has the name of what is called.
 
    With a form such as BCS_JSON + BCS_NOTES, a line says which NAME matched nothing, and which FUNCTION wasn't compared with what is
    called: in JSON {"name":"NAME","note":"no list there"} before the last line, otherwise note: .. after it. */
@@ -402,6 +405,17 @@ static inline bcs_answer bcs_handle_example(bcs_handle *handle, const uint8_t *f
                                             uint8_t *out, size_t out_length) {
     const bcs_question question = {
         sizeof question, BCS_EXAMPLE, form, 0, depth, nodes, format, format_length, NULL, 0, variant, variant_length, NULL, 0};
+    return bcs_ask(handle, &question, out, out_length, NULL, 0);
+}
+
+/* The containers that the bytes are exactly one value of, the likeliest first, as `bcs which` prints them: a line for each, or no
+   output. `form` is BCS_JSON for the JSON objects of `bcs which --json`; any other number means names. It needs no format, so this
+   passes one that doesn't matter. */
+static inline bcs_answer bcs_handle_candidates(bcs_handle *handle, uint32_t depth, uint32_t nodes, uint32_t form,
+                                               const uint8_t *bytes, size_t bytes_length, uint8_t *out, size_t out_length) {
+    static const char unit[] = "\"UNIT\"";
+    const bcs_question question = {sizeof question, BCS_CANDIDATES, form, 0, depth, nodes, (const uint8_t *)unit, sizeof unit - 1,
+                                   bytes, bytes_length, NULL, 0, NULL, 0};
     return bcs_ask(handle, &question, out, out_length, NULL, 0);
 }
 

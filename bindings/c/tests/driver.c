@@ -30,6 +30,7 @@ static const struct call_word {
     {"stop_place", BCS_STOP_REFUSAL, 7},
     {"schema", BCS_SCHEMA, 5},
     {"example", BCS_EXAMPLE, 7},
+    {"which", BCS_CANDIDATES, 4},
     {"show", BCS_SHOW, 4},
     {"format_place", BCS_FORMAT_PLACE, 6},
     {"grows", BCS_GROWS, 3},
@@ -171,6 +172,14 @@ static struct line line_of(char *words[WORDS], size_t count) {
     case BCS_REGISTRY_REFUSAL:
         question->first = bytes_of(words[1]);
         line.what = NUMBER(words[2], what_words);
+        break;
+    case BCS_CANDIDATES:
+        question->registry = bytes_of(words[1]);
+        question->format = (struct slice)OF("\"UNIT\"");
+        question->depth = BCS_DEPTH;
+        question->nodes = BCS_NODES;
+        question->first = bytes_of(words[2]);
+        question->number = NUMBER(words[3], form_words);
         break;
     case BCS_SHOW:
         question->registry = bytes_of(words[1]);

@@ -143,6 +143,7 @@ static const struct {
     {"registry_refusal of one", {.call = BCS_REGISTRY_REFUSAL, .first = OF(REGISTRY)}, BCS_NO, ROOM},
     {"schema", {ON_VALUE(BCS_SCHEMA, "")}, BCS_DONE, ROOM},
     {"example", {ON_VALUE(BCS_EXAMPLE, ""), .number = BCS_FULL}, BCS_DONE, ROOM},
+    {"candidates", {ON_VALUE(BCS_CANDIDATES, DATA_OF_IT), .number = BCS_JSON}, BCS_DONE, ROOM},
     {"show", {.call = BCS_SHOW, .registry = OF(REGISTRY), .second = OF("B")}, BCS_DONE, ROOM},
     {"show, JSON", {.call = BCS_SHOW, .registry = OF(REGISTRY), .number = BCS_JSON}, BCS_DONE, ROOM},
     {"format_place", {.call = BCS_FORMAT_PLACE, .registry = OF(REGISTRY), .format = OF("{\"SEQ\":{\"TYPENAME\":\"C\"}}"), STANDARD},

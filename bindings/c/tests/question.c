@@ -66,7 +66,7 @@ static void sizes(void) {
 
 /* Whether a call has this number. */
 static bool is_call(uint32_t number) {
-    return (number >= BCS_CHECK && number <= BCS_EXAMPLE) || number == BCS_SHOW || number == BCS_FORMAT_PLACE ||
+    return (number >= BCS_CHECK && number <= BCS_CANDIDATES) || number == BCS_SHOW || number == BCS_FORMAT_PLACE ||
            (number >= BCS_GROWS && number <= BCS_FAULT_NAME);
 }
 

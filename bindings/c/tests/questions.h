@@ -86,6 +86,8 @@ static inline bcs_answer ask_by_name(bcs_handle *handle, const struct question *
     case BCS_STOP_REFUSAL: return bcs_handle_stop_refusal(ON_VALUES, PIECE(first), out, room);
     case BCS_SCHEMA: return bcs_handle_schema(ON_VALUES, out, room);
     case BCS_EXAMPLE: return bcs_handle_example(ON_VALUES, question->number, PIECE(second), out, room);
+    case BCS_CANDIDATES:
+        return bcs_handle_candidates(handle, question->depth, question->nodes, question->number, PIECE(first), out, room);
     case BCS_SHOW: return bcs_handle_show(handle, question->number, PIECE(second), out, room);
     case BCS_FORMAT_PLACE: return bcs_handle_format_place(handle, PIECE(question->format), out, room);
     case BCS_GROWS: return bcs_grows(PIECE(first), PIECE(second));

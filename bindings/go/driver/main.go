@@ -261,12 +261,23 @@ func decode(r *bcs.Registry, format string, data []byte) string {
 }
 
 func differences(older, newer []byte) string {
-	lines, err := bcs.Differences(older, newer)
+	return ofLines(bcs.Differences(older, newer))
+}
+
+func ofLines(lines []string, err error) string {
 	var text string
-	for _, difference := range lines {
-		text += difference + "\n"
+	for _, line := range lines {
+		text += line + "\n"
 	}
 	return output([]byte(text), err)
+}
+
+func which(words []string) string {
+	registry, err := open(words[1])
+	if err != nil {
+		return failed(err, "")
+	}
+	return ofLines(registry.Which(unhex(words[2])))
 }
 
 // growthPlace answers what is said about growth, or about a registry that is refused.
@@ -334,6 +345,10 @@ func answerOn(r *bcs.Registry, format string, words []string) string {
 		return stopPlace(r, format, first, words[6])
 	case "path_place":
 		return pathPlace(r, format, first, string(unhex(words[6])), words[7], words[8])
+	case "value":
+		return encoded(r, format, string(first))
+	case "typed":
+		return decodedAs(r, format, first, string(unhex(words[6])))
 	case "schema":
 		return output(r.Schema(format))
 	case "example":
@@ -381,6 +396,8 @@ func answer(words []string) string {
 		return growthPlace(unhex(words[1]), unhex(words[2]), words[3])
 	case "growth_list":
 		return differences(unhex(words[1]), unhex(words[2]))
+	case "which":
+		return which(words)
 	case "show":
 		return show(words)
 	case "registry_place":

@@ -1,8 +1,12 @@
 import bcsproved.BcsException;
 import bcsproved.BcsException.Kind;
+import java.lang.reflect.Array;
+import java.nio.ByteBuffer;
+import java.util.ArrayList;
 import java.util.HexFormat;
 import java.util.List;
 import java.util.Objects;
+import java.util.Optional;
 
 /** What the tests compare with. */
 class Check {
@@ -12,6 +16,26 @@ class Check {
 
     static byte[] unhex(String digits) {
         return HexFormat.of().parseHex(digits.strip());
+    }
+
+    static String shown(Object value) {
+        if (value instanceof ByteBuffer buffer) {
+            return "buffer " + HexFormat.of().formatHex(buffer.array());
+        }
+        if (value instanceof Samples.PayBean bean) {
+            return bean.getTitle();
+        }
+        if (value != null && value.getClass().isArray()) {
+            List<String> elements = new ArrayList<>();
+            for (int i = 0; i < Array.getLength(value); i++) {
+                elements.add(shown(Array.get(value, i)));
+            }
+            return value.getClass().componentType().getSimpleName() + elements;
+        }
+        if (value instanceof List<?> list) {
+            return list.stream().map(Check::shown).toList().toString();
+        }
+        return value instanceof Optional<?> option && option.isPresent() ? "some " + shown(option.get()) : String.valueOf(value);
     }
 
     static void equal(Object is, Object wanted) {

@@ -276,12 +276,30 @@ public final class Driver {
                 return stopPlace(registry, format, first, words[6]);
             case "path_place":
                 return pathPlace(registry, format, first, unicode(words[6]), words[7], words[8]);
+            case "value":
+                return ofValue(() -> output(ValueRows.encoded(registry, format, unicode(words[5]))));
+            case "typed":
+                return ofValue(() -> output(ValueRows.decoded(registry, format, first, unicode(words[6]))));
             case "schema":
                 return output(registry.schema(format));
             case "example":
                 return output(registry.example(format, unicode(words[5]), words[6].equals("full")));
             default:
                 throw new AssertionError("no such call: " + words[0]);
+        }
+    }
+
+    private interface Answering {
+        String call() throws BcsException, Unsayable;
+    }
+
+    /** The answer of a call on a value. A refusal has its pointer and its message. */
+    private static String ofValue(Answering call) throws BcsException, Unsayable {
+        try {
+            return call.call();
+        } catch (BcsException e) {
+            byte[] told = (e.at() + "\n" + e.message()).getBytes(StandardCharsets.UTF_8);
+            return line(e.kind().name().toLowerCase(Locale.ROOT), e.reason(), 0, told.length, told);
         }
     }
 
@@ -310,6 +328,8 @@ public final class Driver {
                 return output(Registry.differences(unhex(words[1]), unhex(words[2])).stream().map(it -> it + "\n").collect(joining()));
             case "growth_place":
                 return growthPlace(unhex(words[1]), unhex(words[2]), words[3]);
+            case "which":
+                return output(open(words[1]).which(unhex(words[2])).stream().map(it -> it + "\n").collect(joining()));
             case "show":
                 return output(open(words[1]).show(unicode(words[2]), form(words[3])));
             case "registry_place":

@@ -29,6 +29,8 @@ final class Samples {
 
     record Tagged(@Bcs("amount") int n, @Bcs("to") String whom) {}
 
+    record Swapped(@Bcs("amount") long to, @Bcs("to") String amount) {}
+
     record Fewer(String to) {}
 
     record More(String to, long amount, String memo) {}

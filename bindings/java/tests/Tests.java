@@ -229,7 +229,7 @@ public final class Tests extends Check {
     }
 
     /** Runs a task on each of many threads, and returns what they threw. */
-    private static void onThreads(int count, long stack, Test task) throws Exception {
+    static void onThreads(int count, long stack, Test task) throws Exception {
         List<Throwable> wrong = java.util.Collections.synchronizedList(new ArrayList<>());
         List<Thread> threads = new ArrayList<>();
         for (int number = 0; number < count; number++) {
@@ -248,20 +248,6 @@ public final class Tests extends Check {
         for (Throwable e : wrong) {
             throw new AssertionError(wrong.size() + " threads failed", e);
         }
-    }
-
-    private static void sharing() throws Exception {
-        Registry registry = Registry.open(Files.readString(examples.resolve("aptos_registry.json")));
-        String json = Files.readString(examples.resolve("aptos_transfer.json"));
-        byte[] data = unhex(Files.readString(examples.resolve("aptos_transfer.hex")));
-        onThreads(40, 0, () -> {
-            for (int round = 0; round < 50; round++) {
-                equal(Arrays.equals(registry.encodeJson("RawTransaction", json), data), true);
-                equal(registry.scan("RawTransaction", data), data.length);
-                refused(Kind.BYTES, "EndOfInput", 100, ".payload::EntryFunction.ty_args[0]::Struct.address",
-                        "expected 32 x U8, found the end of the input", () -> registry.decodeJson("RawTransaction", Arrays.copyOf(data, 100)));
-            }
-        });
     }
 
     /** The first buffer for a refusal is too short for these. */
@@ -398,7 +384,7 @@ public final class Tests extends Check {
         examples = Path.of(words[0]);
         List<Test> tests = words.length > 1 ? List.of(Tests::memory)
                 : List.of(Tests::numbers, Tests::strings, Tests::refusals, Tests::modules, Tests::views, Tests::contents, Tests::arguments,
-                        Tests::limits, Tests::sharing, Tests::longRefusals, Tests::closing, Tests::collecting, Tests::stacks);
+                        Tests::limits, Tests::longRefusals, Tests::closing, Tests::collecting, Tests::stacks);
         for (Test test : tests) {
             test.run();
         }

@@ -125,22 +125,6 @@ final class ValueCosts extends Check {
                 () -> refusing.encode("{\"MAP\":{\"KEY\":\"STR\",\"VALUE\":\"U8\"}}", doubled));
     }
 
-    private static void onThread(long stack, Check.Test test) throws Exception {
-        List<Throwable> wrong = new ArrayList<>();
-        Thread thread = new Thread(null, () -> {
-            try {
-                test.run();
-            } catch (Throwable e) {
-                wrong.add(e);
-            }
-        }, "task", stack);
-        thread.start();
-        thread.join();
-        if (!wrong.isEmpty()) {
-            throw new AssertionError(wrong.get(0));
-        }
-    }
-
     /** On a small stack a call succeeds, or is refused for it. */
     private static void stacks(Registry registry) throws Exception {
         String format = "{\"C\":{\"STRUCT\":[{\"n\":{\"OPTION\":{\"TYPENAME\":\"C\"}}}]}}";
@@ -155,7 +139,7 @@ final class ValueCosts extends Check {
         circle.put("n", Optional.of(circle));
         AtomicInteger refused = new AtomicInteger();
         for (long kibibytes : new long[] {144, 160, 192, 256, 512, 1024, 16 << 10}) {
-            onThread(kibibytes << 10, () -> {
+            Tests.onThreads(1, kibibytes << 10, () -> {
                 for (Check.Test test : List.<Check.Test>of(() -> chain.encode("C", deep), () -> chain.decode("C", data),
                         () -> chain.encode("C", circle))) {
                     try {
@@ -167,7 +151,7 @@ final class ValueCosts extends Check {
                 }
             });
         }
-        onThread(16 << 20, () -> equal(chain.decode("C", data), deep));
+        Tests.onThreads(1, 16 << 20, () -> equal(chain.decode("C", data), deep));
         equal(refused.get() > 0, true);
     }
 
@@ -175,23 +159,7 @@ final class ValueCosts extends Check {
     private static void sharing() throws Exception {
         for (int round = 0; round < 20; round++) {
             Registry registry = Registry.open(Samples.REGISTRY);
-            List<Thread> threads = new ArrayList<>();
-            AtomicInteger right = new AtomicInteger();
-            for (int i = 0; i < 16; i++) {
-                threads.add(new Thread(() -> {
-                    try {
-                        Object value = registry.decode("Tree", TREE, Tree.class);
-                        right.addAndGet(Arrays.equals(registry.encode("Tree", value), TREE) ? 1 : 0);
-                    } catch (BcsException e) {
-                        throw new AssertionError(e);
-                    }
-                }));
-            }
-            threads.forEach(Thread::start);
-            for (Thread thread : threads) {
-                thread.join();
-            }
-            equal(right.get(), 16);
+            Tests.onThreads(16, 0, () -> equal(Arrays.equals(registry.encode("Tree", registry.decode("Tree", TREE, Tree.class)), TREE), true));
         }
     }
 

@@ -8,14 +8,11 @@ import bcsproved.Prefix;
 import bcsproved.Registry;
 import bcsproved.Unit;
 import bcsproved.Variant;
-import java.lang.reflect.Array;
 import java.math.BigInteger;
-import java.nio.ByteBuffer;
 import java.nio.file.Files;
 import java.nio.file.Path;
 import java.util.ArrayList;
 import java.util.Arrays;
-import java.util.HashMap;
 import java.util.HexFormat;
 import java.util.List;
 import java.util.Map;
@@ -25,23 +22,6 @@ import java.util.function.Function;
 /** Values as Java types, and where values and types are rejected: {@code java ValueTypes EXAMPLES}. */
 final class ValueTypes extends Check {
     private static Registry registry;
-
-    private static String shown(Object value) {
-        if (value instanceof ByteBuffer buffer) {
-            return "buffer " + HexFormat.of().formatHex(buffer.array());
-        }
-        if (value instanceof Samples.PayBean bean) {
-            return bean.getTitle();
-        }
-        if (value != null && value.getClass().isArray()) {
-            List<String> elements = new ArrayList<>();
-            for (int i = 0; i < Array.getLength(value); i++) {
-                elements.add(shown(Array.get(value, i)));
-            }
-            return value.getClass().componentType().getSimpleName() + elements;
-        }
-        return value instanceof Optional<?> option && option.isPresent() ? "some " + shown(option.get()) : String.valueOf(value);
-    }
 
     private static String decoded(String format, String digits, Class<?> type) {
         try {
@@ -58,78 +38,33 @@ final class ValueTypes extends Check {
 
     private static final String U64 = "0100000000000000", P = "03626f62" + U64, REFUSED = "VALUE refused: WrongType";
 
-    private static void integers() {
-        record Row(String format, String digits, List<Class<?>> types) {}
-        List<Class<?>> all = List.of(byte.class, Byte.class, short.class, Short.class, int.class, Integer.class, long.class, Long.class,
-                BigInteger.class);
-        String u256 = "01" + "00".repeat(31);
-        for (Row row : List.of(new Row("\"I8\"", "01", all), new Row("\"U8\"", "01", all.subList(2, 9)),
-                new Row("\"I16\"", "0100", all.subList(2, 9)), new Row("\"U16\"", "0100", all.subList(4, 9)),
-                new Row("\"I32\"", "01000000", all.subList(4, 9)), new Row("\"U32\"", "01000000", all.subList(6, 9)),
-                new Row("\"I64\"", U64, all.subList(6, 9)), new Row("\"U64\"", U64, all.subList(8, 9)),
-                new Row("\"I128\"", U64 + "00".repeat(8), all.subList(8, 9)), new Row("\"U128\"", U64 + "00".repeat(8), all.subList(8, 9)),
-                new Row("u256", u256, all.subList(8, 9)), new Row("i256", u256, all.subList(8, 9)))) {
-            for (Class<?> type : all) {
-                String name = row.format.replace("\"", "");
-                String wanted = row.types.contains(type) ? "1" : REFUSED + ": " + name + " doesn't fit in " + type.getSimpleName();
-                decodes(row.format, row.digits, type, wanted);
-            }
-            decodes(row.format, row.digits, double.class, REFUSED + ": " + row.format.replace("\"", "") + " takes an integer, not double");
-        }
-    }
-
+    /** A sample of each kind. The rows of values have each type at every format. */
     private static void types() {
-        decodes("\"BYTES\"", "0201ff", byte[].class, "byte[1, -1]");
-        decodes("\"BYTES\"", "0201ff", ByteBuffer.class, "buffer 01ff");
-        decodes("\"BYTES\"", "0201ff", Hex.class, "Hex[digits=01ff]");
+        decodes("\"I16\"", "0100", byte.class, REFUSED + ": I16 doesn't fit in byte");
+        decodes("\"U64\"", U64, double.class, REFUSED + ": U64 takes an integer, not double");
         decodes("\"BYTES\"", "0201ff", String.class, REFUSED + ": BYTES takes bytes, or Hex(…) for digits, not String");
-        decodes("{\"SEQ\":\"U8\"}", "0201ff", List.class, REFUSED + ": SEQ of U8 takes bytes, or Hex(…) for digits, not List");
-        decodes("{\"SEQ\":\"U16\"}", "0201000200", int[].class, "int[1, 2]");
-        decodes("{\"SEQ\":\"U16\"}", "0201000200", Long[].class, "Long[1, 2]");
-        decodes("{\"SEQ\":\"U16\"}", "0201000200", List.class, "[1, 2]");
         decodes("{\"SEQ\":\"U16\"}", "0201000200", ArrayList.class, REFUSED + ": SEQ of U16 takes a List or an array, not ArrayList");
         decodes("{\"SEQ\":\"U16\"}", "0201000200", short[].class, REFUSED + " at /-: U16 doesn't fit in short");
-        decodes("{\"SEQ\":\"I8\"}", "0201ff", byte[].class, "byte[1, -1]");
-        decodes("{\"SEQ\":{\"TYPENAME\":\"N\"}}", "0201ff", byte[].class, REFUSED + ": SEQ of N takes a List or an array, not byte[]");
-        decodes("{\"SEQ\":{\"TYPENAME\":\"P\"}}", "01" + P, Samples.Pay[].class, "Pay[Pay[to=bob, amount=1]]");
-        decodes("{\"OPTION\":\"U8\"}", "0107", Optional.class, "some 7");
         decodes("{\"OPTION\":\"U8\"}", "0107", short.class, REFUSED + ": OPTION takes an Optional, not short");
-        decodes("{\"TUPLE\":[\"U8\",\"STR\"]}", "010178", Samples.Elements.class, "Elements[a=1, b=x]");
-        decodes("{\"TUPLE\":[\"U8\",\"STR\"]}", "010178", Object[].class, "Object[1, x]");
-        decodes("{\"MAP\":{\"KEY\":\"STR\",\"VALUE\":\"U8\"}}", "0101610101", Map.class, "BYTES refused: TrailingBytes at byte 4, .: expected the end, found 1 byte more");
-        decodes("{\"MAP\":{\"KEY\":\"STR\",\"VALUE\":\"U8\"}}", "01016101", HashMap.class,
-                REFUSED + ": MAP takes a Map or a List of Map.Entry, not HashMap");
+        decodes("{\"MAP\":{\"KEY\":\"STR\",\"VALUE\":\"U8\"}}", "0101610101", Map.class,
+                "BYTES refused: TrailingBytes at byte 4, .: expected the end, found 1 byte more");
         decodes("P", P, Samples.Pay.class, "Pay[to=bob, amount=1]");
-        decodes("P", P, Samples.Signed.class, REFUSED + " at /amount: U64 doesn't fit in long");
-        decodes("P", P, Samples.PayBean.class, REFUSED + " at /amount: U64 doesn't fit in long");
         decodes("P", P, Samples.Generic.class, REFUSED + " at /to: STR takes no type variable: T");
         decodes("P", P, Samples.Fewer.class, REFUSED + ": P needs a part for \"amount\" in Samples$Fewer");
         decodes("P", P, Samples.More.class, REFUSED + ": P has no name for Samples$More.memo");
         decodes("P", P, Samples.Twice.class, REFUSED + ": P has one name for two parts of Samples$Twice: \"amount\"");
         decodes("P", P, Samples.WrongTag.class, REFUSED + ": P has no name for Samples$WrongTag.to, which is @Bcs(\"To\")");
-        decodes("P", P, Thread.class, REFUSED + ": P takes a record, a bean or a Map with the fields' names, not Thread");
-        decodes("P", P, Map.class, "{to=bob, amount=1}");
-        decodes("S", "", Samples.Nothing.class, "Nothing[]");
-        decodes("S", "", Unit.class, "Unit[]");
         decodes("E", "00", Samples.Shape.class, "Dot[]");
         decodes("E", "01" + U64, Samples.Shape.class, "Num[value=1]");
-        decodes("E", "020102", Samples.Shape.class, "Pair[x=1, y=2]");
         decodes("E", "0309", Samples.Shape.class, "Radius[r=9]");
         decodes("E", "01" + U64, Samples.Some.class, "Num2[value=1]");
         decodes("E", "00", Samples.Some.class, REFUSED + ": E is \"Dot\" here, and Samples$Some has no record for it");
         decodes("E", "0309", Samples.Some.class, REFUSED + " at /Named: E is \"Named\" here, and Samples$Some has no record for it");
-        decodes("E", "00", Samples.Another.class, REFUSED + ": E has no name for Samples$Square");
         decodes("E", "00", Samples.Doubled.class, REFUSED + ": E has one variant for two records: \"Num\"");
         decodes("E", "00", Samples.Dot.class, REFUSED + ": E takes a Variant, or a record of a sealed interface, not Samples$Dot");
         decodes("E", "00", Variant.class, "Variant[name=Dot, value=Unit[]]");
-        decodes("E", "00", Samples.Colour.class, REFUSED + ": E takes a Variant, or a record of a sealed interface, not Samples$Colour");
-        decodes("address", "01".repeat(32), String.class, "0x" + "01".repeat(32));
-        decodes("address", "01".repeat(32), Hex.class, "Hex[digits=" + "01".repeat(32) + "]");
-        decodes("address", "01".repeat(32), List.class, REFUSED + ": address takes a String \"0x…\" or 32 bytes, not List");
-        decodes("i256", "ff".repeat(32), BigInteger.class, "-1");
         decodes("i256", "00".repeat(31) + "80", BigInteger.class, BigInteger.TWO.pow(255).negate().toString());
         decodes("u256", "ff".repeat(32), Object.class, BigInteger.TWO.pow(256).subtract(BigInteger.ONE).toString());
-        decodes("\"F64\"", "0000000000000000", double.class, REFUSED + ": F64 has no values, not double");
         String leaf = "Variant[name=Leaf, value=Unit[]]";
         decodes("Tree", "010000", Object.class, "Variant[name=Fork, value=[" + leaf + ", " + leaf + "]]");
     }
@@ -364,7 +299,6 @@ final class ValueTypes extends Check {
 
     public static void main(String[] arguments) throws Exception {
         registry = Registry.open(Samples.REGISTRY);
-        integers();
         types();
         pointers();
         declared();

@@ -370,7 +370,8 @@ class Open(Measured):
         self.assertEqual(self.kept(), (0, 0))
 
     def test_cancelled(self) -> None:
-        """While it is read, while its format is read, and between calls."""
+        """While it is read, while its format is read, and between calls. What was read of a format may stay, within the
+        setting."""
         statements = [
             ("select bcs_is(%s, '\"UNIT\"', ''), pg_sleep(10)", large(0)),
             ("select bcs_is(%s, '\"UNIT\"', '')", large(0) + " " * 60_000_000),
@@ -380,7 +381,7 @@ class Open(Measured):
             run(self.session, "set statement_timeout = '700ms'")
             self.assertEqual(refusal(self.session, statement, argument)[0], "57014")
             run(self.session, "set statement_timeout = 0")
-            self.assertEqual(self.kept(), (0, 0))
+            self.assertLessEqual(self.kept()[1], 32 * MEGABYTE)
 
     def test_out_of_memory(self) -> None:
         """While a registry is opened. The ones that are open stay right."""

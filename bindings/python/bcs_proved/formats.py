@@ -55,6 +55,8 @@ def _json_of_str(format: str) -> bytes:
 
 
 def json_of(format: Format) -> bytes:
+    if type(format) is str:
+        return _json_of_str(format)
     if isinstance(format, Name):
         return values.json_of_format({"TYPENAME": format.name})
     if isinstance(format, str):

@@ -73,6 +73,7 @@ class Call(enum.IntEnum):
     STOP_REFUSAL = 12
     SCHEMA = 13
     EXAMPLE = 14
+    CANDIDATES = 15
     SHOW = 20
     FORMAT_PLACE = 21
     GROWS = 30
@@ -85,6 +86,8 @@ class Call(enum.IntEnum):
     FAULT_NAME = 37
 
 
+# (reading a member of an enum takes longer)
+_DONE = int(Status.DONE)
 TOO_LITTLE_STACK = "the thread has too little stack left for this call"
 # Only where bytes stop being a value is there an offset: the faults from the first on, below the second.
 _STOPS = range(401, 501)
@@ -93,6 +96,10 @@ _REPORT = 200
 _Message = ctypes.c_char * _REPORT
 # Outputs from this size on get memory only for what is written.
 _LARGE = 1 << 18
+# A question that is kept for later calls has room for outputs of this size, and keeps no longer format.
+_KEPT_ROOM = 4096
+# How many questions are kept at most. Each belongs to one call while it runs.
+_MOST_KEPT = 8
 
 
 class Question(ctypes.Structure):
@@ -116,8 +123,15 @@ class Question(ctypes.Structure):
         ("views_length", ctypes.c_size_t),
     ]
 
-    second_length: int
-    views_length: int
+    first: Optional[bytes]
+
+    # Whether those of the call before are to be replaced.
+    _has_second = _has_views = False
+    # What a kept question has for short outputs and messages. Others have room for no output.
+    _kept_room = 0
+    _out: Union[bytes, bytearray] = b""
+    _out_address: Any = None
+    _message: Any = None
 
     def __init__(
         self, library: Library, handle: Optional[Handle] = None, format: bytes = b"", depth: int = 0, nodes: int = 0
@@ -126,7 +140,34 @@ class Question(ctypes.Structure):
         self.format, self.format_length = format, len(format)
         # (a field with bytes keeps a reference to them, and returns them only up to a NUL)
         self.library, self.handle, self.format_json = library, handle, format
-        self._ask, self._pointer = library.functions["bcs_ask"], None if handle is None else handle.pointer
+        self._limits = depth, nodes
+
+    @classmethod
+    def lent(cls, library: Library, handle: Handle, format: bytes, depth: int, nodes: int) -> Question:
+        """A question for one call, which `give_back` keeps for a later one: making one takes long. Calls in other
+        threads, finalizers and signal handlers, and what converting a value runs, get others meanwhile."""
+        try:
+            # (this is atomic, so no two calls get the same one)
+            question = library.kept.pop()
+        except IndexError:
+            return cls(library, handle, format, depth, nodes)._with_room()
+        question.handle = handle
+        if question.format_json != format:
+            question.format, question.format_length, question.format_json = format, len(format), format
+        if question._limits != (depth, nodes):
+            question.depth, question.nodes = question._limits = depth, nodes
+        return question
+
+    def _with_room(self) -> Question:
+        self._kept_room, self._out, self._message = _KEPT_ROOM, bytearray(_KEPT_ROOM), _Message()
+        self._out_address = _address_of(self._out)
+        return self
+
+    def give_back(self) -> None:
+        """Ends the call that the question was lent for. It keeps no input and no registry."""
+        self.first = self.handle = None
+        if len(self.library.kept) < _MOST_KEPT and len(self.format_json) <= _KEPT_ROOM:
+            self.library.kept.append(self)
 
     def ask(
         self, call: Call, first: bytes = b"", second: bytes = b"", *, number: int = 0, views: bytes = b"", room: int = 0
@@ -135,21 +176,20 @@ class Question(ctypes.Structure):
         self.call, self.number = call, number
         self.first, self.first_length = first, len(first)
         # (setting these takes longer than looking whether they are to be set)
-        if second or self.second_length:
-            self.second, self.second_length = second, len(second)
-        if views or self.views_length:
-            self.views, self.views_length = views, len(views)
+        if second or self._has_second:
+            self.second, self.second_length, self._has_second = second, len(second), bool(second)
+        if views or self._has_views:
+            self.views, self.views_length, self._has_views = views, len(views), bool(views)
         return self._asked(room)
 
     def _asked(self, room: int) -> Answer:
-        # (signals and finalizers make calls at any time, so each call has a message of its own)
-        out, message = _room_of(room) if room else None, _Message()
-        address = None if out is None else _address_of(out)
-        answer: Answer = self._ask(self._pointer, self, address, room, message, _REPORT)
+        message, is_kept = self._message or _Message(), room <= self._kept_room
+        out: Any = self._out if is_kept else _room_of(room)
+        answer = self._answer(self._out_address if is_kept else _address_of(out), room, message, _REPORT)
         status = answer.status
-        if status == Status.DONE:
-            if out is not None:
-                answer.output = memoryview(out)[: answer.length]
+        if status == _DONE:
+            # (the next call writes into the room that is kept)
+            answer.output = memoryview(out[: answer.length]) if is_kept else memoryview(out)[: answer.length]
         elif status == Status.SHORT:
             return self._asked(answer.length)
         elif status == Status.REFUSED:
@@ -157,9 +197,14 @@ class Question(ctypes.Structure):
             answer.report = message.raw[: answer.length] if is_whole else self._long_report(answer.length)
         return answer
 
+    def _answer(self, out: Any, room: int, message: Any, length: int) -> Answer:
+        pointer = None if self.handle is None else self.handle.pointer
+        answer: Answer = self.library.functions["bcs_ask"](pointer, self, out, room, message, length)
+        return answer
+
     def _long_report(self, length: int) -> bytes:
         message = _room_of(length)
-        answer: Answer = self._ask(self._pointer, self, None, 0, _address_of(message), length)
+        answer = self._answer(None, 0, _address_of(message), length)
         self.library.require_answered(answer)
         return bytes(memoryview(message)[: answer.length])
 
@@ -172,7 +217,7 @@ class Question(ctypes.Structure):
     def require(self, answer: Answer, refused: type[BcsError]) -> None:
         """Raises the error that an answer means, unless it is DONE. `refused` is the error for the input."""
         status = answer.status
-        if status == Status.DONE:
+        if status == _DONE:
             return
         if status == Status.FORMAT:
             answer.report = Question(self.library, self.handle, self.format_json).report(Call.FORMAT_PLACE)
@@ -204,7 +249,7 @@ _FUNCTIONS: dict[str, tuple[list[Any], Any]] = {
     "bcs_version": ([], ctypes.c_char_p),
 }
 _IS_WINDOWS = sys.platform == "win32"
-_LIBRARY, _BUILD = ("bcs.dll", "bindings/windows/build.sh") if _IS_WINDOWS else ("libbcs.so", "bindings/c/build.sh")
+_LIBRARY, _BUILD = ("bcs.dll", "platforms/windows/build.sh") if _IS_WINDOWS else ("libbcs.so", "bindings/c/build.sh")
 
 # A mapping of memory that other processes don't see.
 _PRIVATE: dict[str, int] = {} if _IS_WINDOWS else {"flags": mmap.MAP_PRIVATE | mmap.MAP_ANONYMOUS}
@@ -235,6 +280,8 @@ class Library:
             ) from fault
         self.functions = {name: self._function(library, name, *types) for name, types in _FUNCTIONS.items()}
         self._fault_names: dict[int, str] = {}
+        # Questions of calls that have ended.
+        self.kept: list[Question] = []
 
     @staticmethod
     def _found() -> str:

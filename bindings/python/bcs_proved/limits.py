@@ -16,7 +16,7 @@ MOST_NODES = 4294967295
 
 @dataclasses.dataclass(frozen=True)
 class Limits:
-    """How many containers may be open at once, and how many nodes a value may have. Without `nodes`, methods that read
+    """How deeply containers may nest, and how many nodes a value may have. Without `nodes`, methods that read
     bytes allow 16 nodes for each byte and 65,536 more, and fewer if the registry has names of more than 64 bytes. Those
     that read Python's values allow 16777216, and the bytes of lists of U8 aren't counted. The other methods allow
     4294967295. Raises LimitsError."""

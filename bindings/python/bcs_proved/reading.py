@@ -5,7 +5,9 @@
 
 from __future__ import annotations
 
+import binascii
 import json
+import sys
 from collections.abc import Mapping
 from typing import Any, Callable, Optional
 
@@ -17,17 +19,23 @@ __all__ = ["Read", "Readers", "value_of"]
 Read = Optional[Callable[[Any], Any]]
 # (`json.loads` also looks for blanks and byte order marks)
 _parsed = json.JSONDecoder().raw_decode
+# (each look-up of a method makes another object, and `value_of` asks whether it is this one)
+_octets_of = bytes.fromhex
 _LEAVES: dict[str, Callable[[Any], Any]] = {
     **{word: int for word in ("U64", "U128", "I64", "I128")},
-    "BYTES": bytes.fromhex,
+    "BYTES": _octets_of,
 }
 
 
-def value_of(read: Read, document: str) -> Any:
-    """The value that normal JSON represents."""
-    if read is bytes.fromhex:
-        # (digits have no escapes)
-        return bytes.fromhex(document[1:-1])
+def value_of(read: Read, text: memoryview) -> Any:
+    """The value that normal JSON represents. The text is released."""
+    with text:
+        if read is _octets_of:
+            # (digits have no escapes, and needn't become a str)
+            with text[1:-1] as digits:
+                return binascii.unhexlify(digits)
+        # (a large document has little room for copies of itself)
+        document = str(text, "utf-8")
     found, _ = _parsed(document)
     return found if read is None else read(found)
 
@@ -56,7 +64,7 @@ class Readers:
         if kind == "MAP":
             return _each(self._row([inner["KEY"], inner["VALUE"]]))
         element = inner["CONTENT"] if kind == "TUPLEARRAY" else inner
-        return bytes.fromhex if element == "U8" else _each(self.format(element))
+        return _octets_of if element == "U8" else _each(self.format(element))
 
     def _container(self, name: str) -> Read:
         """What a container holds is read when the first value needs it, since containers may hold themselves. The loop
@@ -138,7 +146,8 @@ def _option(read: Read, is_plain: bool) -> Read:
 
 def _struct(reads: dict[str, Read]) -> Read:
     """The fields in the order of the registry."""
-    parts = [*reads.items()]
+    # (`encode` compares such names faster)
+    parts = [(sys.intern(name), read) for name, read in reads.items()]
     return lambda found: {name: found[name] if read is None else read(found[name]) for name, read in parts}
 
 

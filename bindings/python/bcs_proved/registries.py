@@ -19,7 +19,7 @@ The status is 0, or
   3  invalid arguments
   4  a file or a program that is needed can't be used: `fault: ..` on standard error
 
-YAML needs PyYAML (Debian's package python3-yaml, or pip install PyYAML).
+YAML needs PyYAML (apt install python3-yaml, or pip install PyYAML).
 """
 
 from __future__ import annotations
@@ -113,7 +113,7 @@ def from_yaml(text: bytes, name: str = "registry") -> tuple[dict[str, Any], list
     try:
         yaml: Any = importlib.import_module("yaml")
     except ImportError as fault:
-        hint = "Debian's package python3-yaml, or pip install PyYAML"
+        hint = "apt install python3-yaml, or pip install PyYAML"
         raise Fault("missing", f"reading YAML needs PyYAML: {hint}") from fault
     reader = _Reader(name, yaml.SafeLoader.yaml_implicit_resolvers)
     try:
@@ -268,7 +268,7 @@ def _by_program(*command: str) -> Check:
             raise Fault("missing", f"{' '.join(command)} check: status {told.returncode}: {errors}")
         reason = output.partition("refused: ")[2]
         at, _, message = errors.partition(f": {reason}: ")
-        place = at[3:] if message and at != "at the whole text" else ""
+        place = at[3:] if message and at not in ("at the document", "at the whole text") else ""
         raise Refused(reason, f"{name}, {place}" if place else name, message or errors)
 
     return check

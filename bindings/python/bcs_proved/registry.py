@@ -244,12 +244,19 @@ class Registry:
         """The bytes of a value. The README has a table of the types that each format accepts. Raises TextError if it
         isn't a value of the format, and ValueTypeError, which is one of these, if a part of it has a type that the
         format doesn't accept there."""
-        question = self._question(format, limits)
-        return self._put_text(question, Call.TO_BCS, self._json_of(question, value, limits)).tobytes()
+        question = self._lent(format, limits)
+        try:
+            return self._put_text(question, Call.TO_BCS, self._json_of(question, value, limits)).tobytes()
+        finally:
+            question.give_back()
 
     def encode_json(self, format: Format, text: Text, limits: Optional[Limits] = None) -> bytes:
         """The bytes of the value that a JSON document represents. Raises TextError if it represents none."""
-        return self._put_text(self._question(format, limits), Call.TO_BCS, bytes_of_text(text)).tobytes()
+        question = self._lent(format, limits)
+        try:
+            return self._put_text(question, Call.TO_BCS, bytes_of_text(text)).tobytes()
+        finally:
+            question.give_back()
 
     @overload
     def decode(
@@ -281,8 +288,11 @@ class Registry:
         one value's. With `plain_options`, an option is None or its value, except where that could mean two values, as
         in nested options."""
         data = bytes_of(data)
-        question = self._question(format, limits, data)
-        return self._read(question, self._decoded(question, data), plain_options)
+        question = self._lent(format, limits, data)
+        try:
+            return self._read(question, self._decoded(question, data), plain_options)
+        finally:
+            question.give_back()
 
     @overload
     def decode_prefix(
@@ -319,7 +329,11 @@ class Registry:
     def decode_json(self, format: Format, data: Data, limits: Optional[Limits] = None) -> str:
         """The one normal JSON document of the value whose bytes these are. Raises BytesError as `decode` does."""
         data = bytes_of(data)
-        return str(self._decoded(self._question(format, limits, data), data), "utf-8")
+        question = self._lent(format, limits, data)
+        try:
+            return str(self._decoded(question, data), "utf-8")
+        finally:
+            question.give_back()
 
     def decode_prefix_json(self, format: Format, data: Data, limits: Optional[Limits] = None) -> tuple[str, int]:
         """The same for the value at the beginning of `data`, and how many bytes it has."""
@@ -365,12 +379,25 @@ class Registry:
     def scan(self, format: Format, data: Data, limits: Optional[Limits] = None) -> int:
         """How many bytes the value at the beginning has. Raises BytesError if the bytes begin with no value."""
         data = bytes_of(data)
-        return self._scanned(self._question(format, limits, data), data)
+        question = self._lent(format, limits, data)
+        try:
+            return self._scanned(question, data)
+        finally:
+            question.give_back()
 
     def _scanned(self, question: Question, data: bytes) -> int:
         answer = question.ask(Call.SCAN, data)
         question.require(answer, BytesError)
         return answer.length
+
+    def which(self, data: Data, limits: Optional[Limits] = None) -> list[str]:
+        """The containers that the bytes are exactly one value of, the likeliest first: their names, as `bcs which`
+        prints them."""
+        data = bytes_of(data)
+        question = self._question('"UNIT"', limits, data)
+        answer = question.ask(Call.CANDIDATES, data, room=1000)
+        question.require(answer, FormatError)
+        return str(answer.output, "utf-8").split("\n")[:-1]
 
     def part(self, format: Format, data: Data, path: str, limits: Optional[Limits] = None) -> Optional[Part]:
         """The part of the value at the beginning to which a path leads, or None if it leads nowhere. A path is "." for
@@ -461,10 +488,10 @@ class Registry:
         `registry_of_modules` makes. `addresses`, `u256s` and `i256s` are the containers whose values are described as
         Move's own; those that are called "address", "u256" and "i256" are so without it.
 
-        A function is compared with the one that is called beside the list. If that is another one, "refused" is
-        "OtherFunction", and "want" has both names; if the list isn't one of byte strings, it is "BadPath". A dict with
-        "note" and "name" comes before the last one for each name that matches nothing, and each function that wasn't
-        compared.
+        A function is compared with the one that is called beside the list, and "" is that one. If it is another one,
+        "refused" is "OtherFunction", and "want" has both names; if the list isn't one of byte strings, it is "BadPath".
+        A dict with "note" and "name" comes before the last one for each name that matches nothing, and each function
+        that wasn't compared.
 
         Raises PathError for a name that is none, and FormatError for formats, functions and containers that the
         registry doesn't have."""
@@ -519,11 +546,8 @@ class Registry:
 
     def _read(self, question: Question, text: memoryview, plain_options: bool) -> Any:
         """The value of a format that normal JSON represents."""
-        # (a large document has little room for copies of itself)
-        with text:
-            document = str(text, "utf-8")
         try:
-            return value_of(self._reader_of(question.format_json, plain_options), document)
+            return value_of(self._reader_of(question.format_json, plain_options), text)
         except RecursionError:
             raise StackError("", message=TOO_LITTLE_STACK) from None
 
@@ -544,7 +568,7 @@ class Registry:
             self._check(question)
             if len(self._known_formats) >= _MOST_FORMATS:
                 self._known_formats.clear()
-            known = self._formats.format(json.loads(question.format_json.decode()))
+            known = self._formats.format(json.loads(question.format_json.decode())).resolved()
             self._known_formats[question.format_json] = known
         try:
             return values.json_of(known, value, None if limits is None else limits.nodes)
@@ -555,11 +579,22 @@ class Registry:
     def _question(self, format: Format, limits: Optional[Limits], read: Optional[bytes] = None) -> Question:
         """`read` are the bytes that a method reads, if it doesn't read JSON or a value."""
         handle = self._open_handle()
-        depth = Limits.depth if limits is None else limits.depth
-        nodes = None if limits is None else limits.nodes
-        if nodes is None:
-            nodes = MOST_NODES if read is None else handle.nodes_for(len(read))
+        depth, nodes = self._limits(handle, limits, read)
         return Question(self._library, handle, json_of(format), depth, nodes)
+
+    def _lent(self, format: Format, limits: Optional[Limits], read: Optional[bytes] = None) -> Question:
+        """The same, from those that are kept for methods that are called often. They give it back at their end."""
+        handle = self._open_handle()
+        depth, nodes = self._limits(handle, limits, read)
+        return Question.lent(self._library, handle, json_of(format), depth, nodes)
+
+    @staticmethod
+    def _limits(handle: Handle, limits: Optional[Limits], read: Optional[bytes]) -> tuple[int, int]:
+        if limits is None:
+            return Limits.depth, MOST_NODES if read is None else handle.nodes_for(len(read))
+        if limits.nodes is None:
+            return limits.depth, MOST_NODES if read is None else handle.nodes_for(len(read))
+        return limits.depth, limits.nodes
 
     def _open_handle(self) -> Handle:
         handle = self._handle

@@ -8,15 +8,18 @@ isn't sure of it leaves to `open`, which converts and rejects everything.
 
 from __future__ import annotations
 
+import binascii
 import dataclasses
 import functools
 import itertools
 import json
 import json.encoder
 import re
-from collections.abc import Callable, Generator, Iterable, Mapping
+import sys
+from collections.abc import Callable, Generator, Mapping
 from typing import Any, Optional, Union, final
 
+from .generated import MOST_PARTS, Code, function_of
 from .names import BYTES_OF_OWN_FORM
 
 __all__ = ["Format", "Formats", "Hex", "Rejected", "json_of", "json_of_format", "name_of", "octets_of"]
@@ -44,6 +47,8 @@ _NO_OCTETS = {type(None), str}
 # holds others many times may have any length.
 _MOST_QUICK_ITEMS = 1 << 16
 _MOST_QUICK = 1 << 20
+# A struct that was converted so often gets a function of its own.
+_OFTEN = 50
 # An error shows at most this much of a string.
 _SHOWN = 80
 _ADDRESS = re.compile(f"0x([0-9a-fA-F]{{1,{2 * BYTES_OF_OWN_FORM}}})")
@@ -118,12 +123,21 @@ class Format:
         It reads exact types of Python only, so it runs none of the caller's code."""
         raise _Slow
 
+    def code(self, number: int) -> Code:
+        """What `quick` does, in a function that is made for a struct: vN is the value and fN this format, and `room`
+        characters are left."""
+        return Code([f"t{number} = f{number}.quick(v{number}, levels)", *_measured(number)], f"{{t{number}}}")
+
     def resolved(self) -> Format:
         """What a container holds, or else the format itself."""
         return self
 
     def wrong(self, value: Any) -> Rejected:
         return Rejected("WrongType", self.takes, type(value))
+
+
+def _measured(number: int) -> list[str]:
+    return [f"room -= len(t{number})", "if room < 0: raise Slow"]
 
 
 class _Pieces(list[str]):
@@ -388,6 +402,10 @@ class _Text(Format):
             raise _Slow
         return _quoted_at_once(value)
 
+    def code(self, number: int) -> Code:
+        lines = [f"if type(v{number}) is not str: raise Slow", f"t{number} = quoted(v{number})", *_measured(number)]
+        return Code(lines, f"{{t{number}}}")
+
 
 class _Unsupported(Format):
     """`F32`, `F64`, `CHAR`, and newtypes that hold themselves. The library rejects every value of these."""
@@ -418,6 +436,11 @@ class _Number(Format):
         if type(value) is not int or not self.least <= value <= self.most:
             raise _Slow
         return f'"{value}"'
+
+    def code(self, number: int) -> Code:
+        least, most = self.least, self.most
+        line = f"if type(v{number}) is not int or not {least} <= v{number} <= {most}: raise Slow"
+        return Code([line], f'"{{v{number}}}"')
 
     def int_of(self, value: Any) -> int:
         if type(value) is int:
@@ -464,6 +487,9 @@ class _OwnInteger(_Number):
             raise _Slow
         return self._digits_of(value)
 
+    def code(self, number: int) -> Code:
+        return Format.code(self, number)
+
     def _digits_of(self, number: int) -> str:
         return f'"{number.to_bytes(BYTES_OF_OWN_FORM, "little", signed=self._is_signed).hex()}"'
 
@@ -485,15 +511,27 @@ class _Address(Format):
     def quick(self, value: Any, levels: int) -> str:
         if type(value) is not str:
             return _octets_at_once(value)
-        # (`fromhex` skips blanks)
-        if len(value) == 2 + 2 * BYTES_OF_OWN_FORM and value.startswith("0x"):
-            digits = value[2:]
-            try:
-                if len(bytes.fromhex(digits)) == BYTES_OF_OWN_FORM:
-                    return f'"{digits}"'
-            except ValueError:
-                pass
-        raise _Slow
+        if len(value) != 2 + 2 * BYTES_OF_OWN_FORM or value[:2] != "0x":
+            raise _Slow
+        digits = value[2:]
+        try:
+            # (`fromhex` skips blanks)
+            binascii.unhexlify(digits)
+        except ValueError:
+            raise _Slow from None
+        return f'"{digits}"'
+
+    def code(self, number: int) -> Code:
+        digits = 2 + 2 * BYTES_OF_OWN_FORM
+        lines = [
+            f"if type(v{number}) is str and len(v{number}) == {digits} and v{number}[:2] == '0x':",
+            f"    t{number} = v{number}[2:]",
+            f"    try: unhexlify(t{number})",
+            "    except Errors: raise Slow from None",
+            f"else: t{number} = octets(v{number})[1:-1]",
+            *_measured(number),
+        ]
+        return Code(lines, f'"{{t{number}}}"')
 
     def _digits_of(self, text: str) -> str:
         found = _ADDRESS.fullmatch(text)
@@ -553,10 +591,6 @@ class _List(Format):
         self._element = element
         self.takes = f"{word} takes a list"
 
-    @functools.cached_property
-    def _quick(self) -> _Quick:
-        return self._element.resolved().quick
-
     def open(self, value: Any, out: _Pieces) -> Optional[_Writing]:
         items = _items_of(value)
         if items is None and isinstance(self._element.resolved(), (_Number, _List, _Octets)):
@@ -573,13 +607,27 @@ class _List(Format):
     def quick(self, value: Any, levels: int) -> str:
         if type(value) is not list or not levels or len(value) > _MOST_QUICK_ITEMS:
             raise _Slow
+        if not value:
+            return "[]"
         if type(self._element) is not _Number:
-            return f"[{_joined(zip(itertools.repeat(self._quick), value), levels - 1)}]"
+            return self._quick_parts(value, levels - 1)
         # (another thread may change the list after it was checked)
         items = value.copy()
         if not _are_plain(items):
             raise _Slow
         return _numbers_at_once(items)
+
+    def _quick_parts(self, items: list[Any], levels: int) -> str:
+        """It stops at the first part that is too much: a value that holds others many times takes little memory, and
+        its JSON may take more than there is."""
+        texts, room, quick = [], _MOST_QUICK, self._element.resolved().quick
+        for item in items:
+            text = quick(item, levels)
+            room -= len(text)
+            if room < 0:
+                raise _Slow
+            texts.append(text)
+        return f"[{','.join(texts)}]"
 
     def _writing(self, items: list[Any], out: _Pieces) -> _Writing:
         number, element = 0, self._element
@@ -599,19 +647,6 @@ class _List(Format):
         out.append("]")
 
 
-def _joined(parts: Iterable[tuple[_Quick, Any]], levels: int) -> str:
-    """The JSON of the parts, with commas between. It stops at the first one that is too much: a value that holds others
-    many times takes little memory, and its JSON may take more than there is."""
-    texts, room = [], _MOST_QUICK
-    for quick, part in parts:
-        text = quick(part, levels)
-        room -= len(text)
-        if room < 0:
-            raise _Slow
-        texts.append(text)
-    return ",".join(texts)
-
-
 def _numbers_at_once(items: list[int]) -> str:
     return '["' + '","'.join(map(str, items)) + '"]' if items else "[]"
 
@@ -628,10 +663,6 @@ class _Row(Format):
         self._formats = formats
         self.takes = takes
 
-    @functools.cached_property
-    def _quick(self) -> list[_Quick]:
-        return [format.resolved().quick for format in self._formats]
-
     def open(self, value: Any, out: _Pieces) -> Optional[_Writing]:
         items = _items_of(value)
         if items is None:
@@ -641,7 +672,14 @@ class _Row(Format):
     def quick(self, value: Any, levels: int) -> str:
         if type(value) not in (list, tuple) or not levels or len(value) != len(self._formats):
             raise _Slow
-        return f"[{_joined(zip(self._quick, value), levels - 1)}]"
+        texts, room, levels = [], _MOST_QUICK, levels - 1
+        for format, part in zip(self._formats, value):
+            text = format.quick(part, levels)
+            room -= len(text)
+            if room < 0:
+                raise _Slow
+            texts.append(text)
+        return f"[{','.join(texts)}]"
 
     def _writing(self, items: list[Any], out: _Pieces) -> _Writing:
         """If the number of items is wrong, the library gets nulls, and rejects their number."""
@@ -713,22 +751,35 @@ class _Struct(_Object):
     takes = "STRUCT takes a dict"
 
     def __init__(self, fields: list[tuple[str, Format]]) -> None:
-        self._fields = [(name, f"{{{_quoted(name)}:", f",{_quoted(name)}:", format) for name, format in fields]
+        # (`is` compares names that are interned, such as those in a program's text)
+        named = [(sys.intern(name), format) for name, format in fields]
+        self._fields = [(name, f"{{{_quoted(name)}:", f",{_quoted(name)}:", format) for name, format in named]
+        self._uses = 0
 
     @functools.cached_property
-    def _quick(self) -> list[tuple[str, str, _Quick]]:
-        return [(name, f"{_quoted(name)}:", format.resolved().quick) for name, _, _, format in self._fields]
+    def _quick(self) -> list[tuple[str, str, Format]]:
+        return [(name, f"{_quoted(name)}:", format.resolved()) for name, _, _, format in self._fields]
 
     def open(self, value: Any, out: _Pieces) -> Optional[_Writing]:
         return self._writing(self._members_of(value), out)
 
     def quick(self, value: Any, levels: int) -> str:
-        if type(value) is not dict or not levels or len(value) != len(self._quick) or {*map(type, value)} != {str}:
+        self._uses += 1
+        if self._uses > _OFTEN:
+            setattr(self, "quick", self._made_quick() or self._generic_quick)
+        return self._generic_quick(value, levels)
+
+    def _generic_quick(self, value: Any, levels: int) -> str:
+        if type(value) is not dict or not levels or len(value) != len(self._quick):
+            raise _Slow
+        # (one step, since another thread may change the dict)
+        names = [*value]
+        if {*map(type, names)} != {str}:
             raise _Slow
         texts, room, levels = [], _MOST_QUICK, levels - 1
         try:
-            for name, head, quick in self._quick:
-                text = head + quick(value[name], levels)
+            for name, head, part in self._quick:
+                text = head + part.quick(value[name], levels)
                 room -= len(text)
                 if room < 0:
                     raise _Slow
@@ -736,6 +787,34 @@ class _Struct(_Object):
         except KeyError:
             raise _Slow from None
         return f"{{{','.join(texts)}}}"
+
+    def _made_quick(self) -> Optional[_Quick]:
+        """A function for dicts whose names are those of the registry and in its order, as in most values. There is none
+        if the interpreter makes no functions, or has no room for that."""
+        known: dict[str, Any] = {**_OF_CODE, "generic": self._generic_quick}
+        lines, pieces = [], []
+        for number, (name, head, part) in enumerate(self._quick):
+            code = part.code(number)
+            known |= {f"n{number}": name, f"h{number}": f"{',' if number else '{'}{head}", f"f{number}": part}
+            lines += code.lines
+            pieces.append(f"{{h{number}}}{code.expression}")
+        if not 0 < len(pieces) <= MOST_PARTS:
+            return None
+        numbers = range(len(pieces))
+        first_lines = [
+            f"if type(value) is not dict or not levels or len(value) != {len(pieces)}: raise Slow",
+            # (another thread may change the dict, so all of it is read in one step)
+            f"try: {''.join(f'(k{number}, v{number}), ' for number in numbers)} = value.items()",
+            "except Errors: raise Slow from None",
+            f"if not ({' and '.join(f'k{number} is n{number}' for number in numbers)}): return generic(value, levels)",
+            f"levels, room = levels - 1, {_MOST_QUICK}",
+        ]
+        try:
+            text = f"return f'{''.join(pieces)}}}}}'"
+            made: _Quick = function_of("value, levels", [*first_lines, *lines, text], known)
+        except (RuntimeError, MemoryError):
+            return None
+        return made
 
     def _writing(self, members: dict[str, Any], out: _Pieces) -> _Writing:
         name, is_first = "", True
@@ -764,18 +843,8 @@ class _Tagged(_Object):
         self._variants = variants
 
     @functools.cached_property
-    def _quick(self) -> dict[str, tuple[str, _Quick]]:
-        return {name: (f"{{{_quoted(name)}:", part.resolved().quick) for name, part in self._variants.items()}
-
-    def quick(self, value: Any, levels: int) -> str:
-        if type(value) is not dict or not levels or len(value) != 1:
-            raise _Slow
-        ((name, part),) = value.items()
-        known = self._quick.get(name) if type(name) is str else None
-        if known is None:
-            raise _Slow
-        head, quick = known
-        return head + quick(part, levels - 1) + "}"
+    def _quick(self) -> dict[str, tuple[str, Format]]:
+        return {name: (f"{{{_quoted(name)}:", part.resolved()) for name, part in self._variants.items()}
 
     def _writing(self, members: dict[str, Any], out: _Pieces) -> _Writing:
         name, before = "", "{"
@@ -792,6 +861,14 @@ class _Tagged(_Object):
         out.append("}" if members else "{}")
 
 
+def _only_item_of(value: dict[Any, Any]) -> tuple[Any, Any]:
+    try:
+        (item,) = value.items()
+    except (ValueError, RuntimeError):
+        raise _Slow from None
+    return item
+
+
 class _Enum(_Tagged):
     takes = "ENUM takes a variant's name or a dict of one variant"
 
@@ -802,7 +879,15 @@ class _Enum(_Tagged):
         return self._writing(self._members_of(value), out)
 
     def quick(self, value: Any, levels: int) -> str:
-        return _quoted_at_once(value) if type(value) is str else _Tagged.quick(self, value, levels)
+        if type(value) is str:
+            return _quoted_at_once(value)
+        if type(value) is not dict or not levels:
+            raise _Slow
+        name, part = _only_item_of(value)
+        known = self._quick.get(name) if type(name) is str else None
+        if known is None:
+            raise _Slow
+        return f"{known[0]}{known[1].quick(part, levels - 1)}}}"
 
 
 class _Option(_Tagged):
@@ -830,9 +915,15 @@ class _Option(_Tagged):
     def quick(self, value: Any, levels: int) -> str:
         if value is None:
             return "null"
-        if self._is_plain and type(value) is not dict:
-            value = {"some": value}
-        return _Tagged.quick(self, value, levels)
+        if type(value) is dict:
+            name, value = _only_item_of(value)
+            if type(name) is not str or name != "some":
+                raise _Slow
+        elif not self._is_plain:
+            raise _Slow
+        if not levels:
+            raise _Slow
+        return f'{{"some":{self._inner.resolved().quick(value, levels - 1)}}}'
 
 
 class _Named(Format):
@@ -861,6 +952,11 @@ def _is_like_some(kind: str, inner: Any) -> bool:
     return names == ["some"] if kind == "STRUCT" else "some" in names
 
 
+# What the functions that are made refer to.
+_OF_CODE: dict[str, Any] = {
+    **{"Slow": _Slow, "Errors": (ValueError, RuntimeError), "quoted": _quoted_at_once, "octets": _octets_at_once},
+    **{"unhexlify": binascii.unhexlify, "type": type, "len": len, "dict": dict, "int": int, "str": str},
+}
 _UNSUPPORTED = _Unsupported()
 _UNSUPPORTED_WORDS = ("CHAR", "F32", "F64")
 _U8 = _Number("U8", 8, False)

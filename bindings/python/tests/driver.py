@@ -199,6 +199,28 @@ def example(registry: Registry, format: bytes, limits: Limits, variant: bytes, f
     return output(text.encode())
 
 
+def value(registry: Registry, format: bytes, limits: Limits, text: bytes, _: str) -> Answer:
+    """The bytes of a value. The other calls agree."""
+    from samples import value_of
+
+    given = [value_of(text.decode()) for _ in range(2)]
+    calls: list[Callable[[], object]] = [
+        lambda: registry.encode(format, given[0]),
+        lambda: registry.normalise(format, given[0]),
+        lambda: registry.equal(format, *given),
+    ]
+    told = alike(calls, (bcs_proved.TextError, bcs_proved.ValueTypeError), "line")
+    if told.line != Answer("no").line:
+        fault = refused_by(calls[0], (bcs_proved.TextError,))
+        assert fault and (type(fault) is bcs_proved.ValueTypeError) == (fault.kind == "value")
+        return Answer(fault.kind, fault.reason, output=f"{fault.at}\n{fault.message}".encode("utf-8", "surrogatepass"))
+    data = registry.encode(format, given[0])
+    back = registry.decode(format, data)
+    assert registry.normalise(format, given[0]) == back and registry.encode(format, back) == data
+    assert registry.equal(format, given[0], back)
+    return output(data)
+
+
 # What takes a registry, a format, limits and what comes behind them.
 CALLS: dict[str, Callable[..., Answer]] = {
     "check": check,
@@ -219,10 +241,11 @@ CALLS: dict[str, Callable[..., Answer]] = {
     "path_place": path_place,
     "schema": schema,
     "example": example,
+    "value": value,
 }
 # Which words behind the limits are no hexadecimal digits.
 PLAIN = {
-    **dict.fromkeys(["explain", "explain_with", "text_place", "stop_place", "example"], [1]),
+    **dict.fromkeys(["explain", "explain_with", "text_place", "stop_place", "example", "value"], [1]),
     **dict.fromkeys(["part_named", "content", "pair_place"], [2]),
     "path_place": [2, 3],
     "format_place": [0],
@@ -269,6 +292,7 @@ OTHER_CALLS: dict[str, Callable[..., Answer]] = {
     "growth_list": lambda older, newer: both(older, newer, growth_list),
     "growth_place": lambda older, newer, what: both(older, newer, functools.partial(growth_place, what=what)),
     "show": lambda text, name, form: output(registry_of(text).show(name.decode(), as_json=form == "json").encode()),
+    "which": lambda text, data, _: output("".join(f"{name}\n" for name in registry_of(text).which(data)).encode()),
     "registry_place": lambda text, what: place(refused_by(lambda: Registry(text)), what),
     "registry_of_modules": registry_of_modules,
     "modules_place": lambda modules, lines, what: place(refused_by(lambda: made_of(modules, lines)), what),

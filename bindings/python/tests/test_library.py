@@ -71,7 +71,7 @@ class Places(unittest.TestCase):
         told = run(self.folder, before=ON_WINDOWS, LD_LIBRARY_PATH=self.folder, PATH=self.folder)
         self.assertNotEqual(told.returncode, 0)
         self.assertIn(f"can't load {pathlib.Path(self.folder).resolve() / MODULE.name / 'bcs.dll'}", told.stderr)
-        self.assertIn("bindings/windows/build.sh", told.stderr)
+        self.assertIn("platforms/windows/build.sh", told.stderr)
 
     def test_nowhere(self) -> None:
         told = run(self.folder, BCS_LIBRARY="/nowhere/libbcs.so")

@@ -4,7 +4,12 @@ use bcs_proved::{
     Error, ErrorKind, Example, Explanation, Form, Format, Limits, MadeRegistry, Part, Registry, Views,
     registry_of_modules,
 };
+use std::cell::RefCell;
 use std::io::{self, BufRead, Write};
+
+#[cfg(feature = "serde_json")]
+#[path = "../tests/common/values.rs"]
+mod values;
 
 const UNSAYABLE: &str = "unsayable";
 
@@ -23,11 +28,9 @@ fn answer(line: &str) -> String {
     let told = match words.next() {
         "fault_name" => return UNSAYABLE.into(),
         "grows" => grown(words, |older, newer, _| older.grows(newer).map(|()| Told::done())),
-        "growth_list" => grown(words, |older, newer, _| {
-            let lines = older.differences(newer)?.into_iter().map(|line| line + "\n");
-            Ok(Told::output(lines.collect::<String>().into()))
-        }),
+        "growth_list" => grown(words, |older, newer, _| Ok(Told::lines(older.differences(newer)?))),
         "growth_place" => grown(words, |older, newer, what| Ok(place(older.grows(newer).err(), "growth", what))),
+        "which" => which(words).unwrap_or_else(|error| Told::error(error, "registry")),
         "show" => show(words).unwrap_or_else(|error| Told::error(error, "registry")),
         "registry_place" => place(Registry::read(words.bytes()).err(), "registry", words.next()),
         "registry_of_modules" => made(&mut words).map_or_else(|error| Told::error(error, "registry"), Told::made),
@@ -90,6 +93,10 @@ impl Told {
         Told { length: output.len(), output, ..Told::done() }
     }
 
+    fn lines(lines: Vec<String>) -> Told {
+        Told::output(lines.into_iter().map(|line| line + "\n").collect::<String>().into())
+    }
+
     fn made(MadeRegistry { json, notes }: MadeRegistry) -> Told {
         let notes = if notes.is_empty() { notes } else { format!("\n{notes}") };
         Told::output(format!("{json}{notes}").into())
@@ -123,6 +130,10 @@ fn grown(mut words: Words, call: impl Fn(&Registry, &Registry, &str) -> Result<T
     newer.and_then(|newer| call(&older, &newer, what)).unwrap_or_else(|error| Told::error(error, "newer"))
 }
 
+fn which(mut words: Words) -> Result<Told, Error> {
+    Registry::read(words.bytes())?.which(words.bytes()).map(Told::lines)
+}
+
 fn show(mut words: Words) -> Result<Told, Error> {
     let registry = Registry::read(words.bytes())?;
     let name = String::from_utf8(words.bytes()).expect("names are UTF-8");
@@ -138,11 +149,60 @@ fn made(words: &mut Words) -> Result<MadeRegistry, Error> {
     registry_of_modules(modules, types.split_terminator('\n'))
 }
 
+thread_local! {
+    /// The registry of the line before, which the next line often has, too.
+    static LAST: RefCell<(Vec<u8>, Option<Registry>)> = const { RefCell::new((Vec::new(), None)) };
+}
+
+fn open(text: Vec<u8>) -> Result<Registry, Error> {
+    LAST.with_borrow_mut(|last| match last {
+        (known, Some(registry)) if *known == text => Ok(registry.clone()),
+        _ => {
+            let registry = Registry::read(&text)?;
+            *last = (text, Some(registry.clone()));
+            Ok(registry)
+        }
+    })
+}
+
+/// A value's bytes, or what bytes are as a type; or where and why the value or the type is refused.
+#[cfg(feature = "serde_json")]
+fn of_value(call: &str, registry: &Registry, format: &Format, mut words: Words) -> Told {
+    let first = words.bytes();
+    let name = if call == "value" { first.clone() } else { words.bytes() };
+    let (name, place) = (String::from_utf8(name).expect("names are UTF-8"), words.next());
+    let told = match call {
+        "value" => values::encoded(registry, format, &name, place),
+        _ => values::decoded(registry, format, &name, place, &first).map(String::into_bytes),
+    };
+    told.map_or_else(
+        |error| {
+            let status = match error.kind() {
+                ErrorKind::Value => "value",
+                ErrorKind::Text(_) => "text",
+                ErrorKind::Bytes(_) => "bytes",
+                _ => panic!("no status has {error}"),
+            };
+            let output = format!("{}\n{}", error.at().unwrap_or_default(), error.message());
+            Told { status, fault: error.reason(), ..Told::output(output.into()) }
+        },
+        Told::output,
+    )
+}
+
+#[cfg(not(feature = "serde_json"))]
+fn of_value(_: &str, _: &Registry, _: &Format, _: Words) -> Told {
+    Told { status: UNSAYABLE, ..Told::default() }
+}
+
 fn ask(call: &str, mut words: Words) -> Result<Told, Error> {
-    let registry = Registry::read(words.bytes())?;
+    let registry = open(words.bytes())?;
     let format = &Format::json(words.bytes());
     let limits = Limits { depth: words.number(), nodes: Some(words.number()) };
     let registry = registry.with_limits(limits);
+    if ["value", "typed"].contains(&call) {
+        return Ok(of_value(call, &registry, format, words));
+    }
     if call == "check" {
         registry.check(format)?;
         return Ok(Told::done());

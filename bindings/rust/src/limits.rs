@@ -9,7 +9,7 @@
 /// ```
 #[derive(Clone, Copy, Debug, PartialEq, Eq, Hash)]
 pub struct Limits {
-    /// How many containers may be open at once. Calls reject more than 500, as
+    /// How deeply containers may nest. Calls reject more than 500, as
     /// [`ErrorKind::Limits`](crate::ErrorKind::Limits).
     pub depth: u32,
     /// How many nodes a value may have. Each shape of a value is one: a number, a string, an option, a list, a container,

@@ -304,6 +304,19 @@ impl Registry {
         Ok(done(self.answer(&self.of_bytes(Call::Scan, &format, bytes))?)?.length)
     }
 
+    /// The containers that the bytes are exactly one value of, the likeliest first: their names, as `bcs which` prints them.
+    ///
+    /// ```
+    /// let registry = bcs_proved::Registry::read(r#"{"Id":{"NEWTYPESTRUCT":"U64"},"Name":{"NEWTYPESTRUCT":"STR"}}"#)?;
+    /// assert_eq!(registry.which(b"\x03bob")?, ["Name"]);
+    /// # Ok::<(), bcs_proved::Error>(())
+    /// ```
+    pub fn which(&self, bytes: impl AsRef<[u8]>) -> Result<Vec<String>, Error> {
+        let (format, bytes) = (Format::json(r#""UNIT""#), bytes.as_ref());
+        let (text, _) = self.output(&self.of_bytes(Call::Candidates, &format, bytes), 1024)?;
+        Ok(into_text(text).lines().map(String::from).collect())
+    }
+
     /// The part of the value at the front to which a path leads, or `None` where it leads nowhere.
     ///
     /// A path is `.` for the whole value, or steps with `/` between them: `inner` goes into a container, a variant or an

@@ -56,6 +56,7 @@ pub(crate) enum Call {
     Explain = 10,
     Schema = 13,
     Example = 14,
+    Candidates = 15,
     Show = 20,
     FormatPlace = 21,
     Grows = 30,

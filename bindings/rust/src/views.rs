@@ -46,7 +46,7 @@ impl Views {
     }
 
     /// Explains the elements of the list of this name as the arguments of a function, in a registry that
-    /// [`registry_of_modules`](crate::registry_of_modules) made for it.
+    /// [`registry_of_modules`](crate::registry_of_modules) made for it. An empty function is the one that is called.
     #[must_use]
     pub fn call(self, name: impl Into<String>, function: impl Into<String>) -> Views {
         self.with(View::Call(name.into(), function.into()))

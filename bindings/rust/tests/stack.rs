@@ -1,4 +1,4 @@
-//! The deepest values on the stacks that README.md names.
+//! The deepest values on the stacks that docs/LIMITS.md names.
 use bcs_proved::{ErrorKind, Limits, Registry};
 use std::thread;
 

@@ -146,7 +146,7 @@ static const struct {
      "bcs: refused: BadPath in the path: expected a JSON Pointer such as /payload/args/1"},
     {"select bcs_explain_with('{}','\"BYTES\"',x'0107','json','inside .')",
      "bcs: refused: BadPath in the path at line 1 of the views: "
-     "expected inside NAME=FORMAT, call NAME=FUNCTION, address NAME, u256 NAME or i256 NAME"},
+     "expected inside NAME=FORMAT, call NAME[=FUNCTION], address NAME, u256 NAME or i256 NAME"},
     {"select bcs_explain_with('{}','\"BYTES\"',x'0107','json','inside .=A')",
      "bcs: refused: UnknownName in the format at line 1 of the views: no container is called A"},
     {"select bcs_explain_with('{}','\"BYTES\"',x'0107','json',char(10) || 'inside .=\"U8\"' || char(10) || 'inside .\"=\\\"=\"={\"SEQ\":7}')",
@@ -279,7 +279,7 @@ static void hostile(void) {
              "bcs: refused: UnknownName in the format at line 1 of the views: no container is called \\u00e9");
     is_error(database, "select bcs_explain_with('{}','\"BYTES\"',x'0107','json',char(233,10) || 'u256 ' || char(233))",
              "bcs: refused: BadPath in the path at line 1 of the views: "
-             "expected inside NAME=FORMAT, call NAME=FUNCTION, address NAME, u256 NAME or i256 NAME");
+             "expected inside NAME=FORMAT, call NAME[=FUNCTION], address NAME, u256 NAME or i256 NAME");
     is_error(database, "select bcs_explain_with('{}','\"BYTES\"',x'0107','json','u256 ' || char(233))",
              "bcs: refused: UnknownName in the format at line 1 of the views: the registry has no newtype of 32 bytes with this name");
     is_error(database, "select bcs_is('{}','" TEN("{\"SEQ\":{\"SEQ\":{\"SEQ\":{\"SEQ\":") "\"U8\"" TEN("}}}}") "',x'07')",

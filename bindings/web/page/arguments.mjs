@@ -27,6 +27,18 @@ export function callsIn(containers, pieces, explain) {
   return calls;
 }
 
+/** A function with the formats of its arguments, as in `transfer(address, U64)`. */
+export function signatureOf(containers, called) {
+  const formats = (containers.get(called)?.STRUCT ?? []).map((field) => Object.values(field)[0]);
+  const shown = formats.map((format) => (typeof format === 'string' ? format : format.TYPENAME ?? JSON.stringify(format)));
+  return `${OWN_NAME.exec(called)[1]}(${shown.join(', ')})`;
+}
+
+/** A container's name. That of an argument begins with its whole function, and is shortened. */
+export function shownContainer(name) {
+  return name.replace(/^.*::(\w+)(?:<.*>)?::(arg[0-9]+)$/s, '$2 of $1');
+}
+
 /** Whether the library compared the function, and it is the one that is called. */
 function isAccepted(told, list) {
   return !REFUSED.includes(told.at(-1).refused) && !told.some(({ note, name }) => note !== undefined && name === list);

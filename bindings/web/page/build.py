@@ -21,17 +21,21 @@ sys.dont_write_bytecode = True
 sys.path.insert(0, str(HERE.parent))
 from joining import joined  # noqa: E402 (the folder has to be known first)
 
-EXAMPLES = HERE.parent.parent.parent / "examples"
+TOP = HERE.parent.parent.parent
+EXAMPLES = TOP / "examples"
 
 # Each module comes after those that it imports.
 WORKER = ["../errors", "../hex", "../octets", "../texts", "../move_types", "../shapes", "../json_output", "../writing"]
 WORKER += ["../reading", "../interruptions", "../question", "../calls", "../limits", "../holder", "../refusals"]
 WORKER += ["../views", "../format_calls", "../registry", "../support", "../modules", "../loader"]
-WORKER += ["names", "wrong_digits", "coding", "advice", "roots", "layout", "blank", "outline", "arguments"]
+WORKER += ["names", "wrong_digits", "coding", "advice", "roots", "layout", "blank", "arguments", "outline"]
 WORKER += ["joined_registry", "worker"]
 SCRIPT = ["../hex", "../octets", "../support", "names", "wrong_digits", "coding", "reasons", "lights", "link", "pane"]
 SCRIPT += ["places", "questions", "digits", "tree", "kept"]
 SCRIPT += ["main"]
+
+# (whole lines, which the page leaves to the sources)
+COMMENT = re.compile(r"^[ \t]*(?://.*|/\*\*(?:.|\n)*?\*/)\n", re.MULTILINE)
 
 # The title, the registry, the container, the side, and the file with the value; without a file the value is blank.
 LISTED = [
@@ -46,7 +50,7 @@ LISTED = [
 
 
 def script_of(names: list[str]) -> str:
-    return joined(HERE / f"{name}.mjs" for name in names)
+    return COMMENT.sub("", joined(HERE / f"{name}.mjs" for name in names))
 
 
 def example(title: str, registry: str, container: str, side: str, file: str | None) -> dict[str, str]:
@@ -79,6 +83,14 @@ def policy(script: str, style: str) -> str:
     )
 
 
+def version() -> str:
+    source = (TOP / "crates/bcs_tool_command_line/src/version.rt").read_text(encoding="utf-8")
+    found = re.search(r'VERSION: &str = "([^"]+)"', source)
+    if not found:
+        sys.exit("page: crates/bcs_tool_command_line/src/version.rt has no version")
+    return found[1]
+
+
 def within_script(text: str) -> str:
     """A text in a script element, which ends at the first `</script`."""
     if re.search(r"</script|<!--", text, flags=re.IGNORECASE):
@@ -88,11 +100,14 @@ def within_script(text: str) -> str:
 
 def main(folder: str) -> None:
     room = pathlib.Path(folder)
-    module = gzip.compress((room / "bcs.wasm").read_bytes(), 9, mtime=0)
+    code = (room / "bcs.wasm").read_bytes()
+    module = gzip.compress(code, 9, mtime=0)
     script, style = script_of(SCRIPT), (HERE / "page.css").read_text(encoding="utf-8")
     values = {
         "POLICY": policy(script, style),
         "STYLE": style,
+        "VERSION": version(),
+        "CHECKSUM": hashlib.sha256(code).hexdigest(),
         "EXAMPLES": json.dumps([example(*row) for row in LISTED]).replace("<", "\\u003c"),
         "MODULE": base64.b64encode(module).decode(),
         "WORKER": within_script(script_of(WORKER)),

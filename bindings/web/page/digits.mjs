@@ -1,4 +1,4 @@
-// The bytes as rows of hexadecimal digits, each piece in the colour of its kind.
+// The bytes as rows of hexadecimal digits with their ASCII, each piece in the colour of its kind.
 import { bringIntoSight } from './lights.mjs';
 import { shownName } from './names.mjs';
 
@@ -17,6 +17,8 @@ const COLOURS = {
   i256: 'number',
 };
 const MOST_OF_PIECE = 512;
+// What a row holds beside three characters for each byte, and one more where it has ASCII.
+const BESIDE = 2;
 
 export class Digits {
   #box;
@@ -26,6 +28,7 @@ export class Digits {
   #active = -1;
   #lit = [-1, -1, -1];
   #columns = 16;
+  #hasAscii = true;
 
   constructor(box, lights) {
     this.#box = box;
@@ -95,31 +98,38 @@ export class Digits {
     this.#activate(to);
   }
 
-  /** As many bytes in a row as there is room for, in steps of eight. */
+  /** 32, 16 or 8 bytes in a row: as many as there is room for beside their ASCII, or 16 without it. */
   #fit() {
     const probe = this.#box.querySelector('.offset');
     if (probe === null) return;
+    const { paddingLeft, paddingRight } = getComputedStyle(this.#box);
     const digit = probe.getBoundingClientRect().width / probe.textContent.length;
-    const room = this.#box.clientWidth / digit - probe.textContent.length - 4;
-    const columns = Math.min(32, Math.max(8, Math.floor(room / 3 / 8) * 8));
-    if (columns === this.#columns) return;
-    this.#columns = columns;
+    const width = this.#box.clientWidth - parseFloat(paddingLeft) - parseFloat(paddingRight);
+    const room = Math.floor(width / digit) - probe.textContent.length - BESIDE;
+    const [columns, hasAscii] = layoutIn(room);
+    if (columns === this.#columns && hasAscii === this.#hasAscii) return;
+    [this.#columns, this.#hasAscii] = [columns, hasAscii];
     this.#draw();
   }
 
   #draw() {
     const { pieces, stop, length } = this.#explained;
     this.#spans = pieces.map(() => []);
-    const rows = new Rows(this.#box, this.#columns, pieces[0]?.place ?? 0, length);
-    pieces.forEach((piece, i) => this.#drawPiece(rows, piece, i));
+    const rows = new Rows(this.#box, this.#columns, this.#hasAscii, pieces[0]?.place ?? 0, length);
+    let isOther = false;
+    pieces.forEach((piece, i) => {
+      // (neighbours of one colour have two tones of it)
+      isOther = COLOURS[piece.kind] === COLOURS[pieces[i - 1]?.kind] && !isOther;
+      this.#drawPiece(rows, piece, i, isOther);
+    });
     if (stop) this.#drawRest(rows, this.#explained);
     rows.end();
     this.#paint(true);
   }
 
-  #drawPiece(rows, piece, i) {
+  #drawPiece(rows, piece, i, isOther) {
     const isStop = this.#explained.stop && piece.place >= this.#explained.stop.place;
-    const classes = ['piece', COLOURS[piece.kind], ...(isStop ? ['stopped'] : [])];
+    const classes = ['piece', COLOURS[piece.kind], ...(isOther ? ['other'] : []), ...(isStop ? ['stopped'] : [])];
     const digits = piece.bytes.slice(0, 2 * MOST_OF_PIECE);
     for (const span of rows.put(piece.place, digits, classes)) {
       span.dataset.piece = String(i);
@@ -146,34 +156,66 @@ export class Digits {
   }
 }
 
+/** How many bytes a row has, and whether their ASCII is behind them, if there is room for so many characters. */
+function layoutIn(room) {
+  const columns = [32, 16].find((count) => 4 * count <= room) ?? 8;
+  return columns === 8 && room >= 3 * 16 - 1 ? [16, false] : [columns, 4 * columns <= room];
+}
+
+/** The bytes as ASCII, with a dot for each that can't be seen. */
+function asciiOf(digits) {
+  return digits.replace(/../g, (byte) => {
+    const code = parseInt(byte, 16);
+    return code > 0x20 && code < 0x7f ? String.fromCharCode(code) : '·';
+  });
+}
+
 /** Rows that are filled from left to right, and put into the box at their end. */
 class Rows {
   #rows = [];
 
-  constructor(box, columns, start, end) {
+  constructor(box, columns, hasAscii, start, end) {
     this.box = box;
     this.columns = columns;
+    this.hasAscii = hasAscii;
     this.start = start - (start % columns);
     this.width = Math.max(4, String(end).length);
   }
 
-  /** Puts digits at a place, a run for each row that they stand in, and gives the runs. */
+  /** Puts digits at a place, a run for each row that they stand in, with one of their ASCII, and gives the runs. */
   put(place, digits, classes) {
-    const runs = [];
+    const [runs, asciiRuns] = [[], []];
     for (let at = 0; at < digits.length; ) {
       const column = (place + at / 2 - this.start) % this.columns;
-      const room = 2 * (this.columns - column);
-      const run = document.createElement('span');
-      run.className = classes.join(' ');
-      run.textContent = digits.slice(at, at + room).replace(/..(?=.)/g, '$& ');
+      const part = digits.slice(at, at + 2 * (this.columns - column));
+      const run = runOf(part.replace(/..(?=.)/g, '$& '), classes);
       this.#rowAt(place + at / 2, column).append(run, ' ');
       runs.push(run);
-      at += room;
+      if (this.hasAscii) asciiRuns.push(this.#putAscii(part, classes));
+      at += part.length;
     }
-    return runs;
+    return [...runs, ...asciiRuns];
+  }
+
+  #putAscii(digits, [, ...colours]) {
+    const run = runOf(/^(··)+$/.test(digits) ? ' ' : asciiOf(digits), ['ascii', ...colours]);
+    this.ascii.push(run);
+    this.left -= digits.length / 2;
+    return run;
+  }
+
+  /** Puts the ASCII of a row behind its digits, also where they don't fill it. */
+  #endRow() {
+    if (this.row === undefined || !this.hasAscii) return;
+    const ascii = document.createElement('span');
+    ascii.setAttribute('aria-hidden', 'true');
+    ascii.append(' '.repeat(this.indent), ...this.ascii);
+    this.row.append('   '.repeat(this.left), ascii);
+    this.row = undefined;
   }
 
   skipTo(place, count) {
+    this.#endRow();
     const row = document.createElement('div');
     row.className = 'skipped';
     row.setAttribute('role', 'presentation');
@@ -185,6 +227,8 @@ class Rows {
 
   #rowAt(place, column) {
     if (column !== 0 && this.row) return this.row;
+    this.#endRow();
+    [this.ascii, this.indent, this.left] = [[], column, this.columns - column];
     const row = document.createElement('div');
     row.setAttribute('role', 'presentation');
     const offset = document.createElement('span');
@@ -198,6 +242,14 @@ class Rows {
   }
 
   end() {
+    this.#endRow();
     this.box.replaceChildren(...this.#rows);
   }
+}
+
+function runOf(text, classes) {
+  const run = document.createElement('span');
+  run.className = classes.join(' ');
+  run.textContent = text;
+  return run;
 }

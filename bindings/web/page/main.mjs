@@ -21,6 +21,8 @@ const CLOSED = '';
 const BOTH_SIDES = ['text', 'bytes'];
 const COMPARED = ['first', 'second'];
 const BYTE_STRINGS = ['bytes', 'octets', 'text'];
+const IS_TAPPED = matchMedia('(pointer: coarse), (max-width: 40rem)').matches;
+const HINT = IS_TAPPED ? 'Tap digits or a row to see what it is.' : 'Point at digits or at a row, or go there by the arrow keys.';
 const NO_PIECES = { first: 0, pieces: [], rows: [], stop: undefined, rest: '', covered: 0, length: 0, isCut: false };
 
 const $ = (id) => document.getElementById(id);
@@ -99,7 +101,9 @@ class Page {
     for (const button of document.querySelectorAll('[data-open]')) {
       button.addEventListener('click', () => this.#chooseFile(button.dataset.open));
     }
-    $('file').addEventListener('change', () => this.#readFile());
+    $('file').addEventListener('change', () => this.#readFile($('file').dataset.pane, $('file').files[0]));
+    $('sides').addEventListener('focusin', () => $('sides').classList.remove('agreed'));
+    whenDropped((file, pane) => this.#takeDropped(file, pane));
     window.addEventListener('hashchange', () => this.#restore());
   }
 
@@ -220,9 +224,10 @@ class Page {
     if (told === undefined) return;
     const { answer, refusal } = told;
     const verdict = $('registry-verdict');
-    verdict.className = refusal ? 'bad' : 'good';
-    verdict.textContent = refusal ? toldOfRefusal(refusal) : toldOfContainers(answer);
-    this.panes.registry.mark(refusal && rangeOf(this.panes.registry.content, refusal));
+    const isEmpty = this.panes.registry.content.trim() === '';
+    verdict.className = isEmpty ? '' : refusal ? 'bad' : 'good';
+    verdict.textContent = isEmpty ? 'none yet' : refusal ? toldOfRefusal(refusal) : toldOfContainers(answer);
+    this.panes.registry.mark(refusal && !isEmpty ? rangeOf(this.panes.registry.content, refusal) : undefined);
     const seeksRoot = isTyped && !this.#isFormatOwn;
     const isMissing = seeksRoot && answer?.root !== undefined && !hasContainer(answer.names, format);
     const found = isMissing ? JSON.stringify({ TYPENAME: answer.root }) : format;
@@ -311,11 +316,41 @@ class Page {
     if ($('compare-box').open) this.#compare();
   }
 
+  /** Whether there is nothing to refuse yet. (No bytes may be a value, and then there is no fault.) */
+  #isEmptied({ kind }) {
+    if (kind === 'registry') return this.panes.registry.content.trim() === '';
+    return (kind === 'text' || kind === 'bytes') && this.panes[this.#side].content.trim() === '';
+  }
+
+  #tellEmpty(box) {
+    for (const side of BOTH_SIDES) markStale(side, false);
+    this.panes[this.#otherSide].content = '';
+    this.#showPieces(NO_PIECES);
+    tellVerdict('waiting', ...EMPTY[box]);
+  }
+
+  /** Where both sides agree, their boxes give way to the pieces: not while the reader is in one of them. */
+  #shrink(isAgreeing) {
+    const sides = $('sides');
+    if (!isAgreeing || !sides.contains(document.activeElement)) sides.classList.toggle('agreed', isAgreeing);
+  }
+
+  /** Says what this page accepts among digits, and the program doesn't. */
+  #noteSpelling() {
+    const { isCut, content } = this.panes.bytes;
+    if (isCut) return;
+    const isLoose = this.#side === 'bytes' && this.#coding === 'hex' && /^\s*0x|\S\s+\S/i.test(content);
+    $('bytes-note').textContent = isLoose ? '0x and spaces are accepted here, but not by bcs' : '';
+  }
+
   #tell({ answer, refusal }) {
     const explained = answer?.explained ?? NO_PIECES;
     const fault = refusal ?? answer.refusal;
+    this.#noteSpelling();
+    this.#shrink(fault === undefined);
     this.panes.text.mark(undefined);
     this.panes.bytes.mark(undefined);
+    if (fault && this.#isEmptied(fault)) return this.#tellEmpty(fault.kind === 'registry' ? 'registry' : this.#side);
     markStale(this.#side, false);
     markStale(this.#otherSide, fault !== undefined);
     if (!fault) this.#fillOtherSide(answer);
@@ -323,6 +358,20 @@ class Page {
     if (fault) this.#tellFault(fault, explained.stop);
     else if (explained.trouble) tellVerdict('bad', 'Byte strings stay closed:', toldOfTrouble(explained.trouble, answer.length));
     else tellVerdict('', `${counted(answer.length, 'byte', 'bytes')}:`, ' the one encoding of this value.');
+    if (answer?.candidates?.length > 0) this.#offer(answer.candidates);
+  }
+
+  /** Buttons for the containers that the bytes are exactly one value of. */
+  #offer(candidates) {
+    const buttons = candidates.map(({ name, format }) => buttonFor(shownName(name, 60), () => this.#chooseListed(format)));
+    $('verdict').append(' These bytes are exactly one value of ', ...buttons.flatMap((button) => [button, ' ']));
+  }
+
+  #chooseListed(format) {
+    const isListed = ({ value }) => value !== OWN && value === JSON.stringify(JSON.parse(format));
+    $('container').value = [...$('container').options].find(isListed)?.value ?? OWN;
+    if ($('container').value === OWN) $('format').value = format;
+    this.#chooseContainer();
   }
 
   #showPieces(explained) {
@@ -330,7 +379,7 @@ class Page {
     $('pieces').hidden = explained.pieces.length === 0 && explained.stop === undefined;
     this.#digits.show(explained);
     this.#tree.show(explained);
-    $('detail').textContent = 'Point at digits or at a row, or go there by the arrow keys.';
+    $('detail').textContent = HINT;
     $('opening').hidden = $('part').hidden = true;
     $('pieces-note').textContent = noteOn(explained);
     $('more').hidden = !hasMore(explained);
@@ -538,11 +587,14 @@ class Page {
     $('file').click();
   }
 
-  async #readFile() {
-    const [file] = $('file').files;
+  /** Takes a file that was dropped: into the box that it was dropped on, or where its contents belong. */
+  async #takeDropped(file, pane) {
+    await this.#readFile(pane ?? paneFor(file.name, await file.slice(0, MOST_SEEN).text()), file);
+  }
+
+  async #readFile(pane, file) {
     if (file === undefined) return;
     if (file.size > MOST_OPENED) return tellVerdict('bad', 'No answer:', ' the file is above 256 MiB.');
-    const { pane } = $('file').dataset;
     const bytes = new Uint8Array(await file.arrayBuffer());
     this.#keep(...(BOTH_SIDES.includes(pane) ? BOTH_SIDES : [pane]));
     // (the page saves such files, and never guesses)
@@ -553,9 +605,41 @@ class Page {
   }
 }
 
+// What is said instead of a refusal where a box is empty.
+const EMPTY = {
+  registry: ['No registry yet:', ' paste one under Registry, drop a file, or choose an example.'],
+  text: ['No JSON yet:', ' type or paste a value, drop a file, or press Blank.'],
+  bytes: ['No bytes yet:', ' paste them, or drop a file.'],
+};
+const MOST_SEEN = 1 << 16;
+
+/** The box that a dropped file belongs into: JSON with kinds of containers in it is a registry, other JSON a value. */
+function paneFor(name, front) {
+  if (/\.(hex|base64|bcs|bin)$/.test(name) || !/^\s*[[{"]/.test(front)) return 'bytes';
+  return /"(STRUCT|TUPLESTRUCT|NEWTYPESTRUCT|ENUM|UNITSTRUCT)"/.test(front) ? 'registry' : 'text';
+}
+
+/** Calls `take` with a file that is dropped onto the page, and the name of the box where it is dropped onto one. */
+function whenDropped(take) {
+  const isFile = ({ dataTransfer }) => dataTransfer?.types.includes('Files');
+  const show = (isOver) => document.body.classList.toggle('dropping', isOver);
+  window.addEventListener('dragover', (event) => {
+    if (!isFile(event)) return;
+    event.preventDefault();
+    show(true);
+  });
+  window.addEventListener('dragleave', ({ relatedTarget }) => relatedTarget === null && show(false));
+  window.addEventListener('drop', (event) => {
+    show(false);
+    if (!isFile(event)) return;
+    event.preventDefault();
+    take(event.dataTransfer.files[0], event.target.closest?.('textarea')?.id);
+  });
+}
+
 const FORMAT_WORDS = /^(UNIT|BOOL|STR|BYTES|CHAR|[UI](8|16|32|64|128)|F32|F64)$/;
 
-/** A side that is not in step keeps what it shows, but nobody should sign it. */
+/** A side that is out of date keeps what it shows, but nobody should sign it. */
 function markStale(side, isStale) {
   $(`${side}-side`).classList.toggle('stale', isStale);
   for (const button of document.querySelectorAll(`[data-copy=${side}], [data-save=${side}]`)) button.disabled = isStale;
@@ -609,10 +693,14 @@ function tellMarked(pane, range, strong, text) {
 
 function buttonTo(pane, [at]) {
   const { line, column } = lineAndColumn(pane.content, at);
+  return buttonFor(`line ${shownNumber(line)}, column ${shownNumber(column)}`, () => pane.goToMark());
+}
+
+function buttonFor(text, use) {
   const button = document.createElement('button');
   button.type = 'button';
-  button.textContent = `line ${shownNumber(line)}, column ${shownNumber(column)}`;
-  button.addEventListener('click', () => pane.goToMark());
+  button.textContent = text;
+  button.addEventListener('click', use);
   return button;
 }
 

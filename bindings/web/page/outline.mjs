@@ -1,15 +1,17 @@
 // The pieces of a value's bytes as an outline: a row for each value, with the pieces that are its own and those of its parts.
 // The pieces are the proved call's; which row they stand in is found here, by going through the format beside them.
+import { shownContainer, signatureOf } from './arguments.mjs';
+
 const MOST_ROWS = 200_000;
 // (rows of parts that have no bytes, of which a few bytes can announce millions)
 const MOST_EMPTY = 64;
 
 /**
  * Rows in the order of the bytes: `{ level, label, value, what, from, own, to }`, the last three counting pieces. `insides` has the
- * formats of the byte strings that are opened, by their names.
+ * formats of the byte strings that are opened, by their names, and `calls` the functions, by the names of their lists of arguments.
  */
-export function outlineOf(containers, format, pieces, insides = new Map()) {
-  const outline = new Outline(containers, pieces, insides);
+export function outlineOf(containers, format, pieces, insides = new Map(), calls = {}) {
+  const outline = new Outline(containers, pieces, insides, calls);
   try {
     outline.value(format, { level: 0, label: '', types: [] });
   } catch (error) {
@@ -23,10 +25,11 @@ export function outlineOf(containers, format, pieces, insides = new Map()) {
 class OutOfPieces extends Error {}
 
 class Outline {
-  constructor(containers, pieces, insides) {
+  constructor(containers, pieces, insides, calls) {
     this.containers = containers;
     this.pieces = pieces;
     this.insides = insides;
+    this.calls = calls;
     this.next = 0;
     this.rows = [];
   }
@@ -55,7 +58,7 @@ class Outline {
     const [[kind, inner]] = Object.entries(format);
     switch (kind) {
       case 'TYPENAME':
-        return this.container(this.containers.get(inner), { ...at, types: [...at.types, inner] });
+        return this.container(this.containers.get(inner), { ...at, types: [...at.types, shownContainer(inner)] });
       case 'OPTION':
         return this.option(inner, at);
       case 'SEQ':
@@ -101,9 +104,10 @@ class Outline {
   }
 
   list(inner, at) {
-    const count = this.piece.value;
+    const { value: count, name } = this.piece;
     const value = count === 1 ? '1 element' : `${count} elements`;
-    this.row(at, { value, what: 'SEQ', count: 1 }, () => this.each(count, at, (part) => this.value(inner, part)));
+    const what = Object.hasOwn(this.calls, name) ? signatureOf(this.containers, this.calls[name]) : 'SEQ';
+    this.row(at, { value, what, count: 1 }, () => this.each(count, at, (part) => this.value(inner, part)));
   }
 
   parts({ CONTENT, SIZE }, at) {

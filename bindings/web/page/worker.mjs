@@ -20,6 +20,9 @@ const MOST_PIECES = 1000;
 // The bytes after a stop that are shown, and as many again where the reader wants more.
 const MOST_REST = 16 << 10;
 const MOST_NAMES = 2000;
+// How many containers are offered for bytes, and how many containers times bytes are looked at for it.
+const MOST_OFFERED = 5;
+const MOST_SCANNED = 1 << 24;
 const MOST_LAID_OUT = 200_000;
 
 let bcs;
@@ -97,8 +100,16 @@ function valueOfBytes(registry, format, digits, { coding, inside }) {
   } catch (error) {
     // (of damaged bytes there are pieces, too)
     if (!(error instanceof BcsError) || error.kind !== 'bytes') throw error;
-    return { length: bytes.length, refusal: refusalOf(error), explained: explained(registry, format, bytes, inside) };
+    const told = { length: bytes.length, refusal: refusalOf(error), explained: explained(registry, format, bytes, inside) };
+    return { ...told, candidates: candidatesFor(registry, error, bytes) };
   }
+}
+
+/** The formats of which the bytes are exactly one value, if they are too few or too many for the one that was chosen. */
+function candidatesFor(registry, { reason }, bytes) {
+  const isOfLength = reason === 'EndOfInput' || reason === 'TrailingBytes';
+  if (!isOfLength || bytes.length * open.containers.size > MOST_SCANNED) return [];
+  return registry.which(bytes).slice(0, MOST_OFFERED).map((name) => ({ name, format: `{"TYPENAME":"${name}"}` }));
 }
 
 /** The page gets the whole other side if it can show all of it, and otherwise a prefix. */
@@ -114,12 +125,12 @@ function shownText(text) {
 /** The pieces of the bytes with their outline. If the bytes are damaged, the last of them, and otherwise the first. */
 function explained(registry, format, bytes, inside) {
   const isFront = bytes.length > MOST_EXPLAINED;
-  const { told, insides, trouble } = toldOf(registry, format, isFront ? bytes.subarray(0, FRONT_EXPLAINED) : bytes, inside);
+  const { told, insides, calls, trouble } = toldOf(registry, format, isFront ? bytes.subarray(0, FRONT_EXPLAINED) : bytes, inside);
   const end = told.pop();
   // (a front ends before its value does, which is no damage)
   const stop = end.refused !== undefined && !(isFront && end.refused === 'EndOfInput') ? end : undefined;
   const first = stop ? Math.max(0, told.length - MOST_PIECES) : 0;
-  const outline = outlineOf(open.containers, parsed(format), told, insides);
+  const outline = outlineOf(open.containers, parsed(format), told, insides, calls);
   const pieces = told.slice(first, first + MOST_PIECES);
   const covered = pieces.length === 0 ? 0 : pieces.at(-1).place + pieces.at(-1).bytes.length / 2;
   return {
@@ -159,7 +170,7 @@ function toldOf(registry, format, bytes, inside) {
     const told = registry.explain(format, bytes, { inside, calls }).filter(({ note }) => note === undefined);
     const [end, plainEnd] = [told.at(-1), plain.at(-1)];
     if (end.refused !== undefined && end.place !== plainEnd.place) return closed({ reason: end.refused, ...end });
-    return { told, insides };
+    return { told, insides, calls };
   } catch (error) {
     if (!(error instanceof BcsError)) throw error;
     return closed(refusalOf(error));

@@ -4,6 +4,7 @@ import { readFileSync } from 'node:fs';
 import { createInterface } from 'node:readline';
 import { BcsError, load } from '../bcs.mjs';
 import { bytesOfHex, hexOf } from '../hex.mjs';
+import { valueOf } from './samples.mjs';
 
 const bcs = await load(readFileSync(process.argv[2]));
 const decoder = new TextDecoder('utf-8', { fatal: true, ignoreBOM: true });
@@ -79,6 +80,35 @@ function stopPlace(registry, format, bytes, what) {
   return place(refused, what);
 }
 
+let known = {};
+
+/** The registry of a text, which the next line often names, too. */
+function registryOf(text) {
+  if (known.text !== text) known = { text, registry: bcs.registry(bytesOfHex(text)) };
+  return known.registry;
+}
+
+/** The bytes of a value, which is in a field `v` if the place says so. The other calls agree. */
+function value([registryText, formatText, , , expression, place]) {
+  const [registry, format] = [registryOf(registryText), decoder.decode(bytesOfHex(formatText))];
+  const given = () => {
+    const made = valueOf(decoder.decode(bytesOfHex(expression)));
+    return place === 'field' ? { v: made } : made;
+  };
+  const calls = [() => registry.encode(format, given()), () => registry.normalise(format, given()), () => registry.equal(format, given(), given())];
+  const [refused, ...others] = calls.map((call) => refusedBy(call, ['text', 'value']));
+  for (const other of others) assert.deepEqual({ ...other }, { ...refused });
+  if (refused !== undefined) {
+    assert.ok(refused instanceof BcsError && refused.place === undefined);
+    return { ...put(`${refused.at}\n${refused.detail}`), status: refused.kind, fault: refused.reason };
+  }
+  const bytes = calls[0]();
+  const back = registry.decode(format, bytes);
+  assert.deepEqual(registry.normalise(format, given()), back);
+  assert.equal(hexOf(registry.encode(format, back)), hexOf(bytes));
+  return put(bytes);
+}
+
 const CALLS = {
   check: (registry, format) => (registry.check(format), DONE),
   to_bcs: (registry, format, text) => put(registry.encodeText(format, text)),
@@ -136,12 +166,14 @@ function answerTo(call, words) {
     const name = bcs.faultName(Number(words[0]));
     return name === undefined ? NO : put(name);
   }
+  if (call === 'value') return value(words);
   if (call === 'registry_place') return place(refusedBy(() => bcs.registry(bytesOfHex(words[0]))), words[1]);
   if (call === 'registry_of_modules') return made(words);
   if (call === 'modules_place') return place(refusedBy(() => made(words)), words[2]);
   if (call === 'grows') return bcs.grows(...words.map(bytesOfHex)), DONE;
   if (call === 'growth_place') return place(refusedBy(() => bcs.grows(...words.slice(0, 2).map(bytesOfHex)), ['growth', 'registry', 'newer']), words[2]);
   if (call === 'growth_list') return put(bcs.differences(...words.map(bytesOfHex)).map((difference) => `${difference}\n`).join(''));
+  if (call === 'which') return put(bcs.registry(bytesOfHex(words[0])).which(bytesOfHex(words[1])).map((name) => `${name}\n`).join(''));
   if (call === 'show') return put(bcs.registry(bytesOfHex(words[0])).show(decoder.decode(bytesOfHex(words[1])), { json: words[2] === 'json' }));
   const [registryText, formatText, depth, nodes, ...others] = words;
   const registry = bcs.registry(bytesOfHex(registryText)).withLimits({ depth: Number(depth), nodes: Number(nodes) });
@@ -172,7 +204,7 @@ function line(call, words) {
     const { status, fault, place, length, output } = answerTo(call, words);
     return [status, fault, place, length, hexOf(output)].join('\t');
   } catch (error) {
-    if (error instanceof Unsayable || error instanceof TypeError) return 'unsayable';
+    if (error instanceof Unsayable || (error instanceof TypeError && call !== 'value')) return 'unsayable';
     if (!(error instanceof BcsError)) throw error;
     const { kind, reason, place } = error;
     assert.equal(place !== undefined, kind === 'bytes' && reason !== 'TooNested', reason);

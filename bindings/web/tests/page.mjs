@@ -1,9 +1,10 @@
 // The page in headless Chromium, opened from the disk and handled as by a reader. BCS_PAGE names the file; with BCS_PICTURES
-// a folder gets pictures of it.
+// a folder gets pictures of it, of which 1280-light.png is bindings/web/page.png.
 import assert from 'node:assert/strict';
+import { createHash } from 'node:crypto';
 import { mkdtempSync, readFileSync, rmSync, writeFileSync } from 'node:fs';
 import { tmpdir } from 'node:os';
-import { join, resolve } from 'node:path';
+import { dirname, join, resolve } from 'node:path';
 import test, { after } from 'node:test';
 import { pathToFileURL } from 'node:url';
 import { Chromium } from './chromium.mjs';
@@ -305,7 +306,7 @@ test('of a damaged link nothing is loaded', async () => {
   await page.open(address + changed);
   await showsNothing(page);
   await fill(page, 'text', '7');
-  await page.until(`${verdict}.startsWith('Refused: NotJson. The registry') && !(${isDamaged})`);
+  await page.until(`${verdict}.startsWith('No registry yet: ') && !(${isDamaged})`);
   await fill(page, 'text', '');
   await fill(page, 'registry', REGISTRY);
   await page.until(`${valueOf('container')} === '{"TYPENAME":"Outer"}' && ${valueOf('bytes')} === '000000000000000000'`);
@@ -354,6 +355,8 @@ test('names of a hostile registry are text', async () => {
     'another format',
   ]);
   await choose(page, 'container', '<img src=x onerror=alert(1)>');
+  // (the blank value of a new registry would take the selection away)
+  await page.until(`${valueOf('bytes')} === '000000'`);
   await replace(page, 'bytes', '07023c6209');
   await page.until(`${verdict}.includes('5 bytes')`);
   const rows = await page.ask("Array.from(document.querySelectorAll('#tree .label'), (it) => it.textContent)");
@@ -544,9 +547,9 @@ const UNNAMED = `[...document.querySelectorAll('button, input:not([type=file]), 
   .filter((it) => !it.labels?.length && !it.textContent.trim()).length`;
 
 for (const scheme of ['light', 'dark']) {
-  for (const width of [375, 1600]) {
+  for (const width of [375, 768, 1100, 1280, 1600]) {
     test(`it fits ${width} pixels, and can be read, ${scheme}`, async () => {
-      const page = await opened({ width, height: width < 600 ? 1600 : 1180, scheme });
+      const page = await opened({ width, height: { 375: 1600, 1280: 900 }[width] ?? 1180, scheme });
       await page.point(row('"coin"'), `${lit} === '04 63 6f 69 6e'`);
       assert.equal(await page.ask('document.documentElement.scrollWidth'), width);
       assert.deepEqual(await page.ask(FAINT), []);
@@ -811,7 +814,8 @@ test('modules become a registry, and the arguments of a function open by themsel
   await page.ask("document.getElementById('add').click()");
   await page.until(`${told} !== '' && ${verdict}.includes('the one encoding')`);
   await page.until(`${rows}.includes('[bcs]')`);
-  assert.match(await page.ask(rows), /5000/);
+  assert.match(await page.ask(rows), /^args 2 elements transfer\(address, U64\)$/m);
+  assert.match(await page.ask(rows), /^\[bcs] 5000 arg1 of transfer, U64$/m);
   assert.equal(await page.ask(valueOf('bytes')), read('aptos_transfer.hex'));
   await fill(page, 'types', '0x1::coin::Coin<\n');
   await page.ask("document.getElementById('make').click()");
@@ -912,5 +916,177 @@ test('no two buttons have one name, and a piece leads to the command part', asyn
   await page.ask("globalThis.taken = '', document.getElementById('part').click()");
   await page.until('globalThis.taken');
   assert.match(await page.ask('globalThis.taken'), /^bcs part --base64 --name '\.[a-z_]+' registry\.json 'RawTransaction' value\.base64$/);
+  await isQuiet(page);
+});
+
+/** The place of an element in the window. */
+const boxOf = (page, id) => page.ask(`document.getElementById('${id}').getBoundingClientRect().toJSON()`);
+
+for (const [width, height] of [[1280, 900], [768, 1024], [390, 844]]) {
+  test(`what is pointed at is told in sight, ${width} pixels`, async () => {
+    const page = await opened({ width, height });
+    for (const it of [row('"coin"'), row('chain_id'), "document.querySelector('.piece')"]) {
+      await page.point(it, "document.querySelector('.piece.lit')");
+      const { top, bottom } = await boxOf(page, 'detail');
+      assert.ok(top > 0 && bottom <= height, `${it}: ${top} to ${bottom}`);
+    }
+    await isQuiet(page);
+  });
+}
+
+test('what is refused is told in sight of the box', async () => {
+  for (const [width, height] of [[1280, 900], [768, 1024], [390, 844]]) {
+    const page = await opened({ width, height });
+    await replace(page, 'text', '{"sender": 7}');
+    await page.until(`${verdict}.includes('Refused')`);
+    const { top, bottom } = await boxOf(page, 'verdict');
+    assert.ok(top > 0 && bottom <= height, `${width}: ${top} to ${bottom}`);
+    await isQuiet(page);
+  }
+});
+
+test('the pieces are beside the text, and the whole page is in the window', async () => {
+  const page = await opened({ width: 1280, height: 900 });
+  const { right } = await boxOf(page, 'text');
+  for (const id of ['text', 'bytes', 'verdict', 'digits', 'tree', 'detail']) {
+    const box = await boxOf(page, id);
+    assert.ok(box.top > 0 && box.bottom <= 900, id);
+    assert.ok(id === 'text' || id === 'bytes' || box.left > right, id);
+  }
+  assert.ok((await page.ask("document.getElementById('tree').scrollHeight - document.getElementById('tree').clientHeight")) <= 0);
+  await isQuiet(page);
+});
+
+test('boxes that agree give way to the pieces, but not to one who types', async () => {
+  const page = await opened({ width: 768, height: 1024 });
+  for (const id of ['text', 'bytes']) assert.equal((await boxOf(page, id)).height, 120, id);
+  await focus(page, 'text');
+  for (const id of ['text', 'bytes']) assert.equal((await boxOf(page, id)).height, 240, id);
+  await replace(page, 'text', read('aptos_transfer_normal.json').replace('"chain_id":4', '"chain_id":5'));
+  await page.until(`${valueOf('bytes')}.endsWith('05') && ${verdict}.includes('the one encoding')`);
+  assert.equal((await boxOf(page, 'text')).height, 240);
+  await page.ask('document.activeElement.blur()');
+  await choose(page, 'example', 'Sui: damaged bytes');
+  await page.until(`${verdict}.includes('BadBool')`);
+  assert.equal((await boxOf(page, 'bytes')).height, 240);
+  await choose(page, 'example', 'Sui: a stake');
+  await page.until(`${valueOf('bytes')} === '${read('sui_stake.hex')}'`);
+  assert.equal((await boxOf(page, 'bytes')).height, 120);
+  await isQuiet(page);
+});
+
+test('neighbouring pieces have two colours or two tones', async () => {
+  for (const scheme of ['light', 'dark']) {
+    const page = await opened({ scheme });
+    for (const title of ['Aptos: a transfer', 'Aptos: two of three signatures', 'Sui: a stake']) {
+      await choose(page, 'example', title);
+      await page.until(`${verdict}.includes('the one encoding') && !document.querySelector('#verdict.waiting')`);
+      const grounds = await page.ask(`(() => {
+        const first = new Map([...document.querySelectorAll('.piece')].reverse().map((it) => [it.dataset.piece, it]));
+        return [...first].sort(([one], [other]) => one - other).map(([, it]) => getComputedStyle(it).backgroundColor);
+      })()`);
+      assert.ok(grounds.length > 10);
+      grounds.forEach((ground, i) => assert.notEqual(ground, grounds[i + 1], `${title}, piece ${i}`));
+    }
+    await isQuiet(page);
+  }
+});
+
+test('ASCII is shown behind the digits where there is room, and is lit with them', async () => {
+  const bytes = Buffer.from(read('aptos_transfer.hex'), 'hex');
+  const shown = [...bytes].map((byte) => (byte > 0x20 && byte < 0x7f ? String.fromCharCode(byte) : '·')).join('');
+  for (const width of [390, 768, 1280, 1600]) {
+    const page = await opened({ width });
+    assert.equal(await page.ask("Array.from(document.querySelectorAll('.ascii'), (it) => it.textContent).join('')"), shown);
+    // (all rows of it begin in one column)
+    const lefts = await page.ask("Array.from(document.querySelectorAll('#digits > div > span:last-child'), (it) => Math.round(it.getBoundingClientRect().left))");
+    assert.equal(new Set(lefts).size, 1, `${width}`);
+    assert.ok((await page.ask("document.getElementById('digits').scrollWidth - document.getElementById('digits').clientWidth")) <= 0);
+    await page.point("[...document.querySelectorAll('.ascii')].find((it) => it.textContent === 'coin')", `${litRow}?.includes('"coin"')`);
+    await isQuiet(page);
+  }
+});
+
+test('the page says which it is', async () => {
+  const page = await opened();
+  const footer = await page.ask("document.querySelector('footer').textContent");
+  const source = readFileSync(new URL('../../../crates/bcs_tool_command_line/src/version.rt', import.meta.url), 'utf8');
+  assert.ok(footer.includes(`bcs ${/"(.*)"/.exec(source)[1]}.`), footer);
+  const codec = readFileSync(join(dirname(resolve(process.env.BCS_PAGE)), 'bcs.wasm'));
+  assert.equal(await page.ask("document.getElementById('checksum').textContent"), createHash('sha256').update(codec).digest('hex'));
+  await isQuiet(page);
+});
+
+/** Drops a file onto an element of the page. */
+async function drop(page, name, contents, onto = 'document.body') {
+  await page.ask(`(() => {
+    const dataTransfer = new DataTransfer();
+    dataTransfer.items.add(new File([new Uint8Array(${JSON.stringify([...Buffer.from(contents)])})], ${JSON.stringify(name)}));
+    const event = (kind) => new DragEvent(kind, { dataTransfer, bubbles: true, cancelable: true });
+    globalThis.isOver = ${onto}.dispatchEvent(event('dragover')) || !document.body.classList.contains('dropping');
+    ${onto}.dispatchEvent(event('drop'));
+  })()`);
+  assert.equal(await page.ask("globalThis.isOver || document.body.classList.contains('dropping')"), false);
+}
+
+test('a file is dropped anywhere, and comes into the box where it belongs', async () => {
+  const page = await opened();
+  await drop(page, 'registry.json', REGISTRY);
+  await page.until(`${valueOf('container')} === '{"TYPENAME":"Outer"}' && ${valueOf('bytes')} === '000000000000000000'`);
+  await drop(page, 'value.json', '{"a":7,"b":""}');
+  await page.until(`${valueOf('bytes')} === '070000000000000000'`);
+  await drop(page, 'value.hex', '080000000000000000\n');
+  await page.until(`${valueOf('text')}.includes('8')`);
+  await drop(page, 'value.bcs', Buffer.from('7b0000000000000000', 'hex'));
+  await page.until(`${valueOf('text')}.includes('123')`);
+  await drop(page, 'value.base64', 'CQAAAAAAAAAA');
+  await page.until(`${valueOf('text')}.includes('9') && ${valueOf('coding')} === 'base64'`);
+  await drop(page, 'any', REGISTRY, "document.getElementById('first')");
+  await page.until(`${valueOf('first')}.includes('NEWTYPESTRUCT')`);
+  await isQuiet(page);
+});
+
+test('on a phone there is room for fingers, no keys are named, and rows have their types', async () => {
+  const page = await opened({ width: 390, height: 844 });
+  for (const id of ['registry-box', 'modules-box', 'compare-box']) await page.ask(`document.getElementById('${id}').open = true`);
+  const low = await page.ask(`[...document.querySelectorAll('button, select, input, summary, #tree > div')]
+    .filter((it) => it.checkVisibility() && it.getBoundingClientRect().height < 44).map((it) => it.id || it.textContent)`);
+  assert.deepEqual(low, []);
+  assert.equal(await page.ask("document.getElementById('detail').textContent"), 'Tap digits or a row to see what it is.');
+  assert.ok(await page.ask(`${row('sequence_number')}.querySelector('.what').checkVisibility()`));
+  assert.equal(await page.ask('document.documentElement.scrollWidth'), 390);
+  await isQuiet(page);
+});
+
+test('an empty box says what belongs into it, and is no refusal', async () => {
+  const page = await opened();
+  assert.deepEqual(await page.ask("[...document.querySelectorAll('textarea')].filter((it) => it.placeholder === '').map((it) => it.id)"), []);
+  for (const [id, other, told] of [['text', 'bytes', 'No JSON yet: '], ['bytes', 'text', 'No bytes yet: ']]) {
+    await fill(page, id, ' ');
+    await page.until(`${verdict}.startsWith('${told}')`);
+    assert.equal(await page.ask("document.querySelectorAll('.bad, .stale, mark').length"), 0);
+    assert.equal(await page.ask(valueOf(other)), '');
+    assert.ok(await page.ask("document.getElementById('pieces').hidden"));
+  }
+  await fill(page, 'registry', '');
+  await page.until(`${verdict}.startsWith('No registry yet: ')`);
+  assert.equal(await page.ask("document.getElementById('registry-verdict').textContent"), 'none yet');
+  assert.equal(await page.ask("document.querySelectorAll('.bad, mark').length"), 0);
+  // (no bytes may be a value)
+  await fill(page, 'registry', '{"None":"UNITSTRUCT"}');
+  await fill(page, 'bytes', '');
+  await page.until(`${valueOf('text')} === 'null' && ${verdict}.startsWith('0 bytes: ')`);
+  await isQuiet(page);
+});
+
+test('what bcs doesn’t accept among digits is said', async () => {
+  const page = await opened();
+  await choose(page, 'container', 'ChainId');
+  const note = "document.getElementById('bytes-note').textContent";
+  for (const [digits, told] of [['0x08', true], ['07', false], ['0 9', true], ['0A\n', false]]) {
+    await fill(page, 'bytes', digits);
+    await page.until(`${valueOf('text')} === '${parseInt(digits.replace(/0x|\s/g, ''), 16)}'`);
+    assert.equal(await page.ask(note), told ? '0x and spaces are accepted here, but not by bcs' : '', digits);
+  }
   await isQuiet(page);
 });

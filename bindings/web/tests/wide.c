@@ -3,7 +3,7 @@
 #define __ashlti3 own_shift_left
 #define __lshrti3 own_shift_right
 #define __ashrti3 own_signed_shift_right
-#include "../wide_wasm64.c"
+#include "../../../platforms/wasm/wide_wasm64.c"
 
 #include <stdio.h>
 

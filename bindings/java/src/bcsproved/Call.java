@@ -17,6 +17,7 @@ enum Call {
     STOP_REFUSAL(12, Kind.BYTES, 256, 0),
     SCHEMA(13, Kind.FORMAT, 4096, 0),
     EXAMPLE(14, Kind.EXAMPLE, 1024, 0),
+    CANDIDATES(15, Kind.BYTES, 1024, 0),
     SHOW(20, Kind.FORMAT, 4096, 0),
     FORMAT_PLACE(21, Kind.FORMAT, 256, 0),
     GROWS(30, Kind.GROWTH),

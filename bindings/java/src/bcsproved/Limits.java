@@ -3,7 +3,7 @@ package bcsproved;
 /**
  * What restricts the values that a call accepts.
  *
- * @param depth how many containers may be open at once, at most 500
+ * @param depth how deeply containers may nest, at most 500
  * @param nodes how many nodes a value may have, at most 4294967295
  */
 public record Limits(long depth, long nodes) {

@@ -243,6 +243,15 @@ public final class Registry implements AutoCloseable {
         }
     }
 
+    /** The containers that the data is exactly one value of, the likeliest first: their names, as {@code bcs which} prints them. */
+    public List<String> which(byte[] data) throws BcsException {
+        Objects.requireNonNull(data, "data");
+        try (Session session = begin()) {
+            Question question = session.question(Call.CANDIDATES, "\"UNIT\"", data);
+            return Question.text(session.output(question)).lines().toList();
+        }
+    }
+
     /**
      * The part to which the path leads, in the value at the beginning of the data, unless the path leads nowhere. Paths are those
      * of {@code bcs part}: "." for the whole value, or steps such as inner/2/inner or key:0161, where the key's bytes are

@@ -54,7 +54,7 @@ public final class Views {
 
     /**
      * Explains the elements of the list of this name as the arguments of a function, in a registry that
-     * {@link Registry#registryOfModules} made for it.
+     * {@link Registry#registryOfModules} made for it. An empty function is the one that is called.
      */
     public Views withCall(String name, String function) {
         return with("call", name, "=" + Objects.requireNonNull(function, "function"), null, NO_ARGUMENTS);

@@ -1,4 +1,4 @@
-"""Ways through exactly as many containers as may be open at once, and through one more, for each kind of container."""
+"""Ways through exactly as many containers as may nest, and through one more, for each kind of container."""
 
 from __future__ import annotations
 

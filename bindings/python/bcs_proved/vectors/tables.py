@@ -9,7 +9,7 @@ WIDTHS = {f"{sign}{8 * width}": width for sign in "UI" for width in (1, 2, 4, 8,
 # No value has these. Beside them are the bytes that a decoder that supports them would read.
 UNSUPPORTED = {"F32": bytes.fromhex("0000803f"), "F64": bytes.fromhex("000000000000f03f"), "CHAR": b"a\0\0\0"}
 
-# Lengths in one byte of ULEB128, in two, and in three; 501 containers side by side are more than may be open at once.
+# Lengths in one byte of ULEB128, in two, and in three; 501 containers side by side are more than may nest.
 LENGTHS = {
     "STR": (127, 128, 300, 16384),
     "BYTES": (127, 128, 300, 16384),

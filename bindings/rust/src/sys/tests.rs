@@ -175,6 +175,7 @@ fn numbers_are_those_of_the_header() {
             ("EXPLAIN", Call::Explain as u32),
             ("SCHEMA", Call::Schema as u32),
             ("EXAMPLE", Call::Example as u32),
+            ("CANDIDATES", Call::Candidates as u32),
             ("SHOW", Call::Show as u32),
             ("FORMAT_PLACE", Call::FormatPlace as u32),
             ("GROWS", Call::Grows as u32),
