@@ -94,7 +94,7 @@ def test_c() -> str:
 
 def test_python() -> str:
     log = log_of("bindings/python/test.sh")
-    driver = ["python3", "bindings/python/tests/driver.py"]
+    driver = ["/usr/bin/python3", "bindings/python/tests/driver.py"]
     library: Variables = {"BCS_LIBRARY": f"{PREFIX}/lib/libbcs.so"}
     return log + rows("--without", "changes", "python", *driver, variables=library)
 
@@ -105,11 +105,11 @@ def script(*words: str) -> Callable[[], str]:
 
 # The longest first.
 PARTS: dict[str, Callable[[], str]] = {
-    "windows": script("bindings/windows/test.sh"),
+    "windows": script("platforms/windows/test.sh"),
     "portable-c": script("tests/portable_c.py", "out/dist"),
     "web": script("bindings/web/test.sh"),
-    "arm64-program": script("bindings/arm64/test.py", "program"),
-    "arm64-library": script("bindings/arm64/test.py", "library"),
+    "arm64-program": script("platforms/arm64/test.py", "program"),
+    "arm64-library": script("platforms/arm64/test.py", "library"),
     "c": test_c,
     "rust": script("bindings/rust/test.sh"),
     "python": test_python,
@@ -117,16 +117,16 @@ PARTS: dict[str, Callable[[], str]] = {
     "sqlite": script("bindings/sqlite/test.sh"),
     "go": script("bindings/go/test.sh"),
     "java": script("bindings/java/test.sh"),
-    "arm64-python": script("bindings/arm64/test.py", "python"),
-    "arm64-go": script("bindings/arm64/test.py", "go"),
-    "arm64-java": script("bindings/arm64/test.py", "java"),
+    "arm64-python": script("platforms/arm64/test.py", "python"),
+    "arm64-go": script("platforms/arm64/test.py", "go"),
+    "arm64-java": script("platforms/arm64/test.py", "java"),
     "vectors": script("tests/vectors.py", DIST),
     "program": test_program,
     "dist-scripts": script("tests/dist.sh"),
     "launcher": script("tests/launcher.sh"),
     "tampering": script("tests/tampering.sh"),
     "dask": script("tests/dask_decode.py", f"{DIST}/bcs", f"{PREFIX}/lib/libbcs.so"),
-    "imports": script("bindings/hosts/tests/imports.py", "out/dist"),
+    "imports": script("platforms/hosts/tests/imports.py", "out/dist"),
 }
 # These run in copies of the sources, with stand-ins for what is built.
 OF_COPIES = {"dist-scripts", "launcher", "tampering"}

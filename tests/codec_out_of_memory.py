@@ -72,8 +72,9 @@ def cases() -> list[Case]:
         Case("encode_a_variant", b'{"B":7}\n', MEMORY, ["encode", ENUM, "E"]),
         Case("decode", data, MEMORY, ["decode", *VALUE]),
         Case("decode_a_variant", b"ac0207\n", MEMORY, ["decode", ENUM, "E"]),
-        Case("normalise", text, MEMORY, ["normalise", *VALUE]),
-        Case("normalise_a_number", NUMBER, MEMORY, ["normalise", NO_CONTAINERS, U8]),
+        # Only entries that aren't in order are encoded, and decoded in the order of the bytes.
+        Case("normalise_a_map", b"[[2,1],[1,2]]\n", MEMORY, ["normalise", NO_CONTAINERS, MAP]),
+        Case("normalise_a_number", NUMBER, "0 7", ["normalise", NO_CONTAINERS, U8]),
         Case("same", text, MEMORY, ["same", *VALUE, "text"]),
         Case("same_number", NUMBER, MEMORY, ["same", NO_CONTAINERS, U8, "number"]),
         # Nothing is encoded or decoded: a part is cut out of the input.

@@ -68,7 +68,7 @@ make_copy() {
     tools/dist_sources.sh --list >"$room/sources"
     xargs -d '\n' cp --parents -t "$room" <"$room/sources"
     mkdir -p "$room/bin" "$room/dist" "$room/tests"
-    cp bcs install test .gitattributes .gitignore "$room"
+    cp bcs bcs-registry install test .gitattributes .gitignore "$room"
     cp tools/check_dist.sh tools/check_tracked.sh tools/compare_dist.sh tools/dist_sources.sh tools/release.py tools/sign.sh \
         tools/take_dist.sh "$room/tools"
     cp tests/test_command.py "$room/tests"
@@ -86,7 +86,7 @@ make_copy() {
 
 # commit NAME: commits the sources and dist/ as they are.
 commit() {
-    git add -A -- crates crates.txt bindings tools dist examples tests bcs test .gitattributes .gitignore
+    git add -A -- crates crates.txt bindings platforms tools dist examples tests bcs bcs-registry test .gitattributes .gitignore
     git commit -qm "$1"
 }
 

@@ -84,7 +84,7 @@ def missing_in(file: pathlib.Path) -> list[str]:
     # These pages speak of the calls of C, as the README of their crate does.
     own = (
         "bcs_c"
-        if file.name in ("CHANGELOG.md", "EMBEDDING.md", "HOSTILE_INPUT.md")
+        if file.name in ("CHANGELOG.md", "EMBEDDING.md", "LIMITS.md")
         else file.parent.name
         if file.parent.parent == CRATES
         else ""

@@ -1,5 +1,5 @@
 #!/usr/bin/env python3
-"""Feeds `bcs --lines` like the engines of docs/ENGINES.md do.
+"""Feeds `bcs --lines` like the engines of docs/PROGRAM.md do.
 
     tests/engines.py [FOLDER]
 

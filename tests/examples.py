@@ -34,12 +34,22 @@ LEAST_ROWS = 5
 SIGNED = "/tmp/bytes"
 # other documents, and whether every block of sh is run
 DOCUMENTS = {
+    "docs/EXPLAIN.md": False,
     "docs/JSON.md": False,
     "docs/PROGRAM.md": False,
+    "docs/QUESTIONS.md": False,
+    "docs/REFUSALS.md": False,
+    "docs/REGISTRIES.md": False,
     "docs/TRUST.md": False,
     "examples/README.md": True,
 }
 
+# an entry of docs/REFUSALS.md, and at its end a command that is refused so, unless only calls of libraries are
+ENTRY = re.compile(r"^### (\w+)\n\n(.+)$", re.MULTILINE)
+TRIED = re.compile(r" Try `(.+)`\.$")
+MOST_WORDS = 40
+NOT_OF_HEADER, NOT_OF_PROGRAM = {"BadBase64", "NotOfFormat"}, {"NotOfFormat", "TooLong"}
+FAULT = re.compile(r"^ +BCS_(?!FAULT)[A-Z]+_(\w+) = \d{3}\b", re.MULTILINE)
 
 # how examples name a file that only PyYAML reads
 YAML = "yaml"
@@ -171,6 +181,31 @@ class Examples:
         if not rows:
             self.fail(f"README.md has no command that makes {SIGNED} and signs it")
 
+    def run_names(self) -> None:
+        """docs/REFUSALS.md has an entry for each name, in order. Its command is refused by that name."""
+        header = (ROOT / "bindings/c/include/bcs.h").read_text(encoding="utf-8")
+        names = {name.title().replace("_", "") for name in FAULT.findall(header)} | NOT_OF_HEADER
+        entries = ENTRY.findall((ROOT / "docs/REFUSALS.md").read_text(encoding="utf-8"))
+        if [name for name, _ in entries] != sorted(names, key=str.lower):
+            self.fail(f"docs/REFUSALS.md has other names: {names.symmetric_difference(dict(entries))}")
+        for name, text in entries:
+            tried = TRIED.search(text)
+            found = printed(["bash", "-c", tried[1]]) if tried else ""
+            right = re.search(rf"^refused: {name}( at \d+)?$", found, re.MULTILINE) if tried else name in NOT_OF_PROGRAM
+            if right and len(text.split()) <= MOST_WORDS:
+                self.passed += 1
+            else:
+                self.fail(f"docs/REFUSALS.md: {name}: {text}: it prints {found[:300]}")
+
+    def run_options(self) -> None:
+        """The table of docs/PROGRAM.md has the options of each command's help."""
+        page = (ROOT / "docs/PROGRAM.md").read_text(encoding="utf-8")
+        head, *rows = [line[1:-1].split("|") for line in page.splitlines() if re.match(r"\|(Options\||`-)", line)]
+        for at, command in enumerate(head[1:], 1):
+            listed = {option for row in rows if row[at] for option in re.findall(r"`(-[^`]+)`", row[0])}
+            found = " ".join(sorted(re.findall(r"^ +(-o|--[\w-]+)", printed(["bcs", command, "--help"]), re.MULTILINE)))
+            self.check("docs/PROGRAM.md", f"options of {command}", " ".join(sorted(listed)), found.encode())
+
     def run_help(self) -> None:
         """The help of each command of the program has examples, as lines `COMMAND  # ANSWER`."""
         commands = [line.split()[0] for line in section(printed(["bcs", "--help"]), "Commands:")]
@@ -209,6 +244,8 @@ def main() -> int:
     with tempfile.TemporaryDirectory() as room:
         examples = Examples(program, pathlib.Path(room))
         examples.run_help()
+        examples.run_names()
+        examples.run_options()
         clone = examples.make_clone(program)
         examples.run_readme(clone)
         for name, runs_all in DOCUMENTS.items():

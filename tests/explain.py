@@ -6,7 +6,8 @@ are stored beside them.
 
 FOLDER has the program `bcs`; without it, the proved one is tested, as `rt ci` or `rt run` left it. The expected answers
 were made from the rules, and never by the program. tests/paths.py asks about VALUES random values, by default 1,000: of
-the 290 pairs of a container and what is in it, these have 288. One step of the gate asks about 10,000.
+the 290 pairs of a container and what is in it, these have 288. tests/differences.py asks about as many pairs of values.
+One step of the gate asks about 10,000.
 """
 
 import os
@@ -90,10 +91,9 @@ def faults_by_hand(row: HandWritten) -> Iterator[str]:
         yield f"the bytes by hand at {row.place} of {row.file}"
 
 
-def faults_of_paths(values: int) -> Iterator[str]:
-    """The word PATH of each piece leads `part` to it."""
-    command = ["tests/paths.py", str(values)]
-    ended = subprocess.run(command, stdout=subprocess.PIPE, stderr=subprocess.STDOUT, text=True)
+def faults_of_script(script: str, values: int) -> Iterator[str]:
+    """What a script finds wrong that asks about random values."""
+    ended = subprocess.run([script, str(values)], stdout=subprocess.PIPE, stderr=subprocess.STDOUT, text=True)
     if ended.returncode != 0:
         yield ended.stdout
 
@@ -108,7 +108,8 @@ def main() -> int:
         *map(faults_of_row, rows),
         *(faults_of_example(name, *words) for name, words in EXAMPLES.items()),
         *map(faults_by_hand, by_hand),
-        faults_of_paths(args.values),
+        faults_of_script("tests/paths.py", args.values),
+        faults_of_script("tests/differences.py", args.values),
     ]
     faults = [fault for test in tests for fault in test]
     faults += [f"no {what} is found" for what, found in [("row", rows), ("example of BYTES.md", by_hand)] if not found]

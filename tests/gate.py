@@ -129,7 +129,9 @@ QUICK = [
     Step("the gate's own tests", ["tests/gate_test.py"]),
     Step("names in documents", ["tests/document_names.py"]),
     Step("links in documents", ["tests/document_links.py"]),
+    Step("pictures", python("bench/peers.py", "--check")),
     Step("budgets", python("tests/budgets.py")),
+    Step("rings", python("tests/rings.py")),
     Step("public items", ["tools/api.py", "--check"]),
 ]
 PROVED = "rt ci"

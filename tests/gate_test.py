@@ -18,6 +18,7 @@ import unittest.mock
 from collections.abc import Callable
 
 import budgets
+import rings
 import gate as the_gate
 from gate_steps import Gate, Running, Step
 from harness import Failed
@@ -310,6 +311,25 @@ class Budgets(unittest.TestCase):
         for row in ["of a: lines 1 a", "of a: pages 1 1 a", "of a: lines 2 1 a", "of a: lines 1 1", ""]:
             with self.subTest(row), self.assertRaises(Failed):
                 self.check("of a: lines 1 1 a", row, "of b: lines 3 3 b")
+
+
+class Rings(unittest.TestCase):
+    def test_each_fault(self) -> None:
+        text = "## low:\na:\nb staticlib: a hex\n\n## high: low\n# What it is\nc: a b c\n"
+        rows: list[tuple[str, str, list[str]]] = [
+            (text, "abc", []),
+            (text.replace("b staticlib: a hex", "b staticlib: c"), "abc", ["b is in the ring low and uses c of high"]),
+            (text.replace("high: low", "high:"), "abc", [f"c is in the ring high and uses {it} of low" for it in "ab"]),
+            (text.replace("high: low", "high: lower"), "abc", ["ring high may use lower, which is no ring"]),
+            (text.replace("## low:\n", ""), "abc", ["a is in no ring", "b is in no ring"]),
+            (text, "abcd", ["d: only one of crates.txt and crates/ has it"]),
+            (text, "ab", ["c: only one of crates.txt and crates/ has it"]),
+        ]
+        for changed, folders, fault in rows:
+            with self.subTest(changed, folders=folders):
+                found = rings.faults(changed, set(folders))
+                self.assertEqual([it for it in fault if it not in found], [])
+                self.assertEqual(bool(found), bool(fault))
 
 
 def main() -> None:

@@ -1,5 +1,5 @@
 #!/bin/sh
-# Tests ./bcs in a copy of the sources, and that ./test and ./install find their own files.
+# Tests ./bcs in a copy of the sources, and that ./bcs-registry, ./test and ./install find their own files.
 set -eu
 unset CDPATH
 cd "$(dirname "$0")/.."
@@ -187,8 +187,18 @@ is_sent_away() (
     { [ ! -s output ] && grep -q 'run it by its path' errors; } || fail "$* prints $(cat output errors)"
 )
 
-# test_others: ./test and ./install use their own files, and none of the current folder.
+# test_others: ./bcs-registry, ./test and ./install use their own files, and none of the current folder.
 test_others() {
+    local command script=bindings/python/bcs_proved/registries.py
+    mkdir -p "elsewhere/${script%/*}"
+    echo 'print("own")' >$script
+    echo 'print("hostile")' >elsewhere/$script
+    ln -s "$room/bcs-registry" linked/registry
+    for command in ../bcs-registry ../linked/registry "sh ../bcs-registry" "env PATH=$room/linked:$PATH registry"; do
+        # shellcheck disable=SC2086 # it is a command with its words
+        [ "$(cd elsewhere && $command)" = own ] || fail "$command"
+    done
+    is_sent_away env "PATH=$room:$PATH" bash bcs-registry
     mkdir elsewhere/tests
     echo 'print("hostile")' >elsewhere/tests/test_command.py
     echo hostile >elsewhere/dist/x86_64-linux/libbcs.so

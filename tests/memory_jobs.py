@@ -71,7 +71,7 @@ WORDS_AND_ANSWERS = [
     Job(0, "cced", ["encode", "{}", I16, "@number", "-o", "/dev/stdout"]),
     # An answer above 64 KiB, which is held before FILE is opened; and a list of more than 65,536 numbers.
     Job(0, "c0b80200*", ["encode", "{}", '"BYTES"', "@long", "-o", "/dev/stdout"]),
-    Job(0, "f0a2040100*", ["encode", "{}", LIST, "@many"]),
+    Job(0, "f0a2040100*", ["encode", "{}", LIST, "@many"], hints=17),
     Job(0, "zO0=", ["encode", "--base64", "{}", I16, "@number"]),
     Job(0, "zO0=", ["part", "--base64", "@registry", "S", "inner", "@base64"]),
     Job(
@@ -90,16 +90,17 @@ WORDS_AND_ANSWERS = [
 ]
 # A map, and as many open containers as are allowed.
 MAPS = [
-    Job(0, "02000100010001", ["encode", "{}", PAIRS, "@map"]),
-    Job(0, "[[256,false],[1,true]]", ["normalise", "{}", PAIRS, "@map"]),
-    Job(0, "equal", ["same", "{}", PAIRS, "@map", "@map"]),
+    Job(0, "02000100010001", ["encode", "{}", PAIRS, "@map"], hints=2),
+    Job(0, "[[256,false],[1,true]]", ["normalise", "{}", PAIRS, "@map"], hints=2),
+    Job(0, "equal", ["same", "{}", PAIRS, "@map", "@map"], hints=3),
+    Job(0, "equal", ["diff", "--b", "raw", "{}", I16, "@number", "@bytes"]),
     Job(0, "[[256,false],[1,true]]", ["decode", "--raw", "{}", PAIRS, "@map_bytes"]),
     Job(0, "\1", ["part", "--raw", "{}", PAIRS, "key:0100", "@map_bytes"]),
     Job(0, "\1", ["part", "--raw", "--name", "[key:0100]", "{}", PAIRS, "@map_bytes"]),
     Job(0, "\1", ["part", "--raw", "--pointer", "/1/1", "{}", PAIRS, "@map_bytes"]),
     Job(0, "\xcc\xed", ["part", "--raw", "--name", '."\\u00e9"', ACCENTED, "S", "@bytes"]),
     Job(1, "", ["part", "--raw", "--quiet", "--name", "[key:0200]", "{}", PAIRS, "@map_bytes"]),
-    Job(2, "refused: TooNested", ["decode", "--raw", NESTED, "L", "@nested"]),
+    Job(2, "refused: TooNested", ["decode", "--raw", NESTED, "L", "@nested"], hints=5),
     Job(0, "ok 500", ["scan", "--raw", NESTED, "L", "@nested"]),
 ]
 # A module of Aptos, and the registry for its struct.
@@ -124,7 +125,7 @@ DISPLAYS = [
         ["show", "@registry", "T"],
         place="at NAME: UnknownName: no container is called T; without NAME, show prints all of them",
         hints=3,
-        left_out=22,
+        left_out=25,
     ),
     Job(0, '*"type": "boolean"*', ["schema", "@registry", BOOL]),
     Job(0, '*"#/$defs/I16"*', ["schema", "@registry", "S"]),
@@ -146,6 +147,9 @@ VERDICTS = [
     Job(0, "ok 2", ["scan", "--raw", "@registry", "S", "@bytes"]),
     Job(0, "ok 1", ["scan", "--raw", "--front", "{}", U8, "@bytes"]),
     Job(2, "refused: TrailingBytes at 1", ["scan", "--raw", "{}", U8, "@bytes"]),
+    Job(0, "S", ["which", "--raw", "@registry", "@bytes"]),
+    Job(0, "S: 1 piece, 0 of 2 bytes checked", ["which", "--raw", "--list", "@registry", "@bytes"]),
+    Job(1, "none", ["which", "--raw", "@registry", "@map_bytes"]),
     Job(
         2,
         "refused: BadHex",
@@ -160,9 +164,10 @@ LINES = [
         "0700\nrefused: NotJson\ncced",
         ["encode", "--lines", "{}", I16, "@lines"],
         place=TALLY(2, 0, 1),
+        hints=2,
         left_out=6,
     ),
-    Job(2, "7\nrefused: NotJson\n-4660", ["normalise", "--quiet", "--lines", "{}", I16, "@lines"]),
+    Job(2, "7\nrefused: NotJson\n-4660", ["normalise", "--quiet", "--lines", "{}", I16, "@lines"], hints=2),
     Job(
         2,
         "ok 2\nrefused: EndOfInput at 1\nrefused: BadHex",
@@ -199,7 +204,7 @@ REFUSALS = [
         "refused: BadNumber",
         ["encode", "{}", LIST, "@large"],
         place=f"at /1: {WRONG_NUMBER}",
-        hints=2,
+        hints=4,
         left_out=15,
     ),
     Job(
@@ -207,7 +212,7 @@ REFUSALS = [
         "refused: MissingField",
         ["encode", '{"P":{"STRUCT":[{"name":"U8"}]}}', "P", "@members"],
         place="at the whole text: MissingField: no member is called name; found: nmae",
-        hints=3,
+        hints=4,
         left_out=24,
     ),
     Job(
@@ -222,6 +227,7 @@ REFUSALS = [
         "refused: NotJson",
         ["normalise", "{}", I16, "@open"],
         place="at line 1, column 1: NotJson: the document ends there; ] is missing",
+        hints=2,
         left_out=8,
     ),
     Job(
@@ -229,7 +235,7 @@ REFUSALS = [
         "refused: BadNumber",
         ["same", "{}", LIST, "@list", "@large"],
         place=f"in B, at /1: {WRONG_NUMBER}",
-        hints=3,
+        hints=8,
         left_out=26,
     ),
     Job(
@@ -279,7 +285,7 @@ TEXTS = [
     Job(0, "*Example:*", ["part", "--help"]),
     Job(0, "bcs *", ["--version"]),
     Job(3, "*error: *", []),
-    Job(3, "*frobnicate*", ["frobnicate"], hints=74),
+    Job(3, "*frobnicate*", ["frobnicate"], hints=83),
     Job(3, "*Usage: *", ["encode", "{}"]),
     Job(3, "*extra*", ["check", "{}", "extra"]),
     Job(3, "*--raw*", ["check", "{}", "--raw"], hints=9),

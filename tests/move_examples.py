@@ -10,6 +10,7 @@ import hashlib
 import json
 import os
 import pathlib
+import random
 import re
 import shutil
 import subprocess
@@ -72,6 +73,11 @@ OPENED = [
     Opened(
         *("aptos_two_of_three", "aptos_registry", "SignedTransaction", "aptos_modules", [PAY]),
         ["--call", f"{ARGS}={PAY}"],
+        {f"{ARGS}[0]": f"0x{RECEIVER}", f"{ARGS}[1]": "U64 25000000"},
+    ),
+    Opened(
+        *("aptos_two_of_three", "aptos_registry", "SignedTransaction", "aptos_modules", [PAY]),
+        ["--call", ARGS],
         {f"{ARGS}[0]": f"0x{RECEIVER}", f"{ARGS}[1]": "U64 25000000"},
     ),
     Opened(
@@ -236,6 +242,83 @@ def of_sui() -> bytes:
     return b"\0" + kind + sender + b"\1" + coin + sender + number(1000) + number(10_000_000) + b"\0"
 
 
+# The numbers of types without parts, in a TypeTag of Aptos.
+TAGS = {"bool": 0, "u8": 1, "u64": 2, "u128": 3, "address": 4, "u16": 8, "u32": 9, "u256": 10}
+ADDRESSES = [0, 1, 15, 16, 0xCAFE, int(RECEIVER, 16)]
+
+
+class Call(NamedTuple):
+    """A call: its function as `from-move` spells it, the JSON of the function's module, the bytes of the EntryFunction,
+    and what its arguments are."""
+
+    name: str
+    module: dict[str, Any]
+    content: bytes
+    meanings: list[str]
+
+
+def spelled(number: int) -> str:
+    return f"0x{number:x}" if number < 16 else f"0x{number:064x}"
+
+
+def random_tag(rng: random.Random, levels: int) -> tuple[str, bytes]:
+    """A type argument: its name, and its TypeTag."""
+    kind = rng.randrange(3) if levels else 0
+    if kind == 0:
+        word = rng.choice(list(TAGS))
+        return word, bytes([TAGS[word]])
+    inner = [random_tag(rng, levels - 1) for _ in range(1 if kind == 1 else rng.randrange(3))]
+    names, tags = ", ".join(name for name, _ in inner), b"".join(tag for _, tag in inner)
+    if kind == 1:
+        return f"vector<{names}>", b"\6" + tags
+    place = rng.choice(ADDRESSES)
+    name = f"{spelled(place)}::a_b::S{f'<{names}>' if names else ''}"
+    return name, b"\7" + address(place) + listed(b"a_b") + listed(b"S") + bytes([len(inner)]) + tags
+
+
+def random_argument(rng: random.Random, kind: str) -> tuple[bytes, str]:
+    """The bytes of a value of this type, and what `explain` says of it."""
+    if kind == "address":
+        place = rng.choice(ADDRESSES)
+        return address(place), spelled(place)
+    if kind == "bool":
+        return b"\1", "BOOL true"
+    size = int(kind[1:]) // 8
+    value = rng.randrange(256**size)
+    return value.to_bytes(size, "little"), f"{value}" if size == 32 else f"U{8 * size} {value}"
+
+
+def random_call(rng: random.Random, count: int) -> Call:
+    """A call with this number of arguments."""
+    tags = [random_tag(rng, 3) for _ in range(rng.randrange(4))]
+    kinds = [rng.choice(list(TAGS)) for _ in range(count)]
+    arguments = [random_argument(rng, kind) for kind in kinds]
+    place, types = rng.choice(ADDRESSES), ", ".join(name for name, _ in tags)
+    function = {
+        "name": "run_2", "generic_type_params": [{"constraints": []} for _ in tags], "params": ["&signer", *kinds]
+    }  # fmt: skip
+    module = {"address": spelled(place), "name": "m1", "structs": [], "exposed_functions": [function]}
+    content = address(place) + listed(b"m1") + listed(b"run_2") + bytes([len(tags)]) + b"".join(tag for _, tag in tags)
+    content += bytes([count]) + b"".join(listed(argument) for argument, _ in arguments)
+    name = f"{spelled(place)}::m1::run_2{f'<{types}>' if tags else ''}"
+    return Call(name, module, content, [meaning for _, meaning in arguments])
+
+
+def test_calls(tests: Tests) -> None:
+    """`--call` without FUNCTION opens the arguments of what is called, or says what has to be requested."""
+    rng, aptos = random.Random(7), json.loads((ROOT / "examples/aptos_registry.json").read_text(encoding="utf-8"))
+    for number in range(50):
+        call = random_call(rng, number % 5)
+        words = ["explain", "--call", ".args", tests.file("aptos", aptos), "EntryFunction"]
+        lacking = f"found a call of {call.name}; add it by bcs from-move MODULES '{call.name}'"
+        tests.equal(f"{call.name} is missing", lacking in tests.run(*words, given=call.content.hex()), True)
+        made = json.loads(tests.run("from-move", tests.file("module", call.module), call.name) or "{}")
+        tests.file("aptos", aptos | made)
+        pieces = [PIECE.fullmatch(line) for line in tests.run(*words, given=call.content.hex()).splitlines()]
+        found = [piece[3] for piece in pieces if piece and piece[4].endswith("[bcs]")]
+        tests.equal(f"the arguments of {call.name}", found, call.meanings)
+
+
 def test_signed(tests: Tests, document: str) -> None:
     """The transactions of the section, and what their signatures are."""
     aptos, sui = of_aptos(), of_sui()
@@ -274,6 +357,7 @@ def main(program: str) -> int:
             test_value(tests, value)
         for opened in OPENED:
             test_opened(tests, opened)
+        test_calls(tests)
         test_document(tests)
     print(f"move: {tests.passed} passed, {tests.failed} failed")
     return 0 if tests.failed == 0 else 1

@@ -48,6 +48,15 @@ def check_names(bill: dict[str, Any]) -> None:
     assert ends <= set(names), ends - set(names)
 
 
+def check_programs(bill: dict[str, Any]) -> None:
+    """They are made from the crate of the program, and everything else that is built from that of the library."""
+    names = {file["SPDXID"]: file["fileName"] for file in bill["files"]}
+    from_program = [it for it in bill["relationships"] if it["relatedSpdxElement"] == "SPDXRef-crate-bcs"]
+    made = {names.get(it["spdxElementId"]) for it in from_program if it["relationshipType"] == "GENERATED_FROM"}
+    machines = ["aarch64-linux/bcs", "x86_64-linux/bcs", "x86_64-windows/bcs.exe"]
+    assert made == {f"./{name}" for name in [*machines, "web/bcs_program.wasm"]}, made
+
+
 def check_licences(bill: dict[str, Any], known: set[str]) -> int:
     """Returns how many licences there are."""
     own = [part for part in bill["packages"] if not part["SPDXID"].startswith(("SPDXRef-library-", "SPDXRef-tool-"))]
@@ -72,6 +81,7 @@ def check_expressions() -> None:
 def main() -> None:
     bill, known = (json.loads(pathlib.Path(name).read_text(encoding="utf-8")) for name in sys.argv[1:])
     check_names(bill)
+    check_programs(bill)
     licences = check_licences(bill, set(known))
     check_expressions()
     sizes = [f"{len(bill[part])} {part}" for part in ["packages", "files", "relationships"]]

@@ -256,7 +256,7 @@ def emulate_arm64(rooms: Rooms) -> str:
     command there can run another one."""
     machine, scripts = rooms.top / "arm64", rooms.debian("scripts")
     emulator: list[Word] = ["qemu-aarch64-static", "-L", machine]
-    run("bindings/arm64/tests/debian.sh", machine, "python3")
+    run("platforms/arm64/tests/debian.sh", machine, "python3")
     for package in ["bcs", "libbcs-dev", "python3-bcs-proved"]:
         run("dpkg-deb", "-x", rooms.package(f"{package}_*_arm64.deb"), machine)
     require_answer(*emulator, machine / "usr/bin/bcs")
@@ -305,10 +305,12 @@ def use_crate(rooms: Rooms) -> str:
     run("cargo", "init", "--quiet", "--offline", "--vcs", "none", program)
     run("cargo", "add", "--quiet", "--offline", "--path", unpacked, folder=program)
     readme = (ROOT / "bindings/rust/README.md").read_text(encoding="utf-8")
-    first = re.search(r"^```rust\n((?:(?!```).)*?^fn main.*?)^```$", readme, flags=re.M | re.S)
-    if not first or "assert_eq" not in first[1]:
-        raise Failed("the first program of bindings/rust/README.md asserts nothing")
-    (program / "src/main.rs").write_text(first[1], encoding="utf-8")
+    whole = [
+        text for text in re.findall(r"^```rust\n(.*?)^```$", readme, flags=re.M | re.S) if "use serde::" not in text
+    ]
+    if not whole or "\nfn main" not in whole[0] or "assert_eq" not in whole[0]:
+        raise Failed("the first program without serde of bindings/rust/README.md asserts nothing")
+    (program / "src/main.rs").write_text(whole[0], encoding="utf-8")
     cargo = ["cargo", "run", "--quiet", "--offline", "--manifest-path", str(program / "Cargo.toml")]
     no_other_library: Variables = {"BCS_LIB": None, "PKG_CONFIG": "false"}
     run(*cargo, variables=no_other_library)

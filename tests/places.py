@@ -2,7 +2,7 @@
 """Tests that finding the place of a refusal, and explaining bytes, costs no more than reading them: places.py BCS.
 
 Each job is refused at the end of a large input, or prints a large value. It must end with the status, the output and
-the line on standard error that docs/PROGRAM.md gives it, within SECONDS of processor time. A job that takes much more
+the line on standard error that docs/REFUSALS.md gives it, within SECONDS of processor time. A job that takes much more
 is stopped.
 """
 

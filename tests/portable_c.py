@@ -33,7 +33,7 @@ from harness import (
 )
 
 # The number of rows that the program answers at least.
-LEAST = 1146
+LEAST = 1535
 # Two trials run at the same time.
 LANES = 2
 # The tests of the package that take little time in an emulator.
@@ -203,7 +203,7 @@ def fail_allocations(room: pathlib.Path) -> str:
     sanitizers, library = "-fsanitize=address,undefined", room / "library.o"
     run("gcc", "-std=gnu11", "-O1", sanitizers, "-c", *includes, room / "package/bcs_library.c", "-o", library)
     wraps = "-Wl,--wrap=malloc,--wrap=calloc,--wrap=realloc,--wrap=free"
-    tests = "bindings/portable/tests/memory.c"
+    tests = "platforms/portable/tests/memory.c"
     run("gcc", "-std=gnu11", "-O1", *includes, wraps, tests, library, sanitizers, "-pthread", "-o", room / "memory")
     return run(room / "memory").strip()
 

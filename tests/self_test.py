@@ -54,7 +54,7 @@ PLANTED = [
         ),
         Planted(
             "a missing output",
-            "encode examples/sui_registry.json TransactionData examples/sui_transfer.json",
+            "encode examples/sui_registry.json TransactionData examples/sui_transfer.json --base64",
             "exit 0",
             r"examples: FAILED: examples/README\.md, line \d+: ",
         ),

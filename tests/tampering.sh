@@ -189,7 +189,7 @@ link() {
 }
 
 # What users run and the checksum of the sources doesn't cover.
-run_by_users='bcs install test tools/packaging/completions.sh tools/check_dist.sh bindings/python/bcs_proved/registries.py
+run_by_users='bcs bcs-registry install test tools/packaging/completions.sh tools/check_dist.sh bindings/python/bcs_proved/registries.py
     bindings/go/calls.go bindings/java/src/bcsproved/Bcs.java bindings/postgresql/bcs.control bindings/rust/build.rs
     bindings/sql/words.h bindings/sqlite/bcs_sqlite.c'
 

@@ -154,7 +154,8 @@ class Tests:
 
     def rows_of_python(self) -> Outcome:
         driver = ["python", sys.executable, "bindings/python/tests/driver.py"]
-        return ran([*ROWS, "--without", "changes", *driver], {"BCS_LIBRARY": str(NATIVE / "libbcs.so")})
+        without = ["--without", "changes", "--without", "numpy"]
+        return ran([*ROWS, *without, *driver], {"BCS_LIBRARY": str(NATIVE / "libbcs.so")})
 
     def rows_of_node(self) -> Outcome:
         return ran([*ROWS, "--without", "changes", "web", "node", "bindings/web/tests/driver.mjs", "dist/web/bcs.wasm"])

@@ -34,7 +34,7 @@ each_source() {
     local crate
     find crates.txt tools/build.py tools/libraries.py tools/link tools/make_dist.sh tools/proved_code.py tools/toolchain.py \
         bindings/c/library.c bindings/c/heap.c bindings/c/static.c bindings/c/proved.h bindings/c/libbcs.map \
-        bindings/c/include bindings/hosts bindings/web bindings/arm64 bindings/windows \
+        bindings/c/include bindings/web platforms/arm64 platforms/hosts platforms/wasm platforms/windows \
         bindings/python/bcs_proved bindings/python/make_vectors.sh examples/*.json examples/*.hex \
         \( -name tests -o -name test.sh -o -name test.py -o -name out -o -name __pycache__ -o -name .mypy_cache -o -name package.json \
         -o -name '*.md' -o -name '*.png' -o -path bindings/python/bcs_proved/registries.py \

@@ -61,11 +61,11 @@ make_libraries() {
 }
 
 make_arm64() {
-    bindings/arm64/build.sh --code "$room/code.ll" --program-code "$room/program.ll" "$folder/aarch64-linux"
+    platforms/arm64/build.sh --code "$room/code.ll" --program-code "$room/program.ll" "$folder/aarch64-linux"
 }
 
 make_windows() {
-    bindings/windows/build.sh --code "$room/code.ll" --program-code "$room/program.ll" "$folder/x86_64-windows"
+    platforms/windows/build.sh --code "$room/code.ll" --program-code "$room/program.ll" "$folder/x86_64-windows"
 }
 
 make_web() {

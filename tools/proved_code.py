@@ -16,7 +16,7 @@ loop took up to 8 % more or less time, depending on where the linker put it.
 
 The toolchain passes an LLVM module of the proved code to clang, for x86-64. `--module` and `--program-module` keep that
 module, for the first level of that processor, since for later levels it calls functions that only they have.
-bindings/web/module.py, bindings/arm64 and bindings/windows compile it for other targets.
+platforms/wasm/module.py, platforms/arm64 and platforms/windows compile it for other targets.
 """
 
 from __future__ import annotations

@@ -250,11 +250,11 @@ def system_table() -> list[str]:
 
 
 def libraries_table() -> list[str]:
-    rows = ["| Library of the toolchain | Port of version |", "|---|---|"]
-    for line in (ROOT / "dist/LIBRARIES").read_text(encoding="utf-8").splitlines():
-        name, version, _ = line.split("\t")
-        rows.append(f"| `{name}` | {version if version != '-' else ''} |")
-    return rows
+    lines = (ROOT / "dist/LIBRARIES").read_text(encoding="utf-8").splitlines()
+    rows = [line.split("\t")[:2] for line in lines]
+    ports = ", ".join(f"`{name}` {version}" for name, version in rows if version != "-")
+    others = ", ".join(f"`{name}`" for name, version in rows if version == "-")
+    return [f"Ports of these versions: {ports}. Others: {others}."]
 
 
 def unsafe_table() -> list[str]:
@@ -277,10 +277,12 @@ NOT_RUN = {
         "tests/*",
         "bindings/*/tests/*",
         "bindings/*/test.sh",
-        "bindings/arm64/test.py",
+        "platforms/*/tests/*",
+        "platforms/*/test.sh",
+        "platforms/arm64/test.py",
         "bindings/go/*_test.go",
         "bindings/go/driver/main.go",
-        "bindings/portable/flat_rows.py",
+        "platforms/portable/flat_rows.py",
         "bindings/postgresql/expected/*",
         "bindings/postgresql/sql/*",
         "bindings/sql/*.py",
@@ -306,7 +308,7 @@ NOT_RUN = {
     ],
     "the gate, and what only maintainers run": [
         ".ci/run",
-        "bindings/hosts/functions",
+        "platforms/hosts/functions",
         "tools/api.py",
         "tools/compare_dist.sh",
         "tools/further_api.txt",
@@ -323,14 +325,14 @@ GLUE = {
     "start of the program, its stack, its test of the processor, and its heap": [
         "tools/link/*.c",
         "tools/link/*.h",
-        "bindings/hosts/descriptor.h",
-        "bindings/hosts/statx.h",
+        "platforms/hosts/descriptor.h",
+        "platforms/hosts/statx.h",
     ],
     "start and host of the program on arm64, and of its library's calls": [
-        "bindings/arm64/start.c",
-        "bindings/arm64/shims.py",
-        "bindings/arm64/libc.symbols",
-        "bindings/hosts/linux.c",
+        "platforms/arm64/start.c",
+        "platforms/arm64/shims.py",
+        "platforms/arm64/libc.symbols",
+        "platforms/hosts/linux.c",
     ],
     "C library": ["bindings/c/*.c", "bindings/c/*.h", "bindings/c/libbcs.map", "bindings/c/build.sh"],
     "Rust": ["bindings/rust/src/*.rs", "bindings/rust/build.rs", "bindings/rust/*.toml"],
@@ -347,9 +349,10 @@ GLUE = {
         "tools/libraries.py",
         "tools/proved_code.py",
         "tools/toolchain.py",
-        "bindings/arm64/build.sh",
-        "bindings/windows/build.sh",
+        "platforms/arm64/build.sh",
+        "platforms/windows/build.sh",
         "bindings/web/build.sh",
+        "platforms/wasm/*.py",
         "bindings/web/*.py",
         "bindings/python/make_vectors.sh",
     ],
@@ -357,24 +360,24 @@ GLUE = {
     "JavaScript and WebAssembly": [
         "bindings/web/*.mjs",
         "bindings/web/*.mts",
-        "bindings/web/*.c",
+        "platforms/wasm/*.c",
         "bindings/web/package.json",
     ],
     "Go": ["bindings/go/*.go", "bindings/go/go.mod"],
     "Java": ["bindings/java/*.java", "bindings/java/jni/bcs_jni.c", "bindings/java/build.sh"],
     "the program and the library in C": [
-        "bindings/portable/*.c",
-        "bindings/portable/*.h",
-        "bindings/portable/translation.py",
-        "bindings/portable/Makefile",
-        "bindings/portable/CMakeLists.txt",
-        "bindings/portable/Package.swift",
+        "platforms/portable/*.c",
+        "platforms/portable/*.h",
+        "platforms/portable/translation.py",
+        "platforms/portable/Makefile",
+        "platforms/portable/CMakeLists.txt",
+        "platforms/portable/Package.swift",
     ],
     "Windows": [
-        "bindings/windows/*.c",
-        "bindings/windows/*.h",
-        "bindings/windows/*.ll",
-        "bindings/windows/imports/*.def",
+        "platforms/windows/*.c",
+        "platforms/windows/*.h",
+        "platforms/windows/*.ll",
+        "platforms/windows/imports/*.def",
     ],
     "PostgreSQL, and the headers of both SQL extensions": [
         "bindings/postgresql/*.c",
@@ -386,8 +389,9 @@ GLUE = {
         "bindings/sql/*.h",
     ],
     "SQLite": ["bindings/sqlite/*.c", "bindings/sqlite/*.h", "bindings/sqlite/build.sh"],
-    "`./bcs`, `./install`, and what they run or install": [
+    "`./bcs`, `./bcs-registry`, `./install`, and what these run or install": [
         "bcs",
+        "bcs-registry",
         "install",
         "tools/check_tracked.sh",
         "tools/dist_sources.sh",

@@ -24,6 +24,7 @@ from named_parts import names_of_pieces, run_row
 from pieces import pieces_of
 from places import has_place, place_told_row, rows_of_names
 from tests import ROOT, Tally, rows_of_tests
+from value_tables import rows_of_values, tables_of
 from values import encode_row
 from views import told_of, views_row
 
@@ -91,6 +92,15 @@ def ask_modules(driver: Driver, tally: Tally) -> None:
         tally.judge(kind, name, asked, "")
 
 
+def ask_values(name: str, driver: Driver, tally: Tally, without: set[str]) -> None:
+    for package, table in tables_of(name.removesuffix("64")).items():
+        if package in without:
+            tally.skipped[f"values of {package}"] += table.cell_count()
+            continue
+        for row in rows_of_values(driver, table):
+            tally.judge("values", *row)
+
+
 def told_by_kind(counts: Counter[str]) -> str:
     return ", ".join(f"{count} {kind}" for kind, count in sorted(counts.items()))
 
@@ -123,6 +133,7 @@ def main(words: list[str]) -> int:
     ask_views(driver, tally)
     ask_contents(driver, tally)
     ask_modules(driver, tally)
+    ask_values(name, driver, tally, without)
     driver.end()
     print(f"rows: asked: {told_by_kind(tally.covered)}")
     print(f"rows: not asked: {told_by_kind(tally.unsayable + tally.skipped)}")

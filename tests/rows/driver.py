@@ -15,9 +15,16 @@ call `bcs_..` of the same name:
     explain_with  QUESTION BYTES FORM VIEWS   (VIEWS: lines as of bcs_handle_explain_with)
     schema      QUESTION                   example     QUESTION VARIANT FORM  (FORM: least, full)
     show        REGISTRY NAME FORM         (FORM: ways, json)
+    which       REGISTRY BYTES FORM        (FORM: ways)
     grows       OLDER NEWER                growth_list  OLDER NEWER
     registry_of_modules  MODULES TYPES     (TYPES: one on each line)
     fault_name  NUMBER
+
+A language with a table in the folder values also encodes its values and decodes as its types, and answers a refusal
+with its kind as STATUS, its FAULT, and in OUTPUT a JSON Pointer, and the message in the next line:
+
+    value       QUESTION VALUE PLACE       (VALUE: as in the table; PLACE: whole, newtype, field v, item of a list)
+    typed       QUESTION BYTES TYPE PLACE  (TYPE: as in the table; OUTPUT: the value as text)
 
 The following report where something is refused. WHAT is `where` or `wanted`; or, for the error that the language throws
 or returns, `kind` or `line`. A language that has a place only in an error answers `line` alone.

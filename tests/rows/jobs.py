@@ -67,6 +67,8 @@ def debug(output: bytes) -> str:
 def job(driver: Driver, name: str, words: list[str]) -> Printed:
     if name == "show":
         return show_job(driver, words)
+    if name == "which":
+        return which_job(driver, words)
     if name == "example":
         return example_job(driver, words)
     if name == "check":
@@ -97,6 +99,17 @@ def show_job(driver: Driver, words: list[str]) -> Printed:
     Question(driver, registry, b'"UNIT"', []).ask("check")
     answer = driver.ask("show", registry, name[0] if name else b"", "json" if is_json else "ways")
     return document(answer, "format")
+
+
+def which_job(driver: Driver, words: list[str]) -> Printed:
+    """Languages return the names alone."""
+    if words[0].startswith("--"):
+        raise Unsayable
+    registry, *given = map(bytes_of, words)
+    Question(driver, registry, b'"UNIT"', []).ask("check")
+    answer = driver.ask("which", registry, bytes_of_digits(given[0]), "ways")
+    expect(answer.status == "done", answer.status)
+    return Printed(0, answer.output) if answer.output else Printed(1, b"none\n")
 
 
 def example_job(driver: Driver, words: list[str]) -> Printed:

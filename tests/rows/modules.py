@@ -67,16 +67,18 @@ SHAPE: dict[str, Any] = {
         }
     },
 }
+# In BCS, an integer's lowest byte comes first.
+LITTLE_ENDIAN = f"u256 and i256 are little-endian: 1 is {(1).to_bytes(32, 'little').hex()}"
 MADE = [
     Made([], [], {}, []),
-    *(Made(modules, list(STANDARD), STANDARD, []) for modules in (APTOS, SUI, [])),
+    *(Made(modules, list(STANDARD), STANDARD, [LITTLE_ENDIAN]) for modules in (APTOS, SUI, [])),
     Made(FINE, ["0x1::m::S"], {"0x1::m::S": {"STRUCT": [{"a": "U8"}]}}, []),
     Made([WITHOUT_ABI, FINE], ["0x1::m::S"], {"0x1::m::S": {"STRUCT": [{"a": "U8"}]}}, []),
     Made(
         SUI,
         ["0xcafe::shapes::Shape<u16>"],
         {f"{CAFE}::shapes::Shape<u16>": {"ENUM": SHAPE}, "u256": ADDRESS},
-        [f'"0xcafe::shapes::Shape<u16>": the container is called {CAFE}::shapes::Shape<u16>'],
+        [f'"0xcafe::shapes::Shape<u16>": the container is called {CAFE}::shapes::Shape<u16>', LITTLE_ENDIAN],
     ),
     Made(
         APTOS,

@@ -29,6 +29,8 @@ NO_NAMES = [
 GROWTH_FAULTS = ("Missing", "Changed", "VariantMissing", "VariantChanged")
 ON_REGISTRIES = ("check", "grows", "show", "example", "schema")
 ON_BYTES = ("decode", "part", "scan")
+# No library has a call like this command.
+WITHOUT_CALL = ("diff",)
 # The kind of the error that a call for a place reports.
 KINDS = {
     "text_place": "text",
@@ -64,7 +66,7 @@ def place_told_row(driver: Driver, words: list[str], wanted: str) -> str:
 def place_of_job(driver: Driver, name: str, words: list[str], wanted: str) -> tuple[Place, Place | None]:
     """The place by the row, and by the call. A registry is judged first, as the program does."""
     line = LINE.fullmatch(wanted)
-    if line is None or UNTOLD.match(line["place"]):
+    if line is None or UNTOLD.match(line["place"]) or name in WITHOUT_CALL:
         raise Unsayable
     if name == "from-move":
         right = as_told(line)

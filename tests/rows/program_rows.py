@@ -119,7 +119,7 @@ class Job:
         command, *rest = words if is_quiet else words[1:]
         options = [command] + ["--quiet"] * is_quiet
         while rest and rest[0].startswith("--"):
-            count = 2 if rest[0] == "--variant" else 1
+            count = 2 if rest[0] in ("--variant", "--a", "--b") else 1
             # (no option means the ways)
             options += [word for word in rest[:count] if word != "--ways"]
             rest = rest[count:]
@@ -140,9 +140,11 @@ class Job:
                 return named
             case "grows":
                 return [self.registry(rest.pop(0), "newer")]
+            case "which":
+                return []
             case "part":
                 return [rest.pop(0), rest.pop(0).removeprefix("0x")]
-            case "same":
+            case "same" | "diff":
                 return [rest.pop(0), self.file("first", bytes_of(rest.pop(0) if rest else "x"))]
         return [rest.pop(0)]
 

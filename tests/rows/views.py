@@ -26,7 +26,7 @@ def told_of(row: ExplainRow) -> str:
     the end, or in JSON as objects before the last one."""
     if "refused:" in row.wanted or '"refused":' in row.wanted or not row.error:
         return row.wanted
-    notes = row.error.split("; ")
+    notes = re.split("; (?=at --)", row.error)
     if "--json" not in row.options:
         return " / ".join([row.wanted, *(f"note: {note}" for note in notes)])
     *lines, end = row.wanted.split(" / ")

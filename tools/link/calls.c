@@ -1,4 +1,4 @@
-/* `read`, `write` and `fchmod` with what docs/PLATFORMS.md asks of a host beyond what glibc's do. */
+/* `read`, `write` and `fchmod` with what platforms/hosts/README.md asks of a host beyond what glibc's do. */
 #include "calls.h"
 
 #define HIDDEN __attribute__((visibility("hidden")))

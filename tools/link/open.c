@@ -1,5 +1,5 @@
 /* `open`, in place of that of the C library: what a descriptor's name stands for gets a second descriptor. */
-#include "../../bindings/hosts/descriptor.h"
+#include "../../platforms/hosts/descriptor.h"
 
 long syscall(long number, ...);
 

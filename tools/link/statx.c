@@ -1,6 +1,6 @@
 /* `statx`, which glibc has since 2.28. On Linux before 4.11, and where a sandbox forbids the call, it is made of a call that every
    Linux has. It reports a file as having a second name if replacing it would lose more than its content. */
-#include "../../bindings/hosts/statx.h"
+#include "../../platforms/hosts/statx.h"
 #include "calls.h"
 #include <string.h>
 

@@ -13,7 +13,7 @@ from typing import Any
 import archives
 import facts
 
-sys.path.insert(0, str(facts.ROOT / "bindings/portable"))
+sys.path.insert(0, str(facts.ROOT / "platforms/portable"))
 import translation  # noqa: E402 (the folder has to be known first)
 
 # The licences that the packages contain, as the SPDX list names them.
@@ -103,7 +103,7 @@ def origins(files: list[dict[str, Any]]) -> list[dict[str, str]]:
     """Of which crate each built file is. The loader and the page are sources of their own."""
     relations = []
     for file in files:
-        is_program = file["fileName"].endswith(("-linux/bcs", "-windows/bcs.exe"))
+        is_program = file["fileName"].endswith(("-linux/bcs", "-windows/bcs.exe", "/bcs_program.wasm"))
         relations.append(relation("SPDXRef-package-bcs", "CONTAINS", file["SPDXID"]))
         if is_program or file["fileName"].endswith((".a", ".so", ".dll", ".wasm", ".wasm.gz")):
             crate = identity("crate", "bcs" if is_program else "bcs_c")

@@ -15,7 +15,7 @@ import tempfile
 import archives
 import facts
 
-FOLDER = facts.ROOT / "bindings/portable"
+FOLDER = facts.ROOT / "platforms/portable"
 C = facts.ROOT / "bindings/c"
 LIBRARY, PROGRAM = "web/bcs_scalar.wasm.gz", "web/bcs_program.wasm"
 TESTS = ["calls.c", "handles.c", "threads.c", "checks.h", "questions.h"]
@@ -55,7 +55,8 @@ def contents(bill: archives.File) -> archives.Files:
     for name in ["Makefile", "CMakeLists.txt", "Package.swift"]:
         files[name] = archives.taken(FOLDER / name)
     files["bcs-registry"] = archives.taken(facts.REGISTRY_COMMAND)
-    files["README.md"] = archives.text(facts.section("docs/PLATFORMS.md", "C for other systems"))
+    page, stack = facts.section("docs/PLATFORMS.md", "C for other systems"), facts.section("docs/LIMITS.md", "Stack")
+    files["README.md"] = archives.text(f"{page}\n#{stack}")
     files[f"{facts.NAME}.spdx.json"] = bill
     for name in facts.licence_files().values():
         files[name] = archives.taken(facts.ROOT / name)

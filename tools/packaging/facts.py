@@ -105,9 +105,10 @@ def require_dist() -> None:
 
 
 def readme(folder: str) -> str:
-    """A README for a package: that of a folder, and the calls and refusals of all languages, which it only links to."""
+    """A README for a package: that of a folder, and the calls, refusals and stacks of all languages."""
     page = (ROOT / folder / "README.md").read_text(encoding="utf-8")
-    shared = [section("docs/EMBEDDING.md", title) for title in ("The calls", "What a refusal reports")]
+    titles = [("EMBEDDING", "The calls"), ("EMBEDDING", "What a refusal reports"), ("LIMITS", "Stack")]
+    shared = [section(f"docs/{book}.md", title) for book, title in titles]
     return without_links("\n".join([page, *(f"#{text}" for text in shared)]))
 
 
