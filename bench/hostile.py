@@ -1,7 +1,7 @@
 #!/usr/bin/env python3
 """Measures what hostile inputs cost each command of the program: hostile.py BCS. Prints, for each input, how many bytes
 came from the stranger, the status, processor seconds and the most memory, at the program's default limits and at those
-that docs/HOSTILE_INPUT.md recommends. A run ends after 60 processor seconds or at 8 GiB."""
+that docs/LIMITS.md recommends. A run ends after 60 processor seconds or at 8 GiB."""
 
 from __future__ import annotations
 

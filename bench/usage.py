@@ -17,14 +17,14 @@ class Usage(NamedTuple):
     memory: float
 
 
-def measure(words: list[str], source: Path | None, kept: Path | None) -> Usage | None:
-    """The cost of one run over the input SOURCE, which stores its output in KEPT; None if the program fails."""
+def measure(words: list[str], source: Path | None, kept: Path | None, expected: int = 0) -> Usage | None:
+    """The cost of one run over the input SOURCE, which stores its output in KEPT; None if it has another status."""
     with open(source or os.devnull, "rb") as given, open(kept or os.devnull, "wb") as output:
         start = time.monotonic()
         process = subprocess.Popen(words, stdin=given, stdout=output, stderr=subprocess.DEVNULL)
         _, status, used = os.wait4(process.pid, 0)
         wall = time.monotonic() - start
-    if os.waitstatus_to_exitcode(status) != 0:
+    if os.waitstatus_to_exitcode(status) != expected:
         return None
     return Usage(used.ru_utime + used.ru_stime, wall, used.ru_maxrss / 1024)
 

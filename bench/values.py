@@ -1,8 +1,9 @@
 #!/usr/bin/env python3
 """Times the calls of each language on values and on JSON: bench/values.py [--document] [--rounds N] [LANGUAGE..]
 
-Prints the section of docs/BENCHMARKS.md with the processor time of a call in C, Rust, Python, JavaScript, Go and Java,
-for examples/aptos_transfer and for a byte string of 1,000,000 bytes; with --document it replaces that section.
+Prints two tables with the processor time of a call in C, Rust, Python, JavaScript, Go and Java: for
+examples/aptos_transfer and a byte string of 1,000,000 bytes, and for a transfer that is refused, since its last byte is
+missing or its last field is -4. With --document it replaces those of docs/BENCHMARKS.md.
 
 The programs are in bench/languages: each makes its calls, and also encodes and decodes the same type by a codec that is
 written by hand. On a busy machine times vary, so all programs run N times in turn (3 by default), and the least time
@@ -13,23 +14,22 @@ that of bindings/. It needs gcc, cargo with serde_json, Node, Go, a JDK, and thi
 from __future__ import annotations
 
 import argparse
-import datetime
 import os
 import pathlib
-import re
 import shutil
 import subprocess
 import sys
 import tempfile
 from collections.abc import Callable
 
-ROOT = pathlib.Path(__file__).resolve().parent.parent
+from document import ROOT, provenance, table, tell
+
 PROGRAMS = ROOT / "bench/languages"
 EXAMPLES = ROOT / "examples"
-DOCUMENT = ROOT / "docs/BENCHMARKS.md"
-HEADING = "## Values and JSON in each language"
-# What a row of the table has, in each direction.
-WAYS = ["values", "text", "work", "plain"]
+HEADING, REFUSALS = "Values and JSON in each language", "Refused calls"
+# What a row of the tables has, in each direction.
+WAYS = ["values", "text", "plain"]
+REFUSED = ["values", "values-refused", "text", "text-refused"]
 # By the name of an input: its rows' name, and the microseconds of its unit.
 INPUTS = {"transfer": ("transfer, µs", 1), "bytes": ("1 MB, ms", 1000)}
 
@@ -51,6 +51,7 @@ class Room:
 
     def __init__(self, folder: pathlib.Path) -> None:
         self.folder = folder
+        self.target = pathlib.Path(os.environ.get("CARGO_TARGET_DIR") or folder / "target")
         named = os.environ.get("BCS_PREFIX")
         self.prefix = pathlib.Path(named) if named else folder / "prefix"
         if not named:
@@ -61,11 +62,14 @@ class Room:
         run("gcc", *options, PROGRAMS / "c.c", self.prefix / "lib/libbcs.a", "-pthread")
         return [self.folder / "c"]
 
+    def built(self, project: pathlib.Path, name: str) -> pathlib.Path:
+        """The program of a project in Rust."""
+        variables = {"BCS_LIB": str(self.prefix / "lib"), "CARGO_TARGET_DIR": str(self.target)}
+        run("cargo", "build", "--quiet", "--release", where=project, **variables)
+        return self.target / "release" / name
+
     def rust(self) -> list[Word]:
-        target = os.environ.get("CARGO_TARGET_DIR") or str(self.folder / "target")
-        library = {"BCS_LIB": str(self.prefix / "lib"), "CARGO_TARGET_DIR": target}
-        run("cargo", "build", "--quiet", "--release", where=PROGRAMS / "rust", **library)
-        return [pathlib.Path(target) / "release/values"]
+        return [self.built(PROGRAMS / "rust", "values")]
 
     def python(self) -> list[Word]:
         module = [f"PYTHONPATH={ROOT / 'bindings/python'}", f"BCS_LIBRARY={self.prefix / 'lib/libbcs.so'}"]
@@ -120,55 +124,28 @@ def shown(time: float | None) -> str:
     return f"{time:.0f}" if time >= 20 else f"{time:.1f}" if time >= 1 else f"{time:.2f}"
 
 
-def row_of(language: str, times: Times, input: str) -> str:
-    name, unit = INPUTS[input]
-    cells = [name, language]
-    for direction in ["encode", "decode"]:
-        found = [times.get((input, direction, way)) for way in WAYS]
-        cells += [shown(time and time / unit) for time in found]
-    return f"| {' | '.join(cells)} |"
+def row_of(times: Times, input: str, ways: list[str]) -> list[str]:
+    """The cells of an input, in both directions."""
+    found = [times.get((input, direction, way)) for direction in ["encode", "decode"] for way in ways]
+    return [shown(time and time / INPUTS[input][1]) for time in found]
 
 
-def commit() -> str:
-    made = run("git", "rev-parse", "--short=8", "HEAD", where=ROOT).strip()
-    return made + (" with changes" if run("git", "status", "--porcelain", "bindings", "bench", where=ROOT) else "")
+def heads(first: list[str], ways: list[str]) -> list[str]:
+    return [*first, *(f"{direction}: {way}" for direction in ["encode", "decode"] for way in ways)]
 
 
-def section(all_times: dict[str, Times], rounds: int, load: list[float]) -> str:
-    ways = ["values", "JSON", "JSON, made and read", "by hand"]
-    heads = ["Input", "Language", *(f"{direction}: {way}" for direction in ["encode", "decode"] for way in ways)]
-    rows = [row_of(language, times, input) for input in INPUTS for language, times in all_times.items()]
-    date = datetime.datetime.now(datetime.timezone.utc).date()
-    busy = "busy" if max(load) > 2 else "quiet"
-    return f"""{HEADING}
-
-`bench/values.py`, {date}, commit {commit()}: processor time of a call with an open registry, the least of \
-{rounds * RUNS} runs. The machine was {busy}: the load of its {os.cpu_count()} processors was {min(load):.1f} to \
-{max(load):.1f}.
-
-| {' | '.join(heads)} |
-|{'---|' * len(heads)}
-{chr(10).join(rows)}
-
-- **transfer** is `examples/aptos_transfer`, 211 bytes; **1 MB** is a byte string of 1,000,000 bytes at `BYTES`.
-- **values**: the language's own types: structs in Rust, Go and Java, dicts and objects in Python and JavaScript. C \
-has none.
-- **JSON**: the call alone, on a text that is ready; decoding returns the text.
-- **JSON, made and read**: what you do if you have values and use the calls for JSON. The language's usual code \
-makes or parses the text (`serde_json`, `json`, `JSON`, `encoding/json`), and turns bytes into digits or back. C and \
-Java have no JSON of their own.
-- **by hand**: a codec for this one type, which checks less.
-"""
-
-
-def put(text: str) -> None:
-    """Replaces the section of the document."""
-    document = DOCUMENT.read_text(encoding="utf-8")
-    before, found, rest = document.partition(f"{HEADING}\n")
-    if not found:
-        raise SystemExit(f"bench: {DOCUMENT} has no section {HEADING}")
-    after = re.search(r"^## ", rest, re.MULTILINE)
-    DOCUMENT.write_text(f"{before}{text}\n{rest[after.start():] if after else ''}", encoding="utf-8")
+def tell_all(all_times: dict[str, Times], runs: int, load: list[float], into_document: bool) -> None:
+    said = f"{provenance('values.py', load)}: processor time of a call with an open registry, the least of {runs} runs."
+    rows = [
+        [INPUTS[input][0], language, *row_of(times, input, WAYS)]
+        for input in INPUTS
+        for language, times in all_times.items()
+    ]
+    names = heads(["Input", "Language"], ["values", "JSON", "by hand"])
+    tell(HEADING, said, table(names, rows), into_document)
+    rows = [[language, *row_of(times, "transfer", REFUSED)] for language, times in all_times.items()]
+    names = heads(["Language"], ["values", "refused", "JSON", "refused"])
+    tell(REFUSALS, f"{said[:-1]}, in µs.", table(names, rows), into_document)
 
 
 def main() -> None:
@@ -187,11 +164,7 @@ def main() -> None:
                 print(f"bench: round {number + 1}, {name}", file=sys.stderr, flush=True)
                 all_times[name] = times_of(command, all_times[name])
                 load.append(os.getloadavg()[0])
-    text = section(all_times, words.rounds, load)
-    if words.document:
-        put(text)
-    else:
-        print(text, end="")
+    tell_all(all_times, words.rounds * RUNS, load, words.document)
 
 
 if __name__ == "__main__":

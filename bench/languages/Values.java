@@ -1,4 +1,5 @@
 import bcsproved.Bcs;
+import bcsproved.BcsException;
 import bcsproved.Names;
 import bcsproved.Registry;
 import com.sun.management.OperatingSystemMXBean;
@@ -226,20 +227,40 @@ public final class Values {
         }
     }
 
+    /** The call, which must be refused. */
+    private static Callable<?> refused(Callable<?> call) {
+        return () -> {
+            try {
+                call.call();
+            } catch (BcsException fault) {
+                return fault;
+            }
+            throw new AssertionError("not refused");
+        };
+    }
+
     private static void transfer(Path examples) throws Exception {
         String format = "RawTransaction";
         byte[] chain = Files.readAllBytes(examples.resolve("aptos_registry.json"));
         String text = Files.readString(examples.resolve("aptos_transfer.json"));
         byte[] data = HexFormat.of().parseHex(Files.readString(examples.resolve("aptos_transfer.hex")).strip());
+        String wrong = text.replace("\"chain_id\": 4", "\"chain_id\": -4");
+        byte[] cut = Arrays.copyOf(data, data.length - 1);
         try (Registry registry = Registry.open(chain, Names.STANDARD.withAddresses("AccountAddress"))) {
             Transaction value = registry.decode(format, data, Transaction.class);
+            Transaction wrongValue = new Transaction(value.sender(), value.sequenceNumber(), value.payload(), value.maxGasAmount(),
+                    value.gasUnitPrice(), value.expirationTimestampSecs(), -4);
             require(Arrays.equals(registry.encode(format, value), data));
             require(Arrays.equals(new PlainWriter().transaction(plainTransaction(data)), data));
             report("transfer encode values", () -> registry.encode(format, value));
+            report("transfer encode values-refused", refused(() -> registry.encode(format, wrongValue)));
             report("transfer encode text", () -> registry.encodeJson(format, text));
+            report("transfer encode text-refused", refused(() -> registry.encodeJson(format, wrong)));
             report("transfer encode plain", () -> new PlainWriter().transaction(value));
             report("transfer decode values", () -> registry.decode(format, data, Transaction.class));
+            report("transfer decode values-refused", refused(() -> registry.decode(format, cut, Transaction.class)));
             report("transfer decode text", () -> registry.decodeJson(format, data));
+            report("transfer decode text-refused", refused(() -> registry.decodeJson(format, cut)));
             report("transfer decode plain", () -> plainTransaction(data));
         }
     }
@@ -258,14 +279,9 @@ public final class Values {
             require(Arrays.equals(registry.decode(format, data, byte[].class), value) && Arrays.equals(plainBytes(value), data));
             report("bytes encode values", () -> registry.encode(format, value));
             report("bytes encode text", () -> registry.encodeJson(format, text));
-            report("bytes encode work", () -> registry.encodeJson(format, '"' + hex.formatHex(value) + '"'));
             report("bytes encode plain", () -> plainBytes(value));
             report("bytes decode values", () -> registry.decode(format, data, byte[].class));
             report("bytes decode text", () -> registry.decodeJson(format, data));
-            report("bytes decode work", () -> {
-                String json = registry.decodeJson(format, data);
-                return hex.parseHex(json, 1, json.length() - 1);
-            });
             report("bytes decode plain", () -> plainBytesOf(data));
         }
     }

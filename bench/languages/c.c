@@ -149,12 +149,11 @@ static int plain_decode(const uint8_t *bytes, size_t length, transaction *value)
     return !from.is_bad && from.next == from.end;
 }
 
-static size_t put_digits(char *out, const uint8_t *bytes, size_t length) {
+static void put_digits(char *out, const uint8_t *bytes, size_t length) {
     for (size_t i = 0; i < length; i++) {
         out[2 * i] = "0123456789abcdef"[bytes[i] >> 4];
         out[2 * i + 1] = "0123456789abcdef"[bytes[i] & 15];
     }
-    return 2 * length;
 }
 
 static uint8_t value_of(char digit) {
@@ -182,26 +181,22 @@ static void encode_text(void) {
     if (answer.status != BCS_DONE || answer.length != data_length) fail("encode");
 }
 
-static size_t decode_text(void) {
+static void decode_text(void) {
     const bcs_answer answer = bcs_handle_from_bcs(handle, format, format_length, BCS_DEPTH, BCS_NODES, data, data_length, out,
                                                   2 * MEGABYTE + ROOM);
     if (answer.status != BCS_DONE) fail("decode");
-    return answer.length;
 }
 
-static void encode_work(void) {
-    text[0] = '"';
-    const size_t length = put_digits((char *)text + 1, bytes, MEGABYTE);
-    text[length + 1] = '"';
-    encode_text();
+static void encode_refused(void) {
+    const bcs_answer answer = bcs_handle_to_bcs(handle, format, format_length, BCS_DEPTH, BCS_NODES, text, text_length, out,
+                                                2 * MEGABYTE + ROOM);
+    if (answer.status != BCS_REFUSED) fail("not refused");
 }
 
-static void decode_work(void) {
-    bytes_of((const char *)out + 1, decode_text() - 2, bytes);
-}
-
-static void decode_text_only(void) {
-    decode_text();
+static void decode_refused(void) {
+    const bcs_answer answer = bcs_handle_from_bcs(handle, format, format_length, BCS_DEPTH, BCS_NODES, data, data_length - 1, out,
+                                                  2 * MEGABYTE + ROOM);
+    if (answer.status != BCS_REFUSED) fail("not refused");
 }
 
 static void encode_plain(void) {
@@ -270,18 +265,22 @@ int main(int count, char **words) {
     if (memcmp(out, data, data_length) != 0) fail("the plain codec");
     report("transfer encode text", encode_text);
     report("transfer encode plain", encode_plain);
-    report("transfer decode text", decode_text_only);
+    report("transfer decode text", decode_text);
+    report("transfer decode text-refused", decode_refused);
+    text[text_length] = '\0';
+    memcpy(strstr((char *)text, ": 4\n"), ":-4", 3);
+    report("transfer encode text-refused", encode_refused);
     report("transfer decode plain", decode_plain);
 
     for (uint32_t i = 0; i < MEGABYTE; i++) bytes[i] = (uint8_t)(i * 2654435761u >> 24);
     format_length = (size_t)sprintf((char *)format, "\"BYTES\"");
     text_length = 2 * MEGABYTE + 2;
+    text[0] = text[text_length - 1] = '"';
+    put_digits((char *)text + 1, bytes, MEGABYTE);
     data_length = (size_t)(put_slice(data, (slice){bytes, MEGABYTE}) - data);
-    report("bytes encode work", encode_work);
     report("bytes encode text", encode_text);
     report("bytes encode plain", encode_plain_bytes);
-    report("bytes decode work", decode_work);
-    report("bytes decode text", decode_text_only);
+    report("bytes decode text", decode_text);
     report("bytes decode plain", decode_plain_bytes);
     bcs_close(handle);
     return 0;

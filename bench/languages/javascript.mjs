@@ -2,179 +2,13 @@
 import assert from 'node:assert/strict';
 import { readFileSync } from 'node:fs';
 import { pathToFileURL } from 'node:url';
+import { PlainReader, PlainWriter } from './plain.mjs';
 
 const RUNS = 7;
 // A run takes about this many microseconds.
 const RUN = 100_000;
-const [ENTRY_FUNCTION, STRUCT] = [2, 7];
 const [, , web, examples] = process.argv;
-const { load } = await import(pathToFileURL(`${web}/bcs.mjs`).href);
-const [utf8, fromUtf8] = [new TextEncoder(), new TextDecoder('utf-8', { fatal: true })];
-
-/** A codec for this one type, as it is written by hand. It checks less. */
-class PlainWriter {
-  #bytes;
-  #view;
-  #length = 0;
-
-  constructor(room) {
-    this.#bytes = new Uint8Array(room);
-    this.#view = new DataView(this.#bytes.buffer);
-  }
-
-  byte(byte) {
-    this.#bytes[this.#length++] = byte;
-  }
-
-  count(count) {
-    for (; count >= 0x80; count >>>= 7) this.byte((count & 0x7f) | 0x80);
-    this.byte(count);
-  }
-
-  raw(bytes) {
-    this.#bytes.set(bytes, this.#length);
-    this.#length += bytes.length;
-  }
-
-  bytes(bytes) {
-    this.count(bytes.length);
-    this.raw(bytes);
-  }
-
-  text(text) {
-    this.bytes(utf8.encode(text));
-  }
-
-  address(text) {
-    const digits = text.slice(2).padStart(64, '0');
-    for (let i = 0; i < 64; i += 2) this.byte(parseInt(digits.slice(i, i + 2), 16));
-  }
-
-  number(number) {
-    this.#view.setBigUint64(this.#length, BigInt(number), true);
-    this.#length += 8;
-  }
-
-  tags(tags) {
-    this.count(tags.length);
-    for (const { Struct: tag } of tags) {
-      this.byte(STRUCT);
-      this.address(tag.address);
-      this.text(tag.module);
-      this.text(tag.name);
-      this.tags(tag.type_args);
-    }
-  }
-
-  transaction(value) {
-    const call = value.payload.EntryFunction;
-    this.address(value.sender);
-    this.number(value.sequence_number);
-    this.byte(ENTRY_FUNCTION);
-    this.address(call.module.address);
-    this.text(call.module.name);
-    this.text(call.function);
-    this.tags(call.ty_args);
-    this.count(call.args.length);
-    for (const argument of call.args) this.bytes(argument);
-    this.number(value.max_gas_amount);
-    this.number(value.gas_unit_price);
-    this.number(value.expiration_timestamp_secs);
-    this.byte(value.chain_id);
-    return this.whole();
-  }
-
-  whole() {
-    return this.#bytes.slice(0, this.#length);
-  }
-}
-
-class PlainReader {
-  #bytes;
-  #view;
-  #place = 0;
-
-  constructor(bytes) {
-    this.#bytes = bytes;
-    this.#view = new DataView(bytes.buffer, bytes.byteOffset, bytes.length);
-  }
-
-  take(length) {
-    const end = this.#place + length;
-    if (end > this.#bytes.length) throw new RangeError('the end');
-    const part = this.#bytes.subarray(this.#place, end);
-    this.#place = end;
-    return part;
-  }
-
-  byte() {
-    return this.take(1)[0];
-  }
-
-  count() {
-    let count = 0;
-    for (let shift = 0; shift < 32; shift += 7) {
-      const byte = this.byte();
-      count |= (byte & 0x7f) << shift;
-      if (byte < 0x80) return count;
-    }
-    throw new RangeError('a long length');
-  }
-
-  bytes() {
-    return this.take(this.count()).slice();
-  }
-
-  text() {
-    return fromUtf8.decode(this.take(this.count()));
-  }
-
-  address() {
-    let digits = '0x';
-    for (const byte of this.take(32)) digits += byte.toString(16).padStart(2, '0');
-    return digits;
-  }
-
-  number() {
-    this.take(8);
-    return this.#view.getBigUint64(this.#place - 8, true);
-  }
-
-  list(item) {
-    return Array.from({ length: this.count() }, item);
-  }
-
-  variant(number) {
-    if (this.byte() !== number) throw new RangeError('another variant');
-  }
-
-  tag() {
-    this.variant(STRUCT);
-    const tag = { address: this.address(), module: this.text(), name: this.text(), type_args: this.list(() => this.tag()) };
-    return { Struct: tag };
-  }
-
-  payload() {
-    this.variant(ENTRY_FUNCTION);
-    const module = { address: this.address(), name: this.text() };
-    const call = { module, function: this.text(), ty_args: this.list(() => this.tag()), args: this.list(() => this.bytes()) };
-    return { EntryFunction: call };
-  }
-
-  transaction() {
-    const value = {
-      sender: this.address(),
-      sequence_number: this.number(),
-      payload: this.payload(),
-      max_gas_amount: this.number(),
-      gas_unit_price: this.number(),
-      expiration_timestamp_secs: this.number(),
-      chain_id: this.byte(),
-    };
-    if (this.#place !== this.#bytes.length) throw new RangeError('more');
-    return value;
-  }
-}
+const { load, BcsError } = await import(pathToFileURL(`${web}/bcs.mjs`).href);
 
 /** Prints the microseconds of processor time for a call, the least of all runs. */
 function report(name, call) {
@@ -188,6 +22,19 @@ function report(name, call) {
   while (measure(count) < RUN) count *= 2;
   count = Math.ceil((count * RUN) / measure(count));
   console.log(name, Math.min(...Array.from({ length: RUNS }, () => measure(count))) / count);
+}
+
+/** The call, which must be refused. */
+function refused(call) {
+  return () => {
+    try {
+      call();
+    } catch (error) {
+      if (error instanceof BcsError) return;
+      throw error;
+    }
+    throw new Error('not refused');
+  };
 }
 
 function hexOf(bytes) {
@@ -204,17 +51,20 @@ function transfer() {
   const read = (name) => readFileSync(`${examples}/${name}`, 'utf8');
   const registry = bcs.registry(read('aptos_registry.json'), { names: { address: ['AccountAddress'] } });
   const [format, text, data] = ['RawTransaction', read('aptos_transfer.json'), bytesOf(read('aptos_transfer.hex').trim())];
-  const [value, tree] = [registry.decode(format, data), JSON.parse(text)];
+  const value = registry.decode(format, data);
+  const wrong = text.replace('"chain_id": 4', '"chain_id": -4');
   const plain = () => new PlainWriter(1000).transaction(value);
   for (const made of [registry.encode(format, value), plain()]) assert.deepEqual(made, data);
   assert.deepEqual(new PlainReader(data).transaction(), value);
   report('transfer encode values', () => registry.encode(format, value));
+  report('transfer encode values-refused', refused(() => registry.encode(format, { ...value, chain_id: -4 })));
   report('transfer encode text', () => registry.encodeText(format, text));
-  report('transfer encode work', () => registry.encodeText(format, JSON.stringify(tree)));
+  report('transfer encode text-refused', refused(() => registry.encodeText(format, wrong)));
   report('transfer encode plain', plain);
   report('transfer decode values', () => registry.decode(format, data));
+  report('transfer decode values-refused', refused(() => registry.decode(format, data.subarray(0, -1))));
   report('transfer decode text', () => registry.decodeText(format, data));
-  report('transfer decode work', () => JSON.parse(registry.decodeText(format, data)));
+  report('transfer decode text-refused', refused(() => registry.decodeText(format, data.subarray(0, -1))));
   report('transfer decode plain', () => new PlainReader(data).transaction());
 }
 
@@ -232,11 +82,9 @@ function megabyte() {
   assert.deepEqual(registry.decode(format, data), value);
   report('bytes encode values', () => registry.encode(format, value));
   report('bytes encode text', () => registry.encodeText(format, text));
-  report('bytes encode work', () => registry.encodeText(format, JSON.stringify(hexOf(value))));
   report('bytes encode plain', plain);
   report('bytes decode values', () => registry.decode(format, data));
   report('bytes decode text', () => registry.decodeText(format, data));
-  report('bytes decode work', () => bytesOf(JSON.parse(registry.decodeText(format, data))));
   report('bytes decode plain', () => new PlainReader(data).bytes());
 }
 

@@ -2,140 +2,17 @@
 
 from __future__ import annotations
 
-import json
 import pathlib
 import sys
 import time
 from collections.abc import Callable
-from typing import Any
 
-from bcs_proved import Registry
+from bcs_proved import BcsError, Registry
+from plain import Plain, PlainReader
 
 RUNS = 7
 # A run takes about this many seconds.
 RUN = 0.1
-ENTRY_FUNCTION, STRUCT = 2, 7
-
-
-class Plain:
-    """A codec for this one type, as it is written by hand. It checks less."""
-
-    @staticmethod
-    def length(number: int) -> bytes:
-        out = bytearray()
-        while number >= 0x80:
-            out.append(number & 0x7F | 0x80)
-            number >>= 7
-        out.append(number)
-        return bytes(out)
-
-    def octets(self, data: bytes) -> bytes:
-        return self.length(len(data)) + data
-
-    def text(self, text: str) -> bytes:
-        return self.octets(text.encode())
-
-    @staticmethod
-    def address(text: str) -> bytes:
-        return bytes.fromhex(text[2:].zfill(64))
-
-    @staticmethod
-    def number(number: int) -> bytes:
-        return number.to_bytes(8, "little")
-
-    def tags(self, tags: list[Any]) -> bytes:
-        return self.length(len(tags)) + b"".join(map(self.tag, tags))
-
-    def tag(self, tag: dict[str, Any]) -> bytes:
-        struct = tag["Struct"]
-        names = self.text(struct["module"]) + self.text(struct["name"])
-        return bytes([STRUCT]) + self.address(struct["address"]) + names + self.tags(struct["type_args"])
-
-    def encoded(self, value: dict[str, Any]) -> bytes:
-        call = value["payload"]["EntryFunction"]
-        return b"".join(
-            [
-                self.address(value["sender"]),
-                self.number(value["sequence_number"]),
-                bytes([ENTRY_FUNCTION]),
-                self.address(call["module"]["address"]),
-                self.text(call["module"]["name"]),
-                self.text(call["function"]),
-                self.tags(call["ty_args"]),
-                self.length(len(call["args"])),
-                *map(self.octets, call["args"]),
-                self.number(value["max_gas_amount"]),
-                self.number(value["gas_unit_price"]),
-                self.number(value["expiration_timestamp_secs"]),
-                bytes([value["chain_id"]]),
-            ]
-        )
-
-
-class PlainReader:
-    def __init__(self, data: bytes) -> None:
-        self.data = data
-        self.place = 0
-
-    def take(self, length: int) -> bytes:
-        end = self.place + length
-        if end > len(self.data):
-            raise ValueError("the end")
-        found = self.data[self.place : end]
-        self.place = end
-        return found
-
-    def length(self) -> int:
-        length = 0
-        for shift in range(0, 32, 7):
-            (byte,) = self.take(1)
-            length |= (byte & 0x7F) << shift
-            if byte < 0x80:
-                return length
-        raise ValueError("a long length")
-
-    def octets(self) -> bytes:
-        return self.take(self.length())
-
-    def text(self) -> str:
-        return self.octets().decode()
-
-    def address(self) -> str:
-        return "0x" + self.take(32).hex()
-
-    def number(self) -> int:
-        return int.from_bytes(self.take(8), "little")
-
-    def tag(self) -> dict[str, Any]:
-        if self.take(1) != bytes([STRUCT]):
-            raise ValueError("another tag")
-        address, module, name = self.address(), self.text(), self.text()
-        return {"Struct": {"address": address, "module": module, "name": name, "type_args": self.tags()}}
-
-    def tags(self) -> list[Any]:
-        return [self.tag() for _ in range(self.length())]
-
-    def payload(self) -> dict[str, Any]:
-        if self.take(1) != bytes([ENTRY_FUNCTION]):
-            raise ValueError("another payload")
-        module = {"address": self.address(), "name": self.text()}
-        function, tags = self.text(), self.tags()
-        args = [self.octets() for _ in range(self.length())]
-        return {"EntryFunction": {"module": module, "function": function, "ty_args": tags, "args": args}}
-
-    def decoded(self) -> dict[str, Any]:
-        value = {
-            "sender": self.address(),
-            "sequence_number": self.number(),
-            "payload": self.payload(),
-            "max_gas_amount": self.number(),
-            "gas_unit_price": self.number(),
-            "expiration_timestamp_secs": self.number(),
-            "chain_id": self.take(1)[0],
-        }
-        if self.place != len(self.data):
-            raise ValueError("more")
-        return value
 
 
 def report(name: str, call: Callable[[], object]) -> None:
@@ -154,20 +31,34 @@ def report(name: str, call: Callable[[], object]) -> None:
     print(name, min(measure(count) for _ in range(RUNS)) / count * 1e6, flush=True)
 
 
+def refused(call: Callable[[], object]) -> Callable[[], None]:
+    def refuse() -> None:
+        try:
+            call()
+        except BcsError:
+            return
+        raise AssertionError("not refused")
+
+    return refuse
+
+
 def transfer(examples: pathlib.Path) -> None:
     registry, form = Registry(examples / "aptos_registry.json", names={"address": ["AccountAddress"]}), "RawTransaction"
     text = (examples / "aptos_transfer.json").read_text(encoding="utf-8")
     data = bytes.fromhex((examples / "aptos_transfer.hex").read_text(encoding="utf-8"))
-    value, tree, plain = registry.decode(form, data), json.loads(text), Plain()
+    value, plain = registry.decode(form, data), Plain()
     assert data == registry.encode(form, value) == plain.encoded(value)
     assert value == PlainReader(data).decoded()
+    wrong = text.replace('"chain_id": 4', '"chain_id": -4')
     report("transfer encode values", lambda: registry.encode(form, value))
+    report("transfer encode values-refused", refused(lambda: registry.encode(form, value | {"chain_id": -4})))
     report("transfer encode text", lambda: registry.encode_json(form, text))
-    report("transfer encode work", lambda: registry.encode_json(form, json.dumps(tree)))
+    report("transfer encode text-refused", refused(lambda: registry.encode_json(form, wrong)))
     report("transfer encode plain", lambda: plain.encoded(value))
     report("transfer decode values", lambda: registry.decode(form, data))
+    report("transfer decode values-refused", refused(lambda: registry.decode(form, data[:-1])))
     report("transfer decode text", lambda: registry.decode_json(form, data))
-    report("transfer decode work", lambda: json.loads(registry.decode_json(form, data)))
+    report("transfer decode text-refused", refused(lambda: registry.decode_json(form, data[:-1])))
     report("transfer decode plain", lambda: PlainReader(data).decoded())
 
 
@@ -178,11 +69,9 @@ def megabyte() -> None:
     assert registry.decode_json(form, data) == text and registry.decode(form, data) == value
     report("bytes encode values", lambda: registry.encode(form, value))
     report("bytes encode text", lambda: registry.encode_json(form, text))
-    report("bytes encode work", lambda: registry.encode_json(form, json.dumps(value.hex())))
     report("bytes encode plain", lambda: plain.octets(value))
     report("bytes decode values", lambda: registry.decode(form, data))
     report("bytes decode text", lambda: registry.decode_json(form, data))
-    report("bytes decode work", lambda: bytes.fromhex(json.loads(registry.decode_json(form, data))))
     report("bytes decode plain", lambda: PlainReader(data).octets())
 
 

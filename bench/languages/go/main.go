@@ -5,7 +5,6 @@ import (
 	"bytes"
 	"encoding/binary"
 	"encoding/hex"
-	"encoding/json"
 	"errors"
 	"fmt"
 	"log"
@@ -205,35 +204,44 @@ func report[T any](name string, call func() (T, error)) {
 	fmt.Println(name, float64(least.Nanoseconds())/1000/float64(count))
 }
 
+// refused returns the call, which must fail.
+func refused[T any](call func() (T, error)) func() (T, error) {
+	return func() (T, error) {
+		value, err := call()
+		if err == nil {
+			log.Fatal("not refused")
+		}
+		return value, nil
+	}
+}
+
 func transfer(examples string) {
 	read := func(name string) []byte { return must(os.ReadFile(filepath.Join(examples, name))) }
 	registry := must(bcsproved.Open(read("aptos_registry.json"), bcsproved.Names{Addresses: []string{"AccountAddress"}}))
 	defer registry.Close()
 	text := read("aptos_transfer.json")
 	data := must(hex.DecodeString(string(bytes.TrimSpace(read("aptos_transfer.hex")))))
+	wrong, short := bytes.Replace(text, []byte(`"chain_id": 4`), []byte(`"chain_id": -4`), 1), data[:len(data)-1]
 	decoded := func() (*transaction, error) {
 		value := &transaction{}
 		return value, registry.Unmarshal(format, data, value)
 	}
 	value := must(decoded())
-	var tree any
-	if err := json.Unmarshal(text, &tree); err != nil {
-		log.Fatal(err)
-	}
 	if !bytes.Equal(must(registry.Encode(format, value)), data) || !bytes.Equal(plainEncoded(value), data) ||
 		!reflect.DeepEqual(must(plainDecoded(data)), value) {
 		log.Fatal("the codecs differ")
 	}
 	report("transfer encode values", func() ([]byte, error) { return registry.Encode(format, value) })
 	report("transfer encode text", func() ([]byte, error) { return registry.EncodeJSON(format, text) })
-	report("transfer encode work", func() ([]byte, error) { return registry.EncodeJSON(format, must(json.Marshal(tree))) })
+	report("transfer encode text-refused", refused(func() ([]byte, error) { return registry.EncodeJSON(format, wrong) }))
 	report("transfer encode plain", func() ([]byte, error) { return plainEncoded(value), nil })
 	report("transfer decode values", decoded)
+	report("transfer decode values-refused", refused(func() (*transaction, error) {
+		value := &transaction{}
+		return value, registry.Unmarshal(format, short, value)
+	}))
 	report("transfer decode text", func() ([]byte, error) { return registry.DecodeJSON(format, data) })
-	report("transfer decode work", func() (tree any, err error) {
-		err = json.Unmarshal(must(registry.DecodeJSON(format, data)), &tree)
-		return tree, err
-	})
+	report("transfer decode text-refused", refused(func() ([]byte, error) { return registry.DecodeJSON(format, short) }))
 	report("transfer decode plain", func() (*transaction, error) { return plainDecoded(data) })
 }
 
@@ -255,19 +263,9 @@ func megabyte() {
 	}
 	report("bytes encode values", func() ([]byte, error) { return registry.Encode(format, value) })
 	report("bytes encode text", func() ([]byte, error) { return registry.EncodeJSON(format, text) })
-	report("bytes encode work", func() ([]byte, error) {
-		return registry.EncodeJSON(format, must(json.Marshal(hex.EncodeToString(value))))
-	})
 	report("bytes encode plain", func() ([]byte, error) { return appendBytes(nil, value), nil })
 	report("bytes decode values", decoded)
 	report("bytes decode text", func() ([]byte, error) { return registry.DecodeJSON(format, data) })
-	report("bytes decode work", func() ([]byte, error) {
-		var digits string
-		if err := json.Unmarshal(must(registry.DecodeJSON(format, data)), &digits); err != nil {
-			return nil, err
-		}
-		return hex.DecodeString(digits)
-	})
 	report("bytes decode plain", func() ([]byte, error) {
 		r := &reader{data, nil}
 		return r.bytes(), r.err

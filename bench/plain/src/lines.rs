@@ -38,6 +38,10 @@ fn answer_line(command: &str, registry: &Registry, format: &Format, given: &[u8]
             let value = bytes::decode(registry, format, &digits(given)?)?;
             Ok(line(text::show(registry, format, &value)))
         }
+        "normalise" => {
+            let value = bytes::decode(registry, format, &encoded_by(registry, format, given)?)?;
+            Ok(line(text::show(registry, format, &value)))
+        }
         _ => Err("Usage"),
     }
 }

@@ -1,7 +1,7 @@
 //! The yardstick of the timings: an ordinary Rust program over the real `serde_json`, with a tree of values, for the same
 //! commands as `bcs`. It makes few of its tests: no limits of depth and nodes, and one error for each fault. Beside them it
-//! has `parse` and `pass`, the least that reading a text or bytes can take, and `calls`, which times encoding and decoding
-//! alone. `--lines` takes each line of the input of `encode` and `decode` as an input of its own.
+//! has `parse` and `pass`, the least that reading a text or bytes can take. `--lines` takes each line of the input of
+//! `encode`, `decode` and `normalise` as an input of its own.
 
 mod bytes;
 mod lines;
@@ -10,11 +10,11 @@ mod text;
 mod value;
 
 use registry::{read_format, Format, Registry};
+use serde::de::IgnoredAny;
 use std::env;
 use std::fs;
 use std::io::{self, Read, Write};
 use std::process;
-use std::time::Instant;
 
 type Outcome<T> = Result<T, &'static str>;
 
@@ -73,38 +73,14 @@ fn answer(words: &[&str], raw: bool) -> Outcome<Vec<u8>> {
             let letters = input(file)?.iter().filter(|byte| byte.is_ascii_alphabetic()).count();
             Ok(format!("{letters}\n").into_bytes())
         }
-        ["calls", registry, format, file @ ..] => {
-            let registry = Registry::read(&named(registry)?)?;
-            calls(&registry, &read_format(format)?, &input(file)?)
-        }
         _ => Err("Usage"),
     }
 }
 
-/// The least that a job on a text can take: `serde_json` reads it, and nothing else is done.
+/// The least that a job on a text can take: `serde_json` reads it, and keeps nothing.
 fn parse(text: &[u8]) -> Outcome<Vec<u8>> {
-    let json: serde_json::Value = serde_json::from_slice(text).map_err(|_| "NotJson")?;
-    Ok(if json.is_null() { b"null\n".to_vec() } else { b"read\n".to_vec() })
-}
-
-/// The milliseconds that encoding the text's value takes, and decoding its bytes: the fastest of ten each.
-fn calls(registry: &Registry, format: &Format, text: &[u8]) -> Outcome<Vec<u8>> {
-    let json = serde_json::from_slice(text).map_err(|_| "NotJson")?;
-    let value = text::read(registry, format, json)?;
-    let bytes = bytes::encode(&value)?;
-    let encoding = fastest(|| bytes::encode(&value).map(drop))?;
-    let decoding = fastest(|| bytes::decode(registry, format, &bytes).map(drop))?;
-    Ok(format!("encode {encoding:.1} ms, decode {decoding:.1} ms\n").into_bytes())
-}
-
-fn fastest(call: impl Fn() -> Outcome<()>) -> Outcome<f64> {
-    let mut least = f64::INFINITY;
-    for _ in 0..10 {
-        let start = Instant::now();
-        call()?;
-        least = least.min(start.elapsed().as_secs_f64() * 1e3);
-    }
-    Ok(least)
+    serde_json::from_slice::<IgnoredAny>(text).map_err(|_| "NotJson")?;
+    Ok(b"read\n".to_vec())
 }
 
 fn encoded(registry: &Registry, format: &str, input: &[u8]) -> Outcome<Vec<u8>> {

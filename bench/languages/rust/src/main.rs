@@ -1,9 +1,11 @@
-//! Times the calls of bindings/rust for bench/values.py: values EXAMPLES
+//! Times the calls of bindings/rust for bench/values.py: values EXAMPLES. For bench/peers.py: values --lines COMMAND
+mod digits;
+mod lines;
 mod plain;
 mod transaction;
 
 use bcs_proved::{Bytes, Registry};
-use serde_json::Value;
+use digits::{bytes_of, digits};
 use std::fs;
 use std::hint::black_box;
 use transaction::RawTransaction;
@@ -37,42 +39,21 @@ fn report<T>(name: &str, call: impl Fn() -> T) {
     println!("{name} {}", least / f64::from(count));
 }
 
-/// Digits as the crate `hex` makes and reads them.
-fn digits(bytes: &[u8]) -> String {
-    const DIGITS: &[u8; 16] = b"0123456789abcdef";
-    bytes.iter().flat_map(|byte| [DIGITS[usize::from(byte >> 4)], DIGITS[usize::from(byte & 15)]]).map(char::from).collect()
-}
-
-fn digit(sign: u8) -> Option<u8> {
-    match sign {
-        b'0'..=b'9' => Some(sign - b'0'),
-        b'a'..=b'f' => Some(sign - b'a' + 10),
-        b'A'..=b'F' => Some(sign - b'A' + 10),
-        _ => None,
-    }
-}
-
-fn bytes_of(digits: &str) -> Vec<u8> {
-    digits.as_bytes().chunks(2).map(|pair| digit(pair[0]).unwrap() << 4 | digit(pair[1]).unwrap()).collect()
-}
-
 fn transfer(registry: &Registry, json: &str, data: &[u8]) {
     let format = "RawTransaction";
     let value: RawTransaction = registry.decode(format, data).unwrap();
-    let tree: Value = serde_json::from_str(json).unwrap();
+    let (wrong, short) = (json.replace("\"chain_id\": 4", "\"chain_id\": -4"), &data[..data.len() - 1]);
     assert_eq!(registry.encode(format, &value).unwrap(), data);
     assert_eq!(plain::encoded(&value), data);
     assert_eq!(plain::decoded(data), Some(value.clone()));
     report("transfer encode values", || registry.encode(format, &value).unwrap());
     report("transfer encode text", || registry.encode_json(format, json).unwrap());
-    report("transfer encode work", || registry.encode_json(format, tree.to_string()).unwrap());
+    report("transfer encode text-refused", || registry.encode_json(format, &wrong).unwrap_err());
     report("transfer encode plain", || plain::encoded(&value));
     report("transfer decode values", || registry.decode::<RawTransaction>(format, data).unwrap());
+    report("transfer decode values-refused", || registry.decode::<RawTransaction>(format, short).unwrap_err());
     report("transfer decode text", || registry.decode_json(format, data).unwrap());
-    report("transfer decode work", || {
-        let text = registry.decode_json(format, data).unwrap();
-        serde_json::from_str::<Value>(&text).unwrap()
-    });
+    report("transfer decode text-refused", || registry.decode_json(format, short).unwrap_err());
     report("transfer decode plain", || plain::decoded(data).unwrap());
 }
 
@@ -84,18 +65,21 @@ fn megabyte(registry: &Registry, bytes: Vec<u8>) {
     assert_eq!(registry.decode_json(format, &data).unwrap(), json);
     report("bytes encode values", || registry.encode(format, &value).unwrap());
     report("bytes encode text", || registry.encode_json(format, &json).unwrap());
-    report("bytes encode work", || registry.encode_json(format, format!("\"{}\"", digits(&value.0))).unwrap());
     report("bytes encode plain", || plain::encoded_bytes(&value.0));
     report("bytes decode values", || registry.decode::<Bytes>(format, &data).unwrap());
     report("bytes decode text", || registry.decode_json(format, &data).unwrap());
-    report("bytes decode work", || bytes_of(registry.decode_json(format, &data).unwrap().trim_matches('"')));
     report("bytes decode plain", || plain::decoded_bytes(&data).unwrap());
 }
 
 fn main() {
-    let examples = std::env::args().nth(1).expect("the folder examples");
+    let words: Vec<String> = std::env::args().skip(1).collect();
+    if let [option, command] = &words[..] {
+        assert_eq!(option, "--lines");
+        return lines::answer(command);
+    }
+    let examples = words.first().expect("the folder examples");
     let read = |name: &str| fs::read_to_string(format!("{examples}/{name}")).unwrap();
     let registry = Registry::read(read("aptos_registry.json")).unwrap();
-    transfer(&registry, &read("aptos_transfer.json"), &bytes_of(read("aptos_transfer.hex").trim()));
+    transfer(&registry, &read("aptos_transfer.json"), &bytes_of(read("aptos_transfer.hex").trim()).unwrap());
     megabyte(&registry, (0..1_000_000_u32).map(|number| (number.wrapping_mul(2_654_435_761) >> 24) as u8).collect());
 }

@@ -1,4 +1,5 @@
 //! A codec for this one type, as it is written by hand. It checks less.
+use crate::digits::Digits;
 use crate::transaction::{Address, EntryFunction, ModuleId, Payload, RawTransaction, StructTag, TypeTag};
 use bcs_proved::Bytes;
 
@@ -32,7 +33,7 @@ fn put_tag(out: &mut Vec<u8>, tag: &TypeTag) {
         }
         TypeTag::Struct(tag) => {
             out.push(STRUCT);
-            out.extend_from_slice(&tag.address);
+            out.extend_from_slice(&tag.address.0);
             put_bytes(out, tag.module.as_bytes());
             put_bytes(out, tag.name.as_bytes());
             put_tags(out, &tag.type_args);
@@ -42,16 +43,16 @@ fn put_tag(out: &mut Vec<u8>, tag: &TypeTag) {
 
 pub fn encoded(value: &RawTransaction) -> Vec<u8> {
     let mut out = Vec::new();
-    out.extend_from_slice(&value.sender);
+    out.extend_from_slice(&value.sender.0);
     out.extend_from_slice(&value.sequence_number.to_le_bytes());
     let Payload::EntryFunction(call) = &value.payload;
     out.push(ENTRY_FUNCTION);
-    out.extend_from_slice(&call.module.address);
+    out.extend_from_slice(&call.module.address.0);
     put_bytes(&mut out, call.module.name.as_bytes());
     put_bytes(&mut out, call.function.as_bytes());
     put_tags(&mut out, &call.ty_args);
     put_length(&mut out, call.args.len());
-    call.args.iter().for_each(|argument| put_bytes(&mut out, &argument.0));
+    call.args.iter().for_each(|argument| put_bytes(&mut out, &argument.0.0));
     for number in [value.max_gas_amount, value.gas_unit_price, value.expiration_timestamp_secs] {
         out.extend_from_slice(&number.to_le_bytes());
     }
@@ -104,7 +105,7 @@ impl<'b> Reader<'b> {
     }
 
     fn address(&mut self) -> Option<Address> {
-        self.take(32)?.try_into().ok()
+        self.take(32)?.try_into().ok().map(Digits)
     }
 
     fn list<T>(&mut self, item: impl Fn(&mut Self) -> Option<T>) -> Option<Vec<T>> {
@@ -132,7 +133,7 @@ impl<'b> Reader<'b> {
             module: ModuleId { address: self.address()?, name: self.text()? },
             function: self.text()?,
             ty_args: self.list(Reader::tag)?,
-            args: self.list(|reader| Some(Bytes(reader.bytes()?.to_vec())))?,
+            args: self.list(|reader| Some(Digits(Bytes(reader.bytes()?.to_vec()))))?,
         }))
     }
 }

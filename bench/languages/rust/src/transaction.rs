@@ -1,7 +1,9 @@
 //! A transaction of Aptos, as a wallet has it.
+use crate::digits::Digits;
+use bcs_proved::Bytes;
 use serde::{Deserialize, Serialize};
 
-pub type Address = [u8; 32];
+pub type Address = Digits<[u8; 32]>;
 
 #[derive(Clone, Debug, PartialEq, Serialize, Deserialize)]
 pub struct RawTransaction {
@@ -24,7 +26,7 @@ pub struct EntryFunction {
     pub module: ModuleId,
     pub function: String,
     pub ty_args: Vec<TypeTag>,
-    pub args: Vec<bcs_proved::Bytes>,
+    pub args: Vec<Digits<Bytes>>,
 }
 
 #[derive(Clone, Debug, PartialEq, Serialize, Deserialize)]
