@@ -970,10 +970,15 @@ function mapReader(readEntry) {
   return (json) => new Map(json.map((entry) => readEntry(entry)));
 }
 
+/** An object with the fields in the order of the registry. Copying one that has them all is faster than adding each. */
 function structReader(names, reads) {
+  const empty = names.reduce((made, name) => put(made, name, undefined), {});
   return (json) => {
-    const made = {};
-    for (let i = 0; i < names.length; i++) put(made, names[i], reads[i](json[names[i]]));
+    const made = { ...empty };
+    for (let i = 0; i < names.length; i++) {
+      const [name, read] = [names[i], reads[i]];
+      made[name] = read === unchanged ? json[name] : read(json[name]);
+    }
     return made;
   };
 }
@@ -1075,6 +1080,7 @@ const CALL = {
   stopRefusal: 12,
   schema: 13,
   example: 14,
+  candidates: 15,
   show: 20,
   formatPlace: 21,
   grows: 30,
@@ -1699,6 +1705,10 @@ class FormatCalls {
     return this.#ask(CALL.scan, { first: bytes }, this.#nodesFor(bytes)).length;
   }
 
+  candidates(bytes) {
+    return stringOfUtf8(this.#ask(CALL.candidates, { first: bytes }, this.#nodesFor(bytes)).output).split('\n').slice(0, -1);
+  }
+
   explained(bytes, form, views) {
     const asked = { number: FORMS.indexOf(form) + WITH_NOTES, first: bytes, views: linesOfViews(views) };
     return stringOfUtf8(this.#ask(CALL.explain, asked, this.#nodesFor(bytes), ({ status }) => this.#refusedOf(views, status)).output);
@@ -1802,7 +1812,7 @@ class Registry {
     this.#limits = limits;
   }
 
-  /** The same registry with other limits: how many containers may be open at once, and how many nodes a value may have. */
+  /** The same registry with other limits: how deeply containers may nest, and how many nodes a value may have. */
   withLimits(given) {
     requireKnown(given, ['depth', 'nodes'], 'limit');
     const { depth = MOST_DEPTH, nodes } = given;
@@ -1914,6 +1924,11 @@ class Registry {
   /** How many bytes the value at the front of the input has. */
   scan(format, bytes) {
     return this.#on(format, (calls) => calls.scanned(bytesOfAny(bytes)));
+  }
+
+  /** The names of the containers that the bytes are exactly one value of, the likeliest first, as `bcs which` prints them. */
+  which(bytes) {
+    return this.#on('"UNIT"', (calls) => calls.candidates(bytesOfAny(bytes)));
   }
 
   /** The part to which a path leads, such as `2/some/0`, and its place; `undefined` where it leads nowhere. */

@@ -95,7 +95,7 @@ export type ValueOf<T extends Types, F, Call extends 'encode' | 'decode' | 'plai
     : never;
 
 export interface Limits {
-  /** How many containers may be open at once: at most 500, which is the default. */
+  /** How deeply containers may nest: at most 500, which is the default. */
   depth?: number;
   /**
    * How many nodes a value may have. By default, bytes may have 16 for each byte of the input and 65,536 more, fewer if the
@@ -260,6 +260,8 @@ export interface Registry<T extends Types = AnyTypes> {
   show(name?: string, options?: { json?: boolean }): string;
   /** How many bytes the value at the front of the input has. */
   scan(format: Format<T>, bytes: Bytes): number;
+  /** The names of the containers that the bytes are exactly one value of, the likeliest first, as `bcs which` prints them. */
+  which(bytes: Bytes): string[];
   /** The part to which a path leads, and its place; `undefined` where it leads nowhere. */
   part(format: Format<T>, bytes: Bytes, path: Text): { place: number; bytes: Uint8Array } | undefined;
   /** The same by the part's name, as `explain` has it: `.payload::EntryFunction.args[0]`. */
@@ -288,6 +290,7 @@ export interface Views<T extends Types = AnyTypes> {
   /**
    * By the name of a list of byte strings the function of Move whose arguments they are. Those are the containers
    * `0x1::coin::transfer<..>::arg0` and so on that `registryOfModules` makes. If the value calls another function, none of them is shown.
+   * An empty string is the function that is called.
    */
   calls?: { readonly [name: string]: string };
   /** Containers whose values are shown as Move's. Those called `address`, `u256` and `i256` are so without it. */

@@ -69,6 +69,10 @@ export class FormatCalls {
     return this.#ask(CALL.scan, { first: bytes }, this.#nodesFor(bytes)).length;
   }
 
+  candidates(bytes) {
+    return stringOfUtf8(this.#ask(CALL.candidates, { first: bytes }, this.#nodesFor(bytes)).output).split('\n').slice(0, -1);
+  }
+
   explained(bytes, form, views) {
     const asked = { number: FORMS.indexOf(form) + WITH_NOTES, first: bytes, views: linesOfViews(views) };
     return stringOfUtf8(this.#ask(CALL.explain, asked, this.#nodesFor(bytes), ({ status }) => this.#refusedOf(views, status)).output);

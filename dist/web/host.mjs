@@ -1,5 +1,5 @@
 // The thread that runs the proved program `bcs`, bcs_program.wasm. What it imports are functions of the system;
-// bindings/hosts/README.md has their contracts.
+// platforms/hosts/README.md has their contracts.
 import { randomFillSync } from 'node:crypto';
 import {
   closeSync, constants, fchmodSync, fchownSync, fstatSync, fsyncSync, lstatSync, openSync, readFileSync, readlinkSync, readSync,
@@ -97,7 +97,7 @@ class Host {
     return new DataView(this.memory.buffer, Number(at));
   }
 
-  /** Stores what a file is as bindings/hosts/statx.h has it. */
+  /** Stores what a file is as platforms/hosts/statx.h has it. */
   #describe({ mode, nlink, uid, gid, ino, size, dev }, found) {
     for (const [at, number] of [[16, nlink], [20, uid], [24, gid]]) found.setUint32(at, Number(number), true);
     for (const [at, number] of [[32, ino], [40, size], [136, dev]]) found.setBigUint64(at, number, true);

@@ -28,6 +28,7 @@ export const CALL = {
   stopRefusal: 12,
   schema: 13,
   example: 14,
+  candidates: 15,
   show: 20,
   formatPlace: 21,
   grows: 30,

@@ -27,7 +27,7 @@ export class Registry {
     this.#limits = limits;
   }
 
-  /** The same registry with other limits: how many containers may be open at once, and how many nodes a value may have. */
+  /** The same registry with other limits: how deeply containers may nest, and how many nodes a value may have. */
   withLimits(given) {
     requireKnown(given, ['depth', 'nodes'], 'limit');
     const { depth = MOST_DEPTH, nodes } = given;
@@ -139,6 +139,11 @@ export class Registry {
   /** How many bytes the value at the front of the input has. */
   scan(format, bytes) {
     return this.#on(format, (calls) => calls.scanned(bytesOfAny(bytes)));
+  }
+
+  /** The names of the containers that the bytes are exactly one value of, the likeliest first, as `bcs which` prints them. */
+  which(bytes) {
+    return this.#on('"UNIT"', (calls) => calls.candidates(bytesOfAny(bytes)));
   }
 
   /** The part to which a path leads, such as `2/some/0`, and its place; `undefined` where it leads nowhere. */
