@@ -10,6 +10,7 @@ import copy
 import json
 import pathlib
 import random
+import re
 import subprocess
 import tempfile
 from typing import Any
@@ -32,6 +33,7 @@ REGISTRY = {
         }
     }
 }
+ENDS_WITH_KEY = re.compile(r"\[key:[^]]*\]$")
 KEYS = ["", "a", "é", "k" * 31, "k" * 99]
 
 
@@ -136,7 +138,7 @@ def check(registry: str, values: list[Any], file: pathlib.Path) -> int:
             require(first != second, f"{line}")
         else:
             only.append((line["a"] or line["b"])["name"])
-    keys = [name for name in only if "[key:" in name and name.endswith("]")]
+    keys = [name for name in only if ENDS_WITH_KEY.search(name)]
     require(rest[0] == rest[1] and len(keys) == len(set(keys)), f"{texts}: {output}")
     return len(lines)
 
