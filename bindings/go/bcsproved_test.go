@@ -12,7 +12,6 @@ import (
 	"runtime"
 	"sort"
 	"strings"
-	"syscall"
 	"testing"
 )
 
@@ -131,10 +130,7 @@ func TestDefaultLimits(t *testing.T) {
 		}
 		return
 	}
-	most := uint64(pages(t, 0)*os.Getpagesize() + 1<<30)
-	if err := syscall.Setrlimit(syscall.RLIMIT_AS, &syscall.Rlimit{Cur: most, Max: most}); err != nil {
-		t.Fatal(err)
-	}
+	limitMemory(t, 2<<30)
 	for _, call := range []func() error{
 		func() error { _, err := registry.Scan(format, units); return err },
 		func() error { _, err := registry.Part(format, units, "."); return err },

@@ -13,7 +13,8 @@ import (
 	"testing"
 )
 
-// pages returns how many pages of memory this process has in field `field` of /proc/self/statm: 0 all, 1 those in use.
+// pages returns how many pages of memory this process has in field `field` of /proc/self/statm: 1 those in use, 5 those it can
+// write to.
 func pages(t testing.TB, field int) int {
 	t.Helper()
 	told, err := os.ReadFile("/proc/self/statm")
@@ -25,6 +26,15 @@ func pages(t testing.TB, field int) int {
 		t.Fatal(err)
 	}
 	return count
+}
+
+// limitMemory leaves this process that many more bytes. Addresses don't count: Go and the C library reserve some for each thread.
+func limitMemory(t testing.TB, more int) {
+	t.Helper()
+	most := uint64(pages(t, 5)*os.Getpagesize() + more)
+	if err := syscall.Setrlimit(syscall.RLIMIT_DATA, &syscall.Rlimit{Cur: most, Max: most}); err != nil {
+		t.Fatal(err)
+	}
 }
 
 // Each call succeeds, or finds the registry closed.
@@ -194,10 +204,7 @@ func TestMemory(t *testing.T) {
 		return
 	}
 	registry := open(t, "{}").WithLimits(StandardLimits())
-	most := uint64(pages(t, 0)*os.Getpagesize() + 256<<20)
-	if err := syscall.Setrlimit(syscall.RLIMIT_AS, &syscall.Rlimit{Cur: most, Max: most}); err != nil {
-		t.Fatal(err)
-	}
+	limitMemory(t, 512<<20)
 	units := []byte{0xfe, 0xff, 0xff, 0xff, 0x07}
 	if out, err := registry.DecodeJSON(`{"SEQ":"UNIT"}`, units); err != ErrMemory {
 		t.Fatal(len(out), err)
