@@ -3,6 +3,7 @@
 
 mod decoding;
 mod scanning;
+mod short_decoding;
 mod slice_decoding;
 mod slice_parts;
 mod source_scanning;
