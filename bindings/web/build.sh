@@ -25,7 +25,7 @@ folder=$1
 "$here/../../platforms/wasm/module.py" ${code+--code "$code"} ${program_code+--program-code "$program_code"} "$folder"
 gzip -9nf "$folder/bcs_scalar.wasm"
 for name in bcs own_module loader registry format_calls holder modules views refusals limits interruptions errors support question calls \
-    writing reading json_output move_types shapes texts hex octets program host system types declarations identifiers; do
+    writing reading json_output move_types shapes texts hex octets program host progress system types declarations identifiers; do
     install -m 644 "$here/$name.mjs" "$folder/"
 done
 install -m 644 "$here/bcs.d.mts" "$folder/"

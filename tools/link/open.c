@@ -1,5 +1,6 @@
 /* `open`, in place of that of the C library: what a descriptor's name stands for gets a second descriptor. */
 #include "../../platforms/hosts/descriptor.h"
+#include "progress.h"
 
 long syscall(long number, ...);
 
@@ -17,5 +18,7 @@ int open(const char *path, int flags, ...) {
     __builtin_va_start(more, flags);
     const unsigned mode = (flags & CREATES) != 0 ? __builtin_va_arg(more, unsigned) : 0;
     __builtin_va_end(more);
-    return (int)(number >= 0 ? syscall(DUP, number) : syscall(OPENAT, CURRENT_FOLDER, path, flags, mode));
+    const int file = (int)(number >= 0 ? syscall(DUP, number) : syscall(OPENAT, CURRENT_FOLDER, path, flags, mode));
+    note_opened(path, flags, file);
+    return file;
 }

@@ -1,6 +1,7 @@
 /* The program's own stack, for the two starts. The greatest limits on depth need up to 16 MiB, and a system may give a program
    less: `ulimit -s`. So the program reserves a stack, of which it only touches what it uses, with a guard before its end: the
    proved code touches its stack page by page. If the stack can't be reserved, that is `fault: memory`. */
+#include "progress.h"
 #include "standard_streams.h"
 #include <sys/mman.h>
 
@@ -41,7 +42,6 @@ __attribute__((naked)) static int main_on(char *top, int count, char **words) {
 static int main_on_own_stack(int count, char **words, char **environment) {
     static const char fault[] = "fault: memory\n", no_streams[] = "fault: open\nin the file /\n";
     char *const stack = mmap(NULL, GUARD + STACK, PROT_NONE, MAP_PRIVATE | MAP_ANONYMOUS | MAP_NORESERVE, -1, 0);
-    (void)environment;
     if (!are_streams_open()) {
         (void)write(STANDARD_ERROR, no_streams, sizeof no_streams - 1);
         return STATUS_FAULT;
@@ -51,5 +51,8 @@ static int main_on_own_stack(int count, char **words, char **environment) {
         return STATUS_FAULT;
     }
     madvise(stack, GUARD + STACK, MADV_NOHUGEPAGE);
-    return main_on(stack + GUARD + STACK, count, words);
+    begin_progress(words, environment);
+    const int status = main_on(stack + GUARD + STACK, count, words);
+    erase_progress();
+    return status;
 }
