@@ -57,6 +57,7 @@ def test_program() -> str:
     log = log_of("tests/program.py", DIST) + log_of("tests/explain.py", DIST)
     log += log_of("tests/output_files.py", DIST) + log_of("tests/own_stack.py", DIST)
     log += log_of("tests/host_streams.py", f"{DIST}/bcs") + log_of("tests/file_rights.py", f"{DIST}/bcs")
+    log += log_of("tests/progress.py", f"{DIST}/bcs") + log_of("tests/terminal.py", f"{DIST}/bcs")
     symbols = log_of("objdump", "-T", f"{DIST}/bcs", f"{DIST}/libbcs.so")
     versions = [tuple(map(int, version.split("."))) for version in re.findall(r"GLIBC_(\d[\d.]*)", symbols)]
     newest = "GLIBC_" + ".".join(map(str, max(versions)))

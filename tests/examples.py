@@ -207,7 +207,7 @@ class Examples:
             self.check("docs/PROGRAM.md", f"options of {command}", " ".join(sorted(listed)), found.encode())
 
     def run_help(self) -> None:
-        """The help of each command of the program has examples, as lines `COMMAND  # ANSWER`."""
+        """The help of each command of the program has examples, as `COMMAND  # ANSWER`, on one line or more."""
         commands = [line.split()[0] for line in section(printed(["bcs", "--help"]), "Commands:")]
         if not commands:
             self.fail("the help names no commands")
@@ -217,7 +217,7 @@ class Examples:
             examples = section(printed(["bcs", command, "--help"]), "Example:")
             if not examples:
                 self.fail(f"the help of {command} has no example")
-            for example in examples:
+            for example in whole_examples(examples):
                 self.run_line(f"the help of {command}", example)
 
     def run_line(self, name: str, example: str) -> None:
@@ -229,6 +229,11 @@ class Examples:
             stderr=subprocess.STDOUT,
         )
         self.check(name, example, f"{example.rpartition('# ')[2]}\n", ended.stdout)
+
+
+def whole_examples(lines: list[str]) -> list[str]:
+    """The examples, each of which ends with the line that has its answer."""
+    return re.findall(r"(?:.*\n)*?.*# .*\n", "".join(f"{line}\n" for line in lines))
 
 
 def section(text: str, title: str) -> list[str]:

@@ -86,6 +86,7 @@ python3 "$here/../../tests/rows" web node "$here/tests/driver.mjs" "$web/bcs.was
 program=$(realpath -m "${BCS_PROGRAM:-$here/../../crates/bcs/out/bcs}")
 [ -x "$program" ] || program=
 python3 "$here/tests/streams.py" "$web" ${program:+"$program"} || fail "the program with streams"
+"$here/../../tests/progress.py" node "$web/bcs.mjs" || fail "the line that shows how much was read"
 "$here/../../tests/host_streams.py" node "$web/bcs.mjs" || fail "the program with closed descriptors and interrupted calls"
 "$here/tests/start.py" "$web" || fail "the start of the program"
 

@@ -93,7 +93,8 @@ make_program() {
     tool llvm-objcopy --redefine-sym main=bcs_main "$room/program.o"
     link "$folder/bcs" -pie --dynamic-linker /lib/ld-linux-aarch64.so.1 \
         "$room/start.o" "$room/linux.o" "$room/program_heap.o" "$room/statx.o" "$room/calls.o" \
-        "$room/open.o" "$room/entropy.o" "$room/progress.o" "$room/program.o"
+        "$room/open.o" "$room/entropy.o" "$room/progress.o" "$room/environment.o" \
+        "$room/program.o"
 }
 
 # A few lines of C under the name of each proved call that returns an answer lead to that call. The heap is an object of its own in
@@ -129,6 +130,7 @@ compile_c "$root/tools/link/calls.c"
 compile_c "$root/tools/link/open.c"
 compile_c "$root/tools/link/entropy.c"
 compile_c "$root/tools/link/progress.c"
+compile_c "$root/tools/link/environment.c"
 for name in library heap static; do
     compile_c "$root/bindings/c/$name.c"
 done

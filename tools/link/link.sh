@@ -49,10 +49,11 @@ link() {
 
 make_program() {
     compile tools/link/start.c tools/link/processor.c tools/link/program_heap.c \
-        tools/link/statx.c tools/link/calls.c tools/link/open.c tools/link/entropy.c tools/link/progress.c
+        tools/link/statx.c tools/link/calls.c tools/link/open.c tools/link/entropy.c tools/link/progress.c \
+        tools/link/environment.c
     link "$folder/bcs" -pie --dynamic-linker /lib64/ld-linux-x86-64.so.2 \
         "$room/start.o" "$room/processor.o" "$room/program_heap.o" "$room/statx.o" "$room/calls.o" "$room/open.o" "$room/entropy.o" \
-        "$room/progress.o" "$file" \
+        "$room/progress.o" "$room/environment.o" "$file" \
         "$kit/c/libos_c.a" "$kit/c/liblibc_c.a"
 }
 

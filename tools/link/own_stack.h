@@ -1,6 +1,7 @@
 /* The program's own stack, for the two starts. The greatest limits on depth need up to 16 MiB, and a system may give a program
    less: `ulimit -s`. So the program reserves a stack, of which it only touches what it uses, with a guard before its end: the
    proved code touches its stack page by page. If the stack can't be reserved, that is `fault: memory`. */
+#include "environment.h"
 #include "progress.h"
 #include "standard_streams.h"
 #include <sys/mman.h>
@@ -51,6 +52,7 @@ static int main_on_own_stack(int count, char **words, char **environment) {
         return STATUS_FAULT;
     }
     madvise(stack, GUARD + STACK, MADV_NOHUGEPAGE);
+    keep_environment(environment);
     begin_progress(words, environment);
     const int status = main_on(stack + GUARD + STACK, count, words);
     erase_progress();

@@ -3,8 +3,9 @@
    has got something on a terminal. It is written over, and erased before anything else is printed. `BCS_PROGRESS=0` turns it off. */
 #include "progress.h"
 #include "../../platforms/hosts/statx.h"
-#include "calls.h"
+#include "environment.h"
 #include "progress_text.h"
+#include "terminal.h"
 #include <string.h>
 
 int64_t lseek(int file, int64_t offset, int whence);
@@ -29,15 +30,6 @@ static int64_t now(void) {
     int64_t time[2] = {0, 0};
     syscall(CLOCK_GETTIME, MONOTONIC, time);
     return time[0] * 1000 + time[1] / 1000000;
-}
-
-/* Stores a terminal's number of columns, 0 if it is unknown. */
-static bool is_terminal(int file, size_t *columns) {
-    enum { WINDOW_SIZE = 0x5413 };
-    uint16_t size[4] = {0};
-    const bool is_one = syscall(IOCTL, file, WINDOW_SIZE, size) == 0;
-    *columns = size[1];
-    return is_one;
 }
 
 /* A job in the background may be stopped if it writes. */
@@ -67,7 +59,7 @@ static void print(const struct text *text, const char *end) {
 }
 
 static void draw(int64_t time) {
-    size_t columns;
+    uint16_t columns;
     struct text text = {.length = 0};
     describe(&text, seen.read, seen.length, (uint64_t)(time - seen.input_started));
     if (is_terminal(STANDARD_ERROR, &columns) && columns != 0 && text.length >= columns) {
@@ -83,14 +75,6 @@ void erase_progress(void) {
     }
 }
 
-static bool is_same(const char *one, const char *other) {
-    while (*one != 0 && *one == *other) {
-        one++;
-        other++;
-    }
-    return *one == *other;
-}
-
 static bool is_turned_off(char **environment) {
     while (*environment != NULL && !is_same(*environment, "BCS_PROGRESS=0")) {
         environment++;
@@ -99,7 +83,7 @@ static bool is_turned_off(char **environment) {
 }
 
 void begin_progress(char **words, char **environment) {
-    size_t columns;
+    uint16_t columns;
     struct statx output;
     if (is_turned_off(environment) || !is_terminal(STANDARD_ERROR, &columns)) {
         return;
@@ -113,7 +97,7 @@ void begin_progress(char **words, char **environment) {
 }
 
 static void take_input(int file, long count) {
-    size_t columns;
+    uint16_t columns;
     struct statx found;
     seen.input = is_terminal(file, &columns) ? NO_FILE : file;
     seen.read = 0;

@@ -3,31 +3,32 @@
 # made. Each line consists of fields, separated by tabs. The second one is the command, or empty for the program itself:
 #
 #     about COMMAND TEXT             usage COMMAND TEXT       example COMMAND TEXT      status COMMAND TEXT
-#     input COMMAND TEXT
+#     input COMMAND TEXT             more COMMAND NAME TEXT
 #     command NOTHING NAME TEXT      argument COMMAND <REG> TEXT      option COMMAND --depth <N> TEXT
 set -eu
 program=$1
 
 # table COMMAND: reads the help of a command. An entry is indented by two to six blanks. Its text follows after two more
-# blanks, or on the next lines, which are indented deeper.
+# blanks, or on the next lines, which are indented deeper. What the command does may take several lines.
 table() {
     awk -v command="$1" '
         BEGIN {
             kinds["Usage"] = "usage"; kinds["Commands"] = "command"; kinds["Arguments"] = "argument"
             kinds["Options"] = "option"; kinds["Input"] = "input"; kinds["Example"] = "example"
-            kinds["Status"] = "status"
+            kinds["Status"] = "status"; kinds["More"] = "more"
             kind = "about"
         }
         function put(text) { if (text != "") print kind "\t" command "\t" text }
-        function put_entry() { if (entry != "") put(entry "\t" text); entry = text = "" }
+        function put_entry() { if (entry != "") put(entry (kind == "about" ? "" : "\t" text)); entry = text = "" }
         match($0, /^[A-Z][a-z]*:/) {
             put_entry()
             kind = kinds[substr($0, 1, RLENGTH - 1)]
             if (kind == "") { print "tools/packaging/help.sh: unknown heading: " $0 >"/dev/stderr"; exit 1 }
             $0 = substr($0, RLENGTH + 1)
         }
-        { is_deep = /^       / && !/^ *-/; sub(/^ */, "") }
-        kind !~ /command|argument|option/ { put($0); next }
+        { is_deep = /^       /; sub(/^ */, "") }
+        kind == "about" { if ($0 == "") put_entry(); else entry = entry (entry == "" ? "" : " ") $0; next }
+        kind !~ /command|argument|option|more/ { put($0); next }
         $0 == "" { next }
         is_deep { text = text (text == "" ? "" : " ") $0; next }
         {

@@ -16,17 +16,54 @@ printf '%s\n' "$help" | awk -F'\t' -v version="${version%%,*}" '
         return text ~ /^\./ ? "\\&" text : text
     }
     function heading(title) { if (title != last) print ".SH " title; last = title }
-    # What describes a command comes under its name, and what describes the program under headings of its own.
-    function place(title) { if ($2 == "") heading(title); else if (kind != $1 && $1 != "option") print ".PP"; kind = $1 }
     function entry(name, text) { print ".TP\n\\fB" roff(name) "\\fR\n" roff(text) }
-
-    $1 == "about" && $2 == "" { print ".TH BCS 1 \"\" \"" version "\" \"User Commands\""; heading("NAME"); print "bcs \\- " roff($3); next }
-    $1 == "about" { heading("COMMANDS"); print ".SS " $2 "\n" roff($3); kind = "" }
-    $1 == "usage" { place("SYNOPSIS"); print "\\fB" roff($3) "\\fR" }
-    $1 == "command" { place("DESCRIPTION"); entry($3, $4) }
-    $1 == "argument" { entry($3, $4) }
-    $1 == "option" { place("OPTIONS"); entry($3, $4) }
-    $1 == "input" { place("INPUT"); print roff($3) }
-    $1 == "example" { place("EXAMPLES"); print ".EX\n" roff($3) "\n.EE" }
-    $1 == "status" && match($3, /^[0-9]  /) { place("EXIT STATUS"); entry(substr($3, 1, 1), substr($3, 4)); next }
-    $1 == "status" { place("EXIT STATUS"); print "Exit status: " roff($3) }'
+    # What describes a command comes under its name, and what describes the program under headings of its own.
+    function place(title) {
+        if (command == "") heading(title)
+        else if (kind != was && kind != "option") print ".PP"
+        was = kind
+    }
+    # An option that several commands have is described once, before the commands.
+    function is_shared(name, text) { return count[name FS text] > 2 }
+    function shared_options(    at) {
+        heading("OPTIONS")
+        print ".PP\nOptions of several commands:"
+        for (at = 1; at <= NR; at++) {
+            split(line[at], field, FS)
+            if (field[1] == "option" && field[2] != "" && is_shared(field[3], field[4]) && !seen[field[3] FS field[4]]++)
+                entry(field[3], field[4])
+        }
+    }
+    function names_of_shared() {
+        if (shared != "") print ".PP\nAlso, as under OPTIONS: " roff(shared) "."
+        shared = ""
+    }
+    function show(    first) {
+        kind = field[1]; command = field[2]; first = field[3]
+        if (kind == "about") names_of_shared()
+        if (kind == "about" && command == "") {
+            print ".TH BCS 1 \"\" \"" version "\" \"User Commands\""; heading("NAME"); print "bcs \\- " roff(first)
+        } else if (kind == "about") {
+            heading("COMMANDS"); print ".SS " command "\n" roff(first); was = ""
+        } else if (kind == "usage") { place("SYNOPSIS"); print "\\fB" roff(first) "\\fR" }
+        else if (kind == "command") { place("DESCRIPTION"); entry(first, field[4]) }
+        else if (kind == "argument") entry(first, field[4])
+        else if (kind == "option" && command != "" && is_shared(first, field[4])) {
+            sub(/ <.*/, "", first); shared = shared (shared == "" ? "" : ", ") first
+        } else if (kind == "option") {
+            place("OPTIONS"); entry(first, field[4])
+            seen[first FS field[4]] = 1
+        } else if (kind == "input") { if (!has_shared++) shared_options(); place("INPUT"); print roff(first) }
+        else if (kind == "example") { place("EXAMPLES"); print ".EX\n" roff(first) "\n.EE" }
+        else if (kind == "status" && match(first, /^[0-9]  /)) { place("EXIT STATUS"); entry(substr(first, 1, 1), substr(first, 4)) }
+        else if (kind == "status") { place("EXIT STATUS"); print "Exit status: " roff(first) }
+        else if (kind == "more") see[++more] = first FS field[4]
+    }
+    { line[NR] = $0; if ($1 == "option" && $2 != "") count[$3 FS $4]++ }
+    END {
+        for (at = 1; at <= NR; at++) { split("", field); split(line[at], field, FS); show() }
+        names_of_shared()
+        heading("SEE ALSO")
+        print "\\fBbcs\\-registry\\fR(1)"
+        for (at = 1; at <= more; at++) { split(see[at], field, FS); entry(field[1], field[2]) }
+    }'

@@ -1,13 +1,14 @@
 //! Where an explanation ends before the input does.
 
-use crate::error_line::put_error;
+use crate::error_line::{put_error, put_folded_error};
 use crate::found::{Found, put_found};
 use crate::halt::Halt;
+use crate::look::Look;
 use crate::objects::put_stop_object;
 use crate::refused_call::CallFault;
 use crate::variants::put_variants;
 use bcs_display_refusal::{Location, Refusal};
-use bcs_display_text::style::{Form, Style};
+use bcs_display_text::style::Form;
 use bcs_explain::Reason;
 use bcs_registry::Registry;
 use std::alloc::{AllocError, Global};
@@ -54,18 +55,20 @@ pub(crate) struct Ending {
 
 /// Appends the line or the object for a stop at this place. The last piece ends at `end`.
 pub(crate) fn put_stop(
-    style: Style,
+    look: Look,
     (why, place): (Why, u64),
     end: u64,
     halt: Halt,
     input: &[u8],
     out: &mut Vec<u8>,
 ) -> Result<(), AllocError> {
-    match style.form {
+    let rest = input.get(end as usize..).unwrap_or(&[]);
+    let stop = (why, place);
+    match look.style.form {
         Form::Json => put_stop_object(why, place, halt, out),
+        Form::Ways if look.is_folded() => put_folded_error(look, end, rest, stop, halt, out),
         Form::Ways | Form::Paths | Form::Tree => {
-            let rest = input.get(end as usize..).unwrap_or(&[]);
-            put_error(style, end, rest, (why, place), &halt, out)
+            put_error(look.style, end, rest, stop, &halt, out)
         }
     }
 }

@@ -2,8 +2,10 @@
 
 use crate::ending::Why;
 use crate::halt::Halt;
-use crate::lines::{MEANING_WIDTH, PLACE_WIDTH, put_first_row};
+use crate::lines::{MEANING_WIDTH, PLACE_WIDTH, ROW_SIZE, put_first_row};
+use crate::look::Look;
 use crate::meaning::put_quantity;
+use crate::outline::{Entry, put_entry};
 use bcs_display_text::colors::{end_painted, start_color};
 use bcs_display_text::columns::{put_blanks, put_decimal};
 use bcs_display_text::style::{Form, Style};
@@ -25,7 +27,7 @@ pub(crate) fn put_error(
     let left = put_first_row(style.paint, place, rest, out)?;
     start_color(style.paint, DAMAGE_COLOR, out)?;
     let start = out.len();
-    put_mark(stop, halt, out)?;
+    put_mark(stop, &halt.expected, out)?;
     end_painted(style.paint, start, MEANING_WIDTH, out)?;
     out.extend_from_slice(&halt.way)?;
     if style.form == Form::Paths {
@@ -33,24 +35,54 @@ pub(crate) fn put_error(
         out.extend_from_slice(&halt.path)?;
     }
     out.push(b'\n')?;
-    put_left_out(left.len(), out)
+    put_left_out(left.len(), PLACE_WIDTH, out)
 }
 
-fn put_mark((why, place): (Why, u64), halt: &Halt, out: &mut Vec<u8>) -> Result<(), AllocError> {
+/// The same in the columns of a terminal.
+pub(crate) fn put_folded_error(
+    look: Look,
+    place: u64,
+    rest: &[u8],
+    stop: (Why, u64),
+    halt: Halt,
+    out: &mut Vec<u8>,
+) -> Result<(), AllocError> {
+    let (shown, left) = rest.split_at(ROW_SIZE.min(rest.len()));
+    let Halt {
+        expected,
+        way,
+        path: mut mark,
+        ..
+    } = halt;
+    mark.clear();
+    put_mark(stop, &expected, &mut mark)?;
+    let entry = Entry {
+        place: Some(place),
+        bytes: shown,
+        depth: 0,
+        name: &way,
+        color: DAMAGE_COLOR,
+        meaning: &mark,
+    };
+    put_entry(look, &entry, out)?;
+    put_left_out(left.len(), look.places.saturating_add(2), out)
+}
+
+fn put_mark((why, place): (Why, u64), expected: &[u8], out: &mut Vec<u8>) -> Result<(), AllocError> {
     out.extend_from_slice(b"! ")?;
     out.extend_from_slice(why.name().as_bytes())?;
     out.extend_from_slice(b" at ")?;
     put_decimal(u128::from(place), out)?;
     out.extend_from_slice(b", ")?;
-    out.extend_from_slice(&halt.expected)
+    out.extend_from_slice(expected)
 }
 
 // Appends a line with the number of bytes that aren't shown, if there are any.
-fn put_left_out(count: usize, out: &mut Vec<u8>) -> Result<(), AllocError> {
+fn put_left_out(count: usize, indent: usize, out: &mut Vec<u8>) -> Result<(), AllocError> {
     if count == 0 {
         return Ok(());
     }
-    put_blanks(PLACE_WIDTH, out)?;
+    put_blanks(indent, out)?;
     out.extend_from_slice(b"  ... ")?;
     put_quantity(count as u64, " byte more\n", " bytes more\n", out)
 }

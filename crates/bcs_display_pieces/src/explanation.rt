@@ -10,6 +10,7 @@ use crate::ending::{Ending, Why, put_stop};
 use crate::findings::Findings;
 use crate::halt::Halt;
 use crate::inside::{Inside, Output, put_walk};
+use crate::look::Look;
 use crate::named_texts::LEVELS;
 use crate::notes::notes_of;
 use crate::objects::put_end_object;
@@ -60,15 +61,38 @@ pub fn explain_text(
     ensures stopped { IfOk result (λ x. x.stop ≡ None → x.inner ≡ None) }
     ensures uncalled { IfOk result (λ x. IsPlain views.now → x.call ≡ None) }
 {
+    explain_in_columns(alloc, registry, format, limits, (style, 0), views, bytes)
+}
+
+/// The same. In the form `Ways`, if the width is at least 60, lines have at most so many columns, with the bytes of a
+/// piece in rows of 16, and each step of a field path on a line of its own.
+pub fn explain_in_columns(
+    alloc: Global,
+    registry: &Registry,
+    format: &Format,
+    limits: &Limits,
+    styled: (Style, u32),
+    views: &Views,
+    bytes: &[u8],
+) -> Result<Explanation, AllocError>
+    requires admitted { Admits registry.now (shape_of format.now) }
+    ensures plain { IfOk result (λ x. IsPlain views.now → EndsAt registry.now limits.now (shape_of format.now) bytes.now x.stop) }
+    ensures outer { IfOk result (λ x. x.inner ≡ None → EndsAt registry.now limits.now (shape_of format.now) bytes.now x.stop) }
+    ensures whole { IfOk result (λ x. IsPlain views.now → x.inner ≡ None) }
+    ensures stopped { IfOk result (λ x. x.stop ≡ None → x.inner ≡ None) }
+    ensures uncalled { IfOk result (λ x. IsPlain views.now → x.call ≡ None) }
+{
+    let (style, width) = styled;
+    let look = Look::of(style, width, bytes.len());
     let scene = Scene {
         registry,
         views,
-        style,
+        look,
     };
     let above = Above::input(alloc);
     let (walk, stop) = walk_value(alloc, scene, above, format, limits, bytes)?;
     if views.is_plain() {
-        return without_views(alloc, style, bytes, walk, stop);
+        return without_views(alloc, look, bytes, walk, stop);
     }
     with_views(alloc, scene, bytes, walk, stop)
 }
@@ -76,7 +100,7 @@ pub fn explain_text(
 // The explanation with only the pieces of the input.
 fn without_views(
     alloc: Global,
-    style: Style,
+    look: Look,
     bytes: &[u8],
     walk: Walk,
     stop: Option<Stop>,
@@ -91,7 +115,7 @@ fn without_views(
         halt,
         ..
     } = walk;
-    put_outcome(style, bytes, stop, end, halt, &mut text)?;
+    put_outcome(look, bytes, stop, end, halt, &mut text)?;
     Ok(Explanation {
         text,
         stop,
@@ -119,9 +143,9 @@ fn with_views(
     let end = walk.end;
     let halt = walk.halt.copy(alloc)?;
     match put_walk(alloc, scene, bytes, walk, LEVELS, &mut out)? {
-        Inside::Ended(ending) => ended(alloc, scene.style, bytes, ending, stop, out.text),
+        Inside::Ended(ending) => ended(alloc, scene.look, bytes, ending, stop, out.text),
         Inside::Whole(_) => {
-            put_outcome(scene.style, bytes, stop, end, halt, &mut out.text)?;
+            put_outcome(scene.look, bytes, stop, end, halt, &mut out.text)?;
             let notes = match stop {
                 None => notes_of(alloc, scene.views, &out.findings)?,
                 Some(_) => Vec::new(alloc),
@@ -140,7 +164,7 @@ fn with_views(
 // The explanation that ends before the whole input does. `stop` is that of the whole input.
 fn ended(
     alloc: Global,
-    style: Style,
+    look: Look,
     bytes: &[u8],
     ending: Ending,
     stop: Option<Stop>,
@@ -152,7 +176,7 @@ fn ended(
     let Ending { inner, end, halt } = ending;
     let inside = bytes.get(..inner.past as usize).unwrap_or(bytes);
     put_stop(
-        style,
+        look,
         (inner.why, inner.place),
         end,
         halt,
@@ -185,17 +209,17 @@ fn ended(
 
 // Appends the error line if there is a stop, or in JSON the object for the stop or the end.
 fn put_outcome(
-    style: Style,
+    look: Look,
     bytes: &[u8],
     stop: Option<Stop>,
     end: u64,
     halt: Halt,
     text: &mut Vec<u8>,
 ) -> Result<(), AllocError> {
-    match (stop, style.form) {
+    match (stop, look.style.form) {
         (Some(stop), _) => {
             let why = (Why::Stop(stop.reason), stop.place);
-            put_stop(style, why, end, halt, bytes, text)
+            put_stop(look, why, end, halt, bytes, text)
         }
         (None, Form::Json) => put_end_object(bytes.len(), text),
         (None, Form::Ways | Form::Paths | Form::Tree) => Ok(()),

@@ -11,7 +11,7 @@ use bcs_explain::{Meaning, Trail};
 use std::alloc::AllocError;
 
 /// The number of bytes per line.
-const ROW_SIZE: usize = 32;
+pub(crate) const ROW_SIZE: usize = 32;
 
 pub(crate) const PLACE_WIDTH: usize = 6;
 
@@ -48,7 +48,7 @@ pub(crate) fn put_first_row<'a>(
     out: &mut Vec<u8>,
 ) -> Result<&'a [u8], AllocError> {
     let (first, rest) = bytes.split_at(ROW_SIZE.min(bytes.len()));
-    put_spot(paint, place, out)?;
+    put_spot(paint, place, PLACE_WIDTH, out)?;
     let start = out.len();
     put_hex(first, out)?;
     end_column(start, DIGITS_WIDTH, out)?;
@@ -65,16 +65,22 @@ fn put_more_rows(
     for row in rest.chunks(ROW_SIZE) {
         // This never wraps: byte offsets are below 2^64.
         place = place.wrapping_add(ROW_SIZE as u64);
-        put_spot(paint, place, out)?;
+        put_spot(paint, place, PLACE_WIDTH, out)?;
         put_hex(row, out)?;
         out.push(b'\n')?;
     }
     Ok(())
 }
 
-fn put_spot(paint: Paint, place: u64, out: &mut Vec<u8>) -> Result<(), AllocError> {
+/// Appends the offset as a padded column.
+pub(crate) fn put_spot(
+    paint: Paint,
+    place: u64,
+    width: usize,
+    out: &mut Vec<u8>,
+) -> Result<(), AllocError> {
     start_color(paint, PLACE_COLOR, out)?;
-    put_place(place, PLACE_WIDTH, out)?;
+    put_place(place, width, out)?;
     end_color(paint, out)?;
     put_blanks(2, out)
 }
@@ -96,8 +102,8 @@ fn put_led(
     }
 }
 
-// Yellow for lengths, magenta for options and variants, green for everything else.
-fn color_of(meaning: Meaning<'_>) -> &'static str {
+/// Yellow for lengths, magenta for options and variants, green for everything else.
+pub(crate) fn color_of(meaning: Meaning<'_>) -> &'static str {
     match meaning {
         Meaning::Length(_, _) => "33",
         Meaning::Option(_) | Meaning::Variant(_, _) => "35",

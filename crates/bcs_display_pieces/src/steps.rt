@@ -12,6 +12,8 @@ use std::alloc::AllocError;
 #[derive(Clone, Copy)]
 enum Spelling {
     Names,
+    /// Names on lines of their own, except those that follow `?`.
+    Lines,
     Path,
 }
 
@@ -37,6 +39,19 @@ pub(crate) fn put_names(
 ) -> Result<(), AllocError> {
     out.extend_from_slice(&above.name)?;
     put_steps(Spelling::Names, trail, out)
+}
+
+/// Appends the way to a part: the names of the steps from the whole input down, on lines of their own, and `?` in front of the next.
+pub(crate) fn put_way(
+    above: &Above,
+    trail: &Trail<'_, '_, '_>,
+    out: &mut Vec<u8>,
+) -> Result<(), AllocError> {
+    out.extend_from_slice(&above.way)?;
+    if above.is_inside() && count_steps(trail) > 0 {
+        out.push(b'\n')?;
+    }
+    put_steps(Spelling::Lines, trail, out)
 }
 
 /// Appends the PATH argument for `bcs part`: `.` for the whole value, and `-` if no path leads there.
@@ -139,14 +154,27 @@ fn put_steps(
     let start = out.len();
     let mut rest = trail;
     while let Trail::Below(above, step) = rest {
-        if matches!(spelling, Spelling::Path) && out.len() > start {
-            out.push(b'/')?;
+        if out.len() > start {
+            put_separator(spelling, step, out)?;
         }
         put_step_back(spelling, step, out)?;
         rest = above;
     }
     turn_from(start, out);
     Ok(())
+}
+
+// Appends what is between this step and the next one.
+fn put_separator(
+    spelling: Spelling,
+    step: &Step<'_, '_>,
+    out: &mut Vec<u8>,
+) -> Result<(), AllocError> {
+    match (spelling, step) {
+        (Spelling::Path, _) => Ok(out.push(b'/')?),
+        (Spelling::Names, _) | (Spelling::Lines, Step::Inner | Step::Container(_)) => Ok(()),
+        (Spelling::Lines, _) => Ok(out.push(b'\n')?),
+    }
 }
 
 fn put_step_back(
@@ -156,7 +184,7 @@ fn put_step_back(
 ) -> Result<(), AllocError> {
     let start = out.len();
     match spelling {
-        Spelling::Names => put_name(step, out)?,
+        Spelling::Names | Spelling::Lines => put_name(step, out)?,
         Spelling::Path => put_word(step, out)?,
     }
     turn_from(start, out);

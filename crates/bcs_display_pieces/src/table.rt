@@ -8,12 +8,14 @@ use crate::findings::Finding;
 use crate::functions::Function;
 use crate::halt::Halt;
 use crate::lines::put_lines;
+use crate::meaning::put_meaning;
 use crate::objects::put_piece_object;
 use crate::open_list::OpenList;
+use crate::outline::{last_step, put_headings, put_piece};
 use crate::patterns::matches;
 use crate::piece::Piece;
 use crate::refused_call::RefusedList;
-use crate::steps::{count_containers, put_field_path};
+use crate::steps::{count_containers, put_field_path, put_way};
 use crate::views::CallView;
 use crate::walk::{Hole, Scene, Walk};
 use bcs_display_text::style::Form;
@@ -36,6 +38,8 @@ pub(crate) struct Table<'e> {
     /// The list of arguments that was found last for each source.
     lists: Vec<OpenList>,
     walk: Walk,
+    /// The way of the last piece.
+    way: Vec<u8>,
     /// Whether an allocation failed.
     has_lost: bool,
 }
@@ -54,6 +58,7 @@ impl<'e> Table<'e> {
             functions,
             findings,
         } = checked;
+        let way = above.way_before(alloc)?;
         let walk = Walk {
             text: Vec::new(alloc),
             holes: Vec::new(alloc),
@@ -72,6 +77,7 @@ impl<'e> Table<'e> {
             functions,
             lists: Vec::new(alloc),
             walk,
+            way,
             has_lost: false,
         })
     }
@@ -110,14 +116,36 @@ impl<'e> Table<'e> {
     }
 
     fn put(&mut self, piece: &Piece<'_>, trail: &Trail<'_, '_, '_>) -> Result<(), AllocError> {
+        self.walk.end = piece_end(piece);
+        let look = self.scene.look;
+        if look.is_folded() {
+            return self.put_folded(piece, trail);
+        }
         let text = &mut self.walk.text;
-        match self.scene.style.form {
-            Form::Json => put_piece_object(piece, &self.above, trail, text)?,
+        match look.style.form {
+            Form::Json => put_piece_object(piece, &self.above, trail, text),
             Form::Ways | Form::Paths | Form::Tree => {
-                put_lines(self.scene.style, piece, &self.above, trail, text)?;
+                put_lines(look.style, piece, &self.above, trail, text)
             }
         }
-        self.walk.end = piece_end(piece);
+    }
+
+    // The piece in the columns of a terminal.
+    fn put_folded(
+        &mut self,
+        piece: &Piece<'_>,
+        trail: &Trail<'_, '_, '_>,
+    ) -> Result<(), AllocError> {
+        let (alloc, look) = (self.alloc, self.scene.look);
+        let mut way = Vec::new(alloc);
+        put_way(&self.above, trail, &mut way)?;
+        let mut meaning = Vec::new(alloc);
+        put_meaning(trail, piece, &mut meaning)?;
+        let text = &mut self.walk.text;
+        put_headings(alloc, look, &self.way, &way, text)?;
+        let step = last_step(&self.way, &way);
+        put_piece(alloc, look, step, piece, &meaning, text)?;
+        self.way = way;
         Ok(())
     }
 

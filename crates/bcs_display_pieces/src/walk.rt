@@ -4,8 +4,8 @@ use crate::above::Above;
 use crate::ending::InnerStop;
 use crate::findings::Findings;
 use crate::halt::Halt;
+use crate::look::Look;
 use crate::views::Views;
-use bcs_display_text::style::Style;
 use bcs_registry::Registry;
 
 /// What all values of an explanation share.
@@ -13,7 +13,7 @@ use bcs_registry::Registry;
 pub(crate) struct Scene<'e> {
     pub registry: &'e Registry,
     pub views: &'e Views,
-    pub style: Style,
+    pub look: Look,
 }
 
 /// A byte string that is explained. Its pieces take the place of its own.

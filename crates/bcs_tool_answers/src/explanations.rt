@@ -12,7 +12,7 @@ use crate::stop_answers::answer_stop;
 use crate::validating::Asked;
 use bcs_decode::Stop;
 use bcs_display_candidates::put_only_candidate;
-use bcs_display_pieces::{Explanation, RefusedCall, RefusedView, Views, explain_text, put_notes};
+use bcs_display_pieces::{Explanation, RefusedCall, RefusedView, Views, explain_in_columns, put_notes};
 use bcs_display_refusal::Refusal;
 use bcs_display_text::style::Form;
 use bcs_tool_command_line::{Command, Work};
@@ -93,8 +93,9 @@ fn answer_pieces(
         format,
         ..
     } = asked;
-    let style = work.options.display.style();
-    let explained = explain_text(alloc, registry, format, &work.limits, style, views, bytes)?;
+    let display = work.options.display;
+    let look = (display.style(), display.width.unwrap_or(0));
+    let explained = explain_in_columns(alloc, registry, format, &work.limits, look, views, bytes)?;
     if explained.call.is_some() {
         return answer_refused_call(alloc, work, explained);
     }

@@ -69,7 +69,7 @@ of_lines = flag_option (codes "lines") ∷ text_option (codes "refusals") ∷ []
 -- how pieces are printed, what is looked into, and which containers have values that Move shows in another way
 abbrev pub of_pieces : List Rule
 of_pieces = flag_option (codes "paths") ∷ flag_option (codes "tree") ∷ flag_option (codes "json") ∷ text_option (codes "color") ∷ flag_option (codes "no-color")
-    ∷ repeated_option (codes "inside") ∷ repeated_option (codes "call") ∷ repeated_option (codes "address") ∷ repeated_option (codes "u256") ∷ repeated_option (codes "i256") ∷ []
+    ∷ number_option (codes "width") 1000 ∷ repeated_option (codes "inside") ∷ repeated_option (codes "call") ∷ repeated_option (codes "address") ∷ repeated_option (codes "u256") ∷ repeated_option (codes "i256") ∷ []
 
 -- ---- options that don't go together
 

@@ -1,6 +1,6 @@
 //! The options of output that people read.
 
-use crate::arguments::is_set;
+use crate::arguments::{has_value, is_set};
 use crate::color::Color;
 use crate::value_form::ValueForm;
 use bcs_display_text::style::{Form, Paint, Style};
@@ -15,6 +15,8 @@ pub struct Display {
     pub form: Form,
     /// `--color`, `--no-color`: whether pieces are printed in color. `--no-color` overrides `--color`.
     pub color: Color,
+    /// `--width`: the columns that the lines of pieces have to fit into, if it was decided. Below 60, they don't have to.
+    pub width: Option<u32>,
     /// `--full`: an example has one element in each list, map and option.
     pub full: bool,
     /// `--a`, `--b`: how A and B are written.
@@ -28,6 +30,7 @@ impl Display {
         Display {
             form: Form::Ways,
             color: Color::Auto,
+            width: None,
             full: false,
             a: ValueForm::Json,
             b: ValueForm::Json,
@@ -39,6 +42,7 @@ impl Display {
         Display {
             form: form_of(given),
             color: color_of(given),
+            width: width_of(given),
             full: is_set(given, "full"),
             a: ValueForm::given(given.get_str("a")),
             b: ValueForm::given(given.get_str("b")),
@@ -78,5 +82,19 @@ fn color_of(given: &ArgMatches<'_>) -> Color {
             Some("never") => Color::Never,
             _ => Color::Auto,
         }
+    }
+}
+
+// What isn't for a terminal has no usual width. With `--lines`, there is none.
+fn width_of(given: &ArgMatches<'_>) -> Option<u32> {
+    let usual = if has_value(given, "output") {
+        Some(0)
+    } else {
+        None
+    };
+    if is_set(given, "lines") {
+        Some(0)
+    } else {
+        given.get_one("width").or(usual)
     }
 }

@@ -11,6 +11,7 @@ mod fault_places;
 mod file_cause;
 mod file_fault;
 mod file_refusal;
+mod help_lines;
 mod job;
 mod job_options;
 pub mod limits;

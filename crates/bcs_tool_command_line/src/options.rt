@@ -449,7 +449,8 @@ Status: 0 done, 2 refused, 3 usage, 4 file or memory",
             about: "Checks whether a registry only adds to an older one",
             examples: "Example:
   bcs grows '{}' '{\"Id\":{\"NEWTYPESTRUCT\":\"U64\"}}'  # grows
-  bcs grows --list '{}' '{\"Id\":\"UNITSTRUCT\"}' | xargs  # Id: container added grows
+  bcs grows --list '{}' '{\"Id\":\"UNITSTRUCT\"}' | xargs
+    # Id: container added grows
 
 Status: 0 grows, 2 refused, 3 usage, 4 file or memory",
             words: &[OLD, NEW, LIST, QUIET, Word::Output],
@@ -459,8 +460,10 @@ Status: 0 grows, 2 refused, 3 usage, 4 file or memory",
             alias: None,
             about: "Prints a registry in readable form, or one container with everything it depends on",
             examples: "Example:
-  bcs show '{\"Id\":{\"NEWTYPESTRUCT\":\"U64\"}}' | xargs  # Id: NEWTYPESTRUCT, 8 bytes, used by no other U64
-  bcs show --json '{ \"Id\": {\"NEWTYPESTRUCT\": \"U64\"} }'  # {\"Id\":{\"NEWTYPESTRUCT\":\"U64\"}}
+  bcs show '{\"Id\":{\"NEWTYPESTRUCT\":\"U64\"}}' | xargs
+    # Id: NEWTYPESTRUCT, 8 bytes, used by no other U64
+  bcs show --json '{ \"Id\": {\"NEWTYPESTRUCT\": \"U64\"} }'
+    # {\"Id\":{\"NEWTYPESTRUCT\":\"U64\"}}
 
 Status: 0 done, 2 refused, 3 usage, 4 file or memory",
             words: &[REGISTRY, CONTAINER, REGISTRY_JSON, QUIET, Word::Output],
@@ -470,8 +473,10 @@ Status: 0 done, 2 refused, 3 usage, 4 file or memory",
             alias: None,
             about: "Prints the JSON of a value of a format, as a template to fill in",
             examples: "Example:
-  bcs example '{\"E\":{\"ENUM\":{\"0\":{\"A\":\"UNIT\"},\"1\":{\"B\":{\"NEWTYPE\":\"U8\"}}}}}' E --variant B  # {\"B\":0}
-  bcs example '{\"S\":{\"STRUCT\":[{\"a\":{\"OPTION\":\"U8\"}},{\"b\":{\"SEQ\":\"BOOL\"}}]}}' S --full  # {\"a\":{\"some\":0},\"b\":[false]}
+  bcs example '{\"E\":{\"ENUM\":{\"0\":{\"A\":\"UNIT\"},\"1\":{\"B\":{\"NEWTYPE\":\"U8\"}}}}}' E \\
+    --variant B  # {\"B\":0}
+  bcs example '{\"S\":{\"STRUCT\":[{\"a\":{\"OPTION\":\"U8\"}},{\"b\":{\"SEQ\":\"BOOL\"}}]}}' \\
+    S --full  # {\"a\":{\"some\":0},\"b\":[false]}
 
 Status: 0 done, 2 refused, 3 usage, 4 file or memory",
             words: &[
@@ -501,8 +506,12 @@ Status: 0 done, 2 refused, 3 usage, 4 file or memory",
             alias: None,
             about: "Prints the registry for types of a Move chain, from its modules",
             examples: "Example:
-  bcs from-move '[]' '0x1::option::Option<u64>'  # {\"0x1::option::Option<u64>\":{\"NEWTYPESTRUCT\":{\"OPTION\":\"U64\"}}}
-  bcs from-move '{\"address\":\"0x1\",\"name\":\"m\",\"structs\":[],\"exposed_functions\":[{\"name\":\"f\",\"generic_type_params\":[],\"params\":[\"u8\"]}]}' 0x1::m::f  # {\"0x1::m::f\":{\"STRUCT\":[{\"arg0\":\"U8\"}]},\"0x1::m::f::arg0\":{\"NEWTYPESTRUCT\":\"U8\"}}
+  bcs from-move '[]' '0x1::option::Option<u64>'
+    # {\"0x1::option::Option<u64>\":{\"NEWTYPESTRUCT\":{\"OPTION\":\"U64\"}}}
+  bcs from-move '{\"address\":\"0x1\",\"name\":\"m\",\"structs\":[],
+    \"exposed_functions\":[{\"name\":\"f\",\"generic_type_params\":[],
+    \"params\":[\"u8\"]}]}' 0x1::m::f | cut -c-40
+    # {\"0x1::m::f\":{\"STRUCT\":[{\"arg0\":\"U8\"}]},
 
 Status: 0 done, 2 refused, 3 usage, 4 file or memory",
             words: &[MODULES, TYPE, QUIET, Word::Output],
@@ -513,7 +522,8 @@ Status: 0 done, 2 refused, 3 usage, 4 file or memory",
             about: "Prints the bytes of a value's JSON",
             examples: "Example:
   echo -4660 | bcs encode '{}' '\"I16\"'  # cced
-  echo '[7,[true,false]]' | bcs encode '{}' '{\"TUPLE\":[\"U16\",{\"SEQ\":\"BOOL\"}]}'  # 0700020100
+  echo '[7,[true,false]]' |
+    bcs encode '{}' '{\"TUPLE\":[\"U16\",{\"SEQ\":\"BOOL\"}]}'  # 0700020100
 
 Status: 0 done, 2 refused, 3 usage, 4 file or memory",
             words: &[
@@ -559,7 +569,8 @@ Status: 0 done, 2 refused, 3 usage, 4 file or memory",
             about: "Prints a value's bytes piece by piece: offset, bytes, meaning and name of each piece",
             examples: "Example:
   echo cced | bcs explain '{}' '\"I16\"' | xargs  # 0 cced I16 -4660 .
-  echo 0107 | bcs explain '{}' '{\"OPTION\":\"U8\"}' --paths | xargs  # 0 01 OPTION present . . 1 07 U8 7 ? inner
+  echo 0107 | bcs explain '{}' '{\"OPTION\":\"U8\"}' --paths | xargs
+    # 0 01 OPTION present . . 1 07 U8 7 ? inner
 
 Status: 0 done, 2 refused, 3 usage, 4 file or memory",
             words: &[
@@ -579,6 +590,7 @@ Status: 0 done, 2 refused, 3 usage, 4 file or memory",
                 JSON,
                 COLOR,
                 NO_COLOR,
+                Word::Width,
                 INSIDE,
                 CALL,
                 ADDRESS,
@@ -592,7 +604,9 @@ Status: 0 done, 2 refused, 3 usage, 4 file or memory",
             about: "Prints the JSON of a value in its one normal form",
             examples: "Example:
   echo '\"-4660\"' | bcs normalise '{}' '\"I16\"'  # -4660
-  echo '{\"b\":true,\"a\":\"7\"}' | bcs normalize '{\"S\":{\"STRUCT\":[{\"a\":\"U8\"},{\"b\":\"BOOL\"}]}}' S  # {\"a\":7,\"b\":true}
+  echo '{\"b\":true,\"a\":\"7\"}' |
+    bcs normalize '{\"S\":{\"STRUCT\":[{\"a\":\"U8\"},{\"b\":\"BOOL\"}]}}' S
+    # {\"a\":7,\"b\":true}
 
 Status: 0 done, 2 refused, 3 usage, 4 file or memory",
             words: &[
@@ -618,7 +632,8 @@ Status: 0 done, 2 refused, 3 usage, 4 file or memory",
 To see where two values differ, use bcs diff.
 
 To compare two files line by line:
-  diff <(bcs normalise --lines REG FORMAT A) <(bcs normalise --lines REG FORMAT B)
+  diff <(bcs normalise --lines REG FORMAT A) \\
+    <(bcs normalise --lines REG FORMAT B)
 
 Status: 0 equal, 1 different, 2 refused, 3 usage, 4 file or memory",
             words: &[
@@ -637,7 +652,8 @@ Status: 0 equal, 1 different, 2 refused, 3 usage, 4 file or memory",
             alias: None,
             about: "Prints where two values differ",
             examples: "Example:
-  echo 7 > a.json; echo 8 | bcs diff '{}' '\"U8\"' a.json | xargs  # ., at 0: U8 7 -> U8 8 different
+  echo 7 > a.json; echo 8 | bcs diff '{}' '\"U8\"' a.json | xargs
+    # ., at 0: U8 7 -> U8 8 different
   echo 7 > a.json; echo 07 | bcs diff --b hex '{}' '\"U8\"' a.json  # equal
 
 Status: 0 equal, 1 different, 2 refused, 3 usage, 4 file or memory",
@@ -660,8 +676,10 @@ Status: 0 equal, 1 different, 2 refused, 3 usage, 4 file or memory",
             alias: None,
             about: "Prints the bytes of a part of a value, from the value's bytes",
             examples: "Example:
-  echo 02000100010001 | bcs part '{}' '{\"MAP\":{\"KEY\":\"U16\",\"VALUE\":\"BOOL\"}}' key:0100  # 01
-  echo 0708 | bcs part '{\"S\":{\"STRUCT\":[{\"a\":\"U8\"},{\"b\":\"U8\"}]}}' S --name .b  # 08
+  echo 02000100010001 |
+    bcs part '{}' '{\"MAP\":{\"KEY\":\"U16\",\"VALUE\":\"BOOL\"}}' key:0100  # 01
+  echo 0708 |
+    bcs part '{\"S\":{\"STRUCT\":[{\"a\":\"U8\"},{\"b\":\"U8\"}]}}' S --name .b  # 08
 
 Status: 0 done, 1 none, 2 refused, 3 usage, 4 file or memory",
             words: &[
@@ -689,7 +707,8 @@ Status: 0 done, 1 none, 2 refused, 3 usage, 4 file or memory",
             about: "Checks the bytes of a value, and prints their number",
             examples: "Example:
   echo cced | bcs scan '{}' '\"I16\"'  # ok 2
-  printf 'cced\\ncc' | bcs scan '{}' '\"I16\"' --lines --quiet | xargs  # ok 2 refused: EndOfInput at 1
+  printf 'cced\\ncc' | bcs scan '{}' '\"I16\"' --lines --quiet | xargs
+    # ok 2 refused: EndOfInput at 1
 
 Status: 0 done, 2 refused, 3 usage, 4 file or memory",
             words: &[
@@ -712,8 +731,10 @@ Status: 0 done, 2 refused, 3 usage, 4 file or memory",
             alias: None,
             about: "Prints the containers that the bytes are exactly one value of, the likeliest first",
             examples: "Example:
-  echo 0161 | bcs which '{\"Id\":{\"NEWTYPESTRUCT\":\"U64\"},\"Name\":{\"NEWTYPESTRUCT\":\"STR\"}}'  # Name
-  echo 0161 | bcs which --list '{\"Name\":{\"NEWTYPESTRUCT\":\"STR\"}}'  # Name: 2 pieces, 2 of 2 bytes checked
+  echo 0161 | bcs which '{\"Id\":{\"NEWTYPESTRUCT\":\"U64\"},
+    \"Name\":{\"NEWTYPESTRUCT\":\"STR\"}}'  # Name
+  echo 0161 | bcs which --list '{\"Name\":{\"NEWTYPESTRUCT\":\"STR\"}}'
+    # Name: 2 pieces, 2 of 2 bytes checked
 
 Status: 0 done, 1 none, 2 refused, 3 usage, 4 file or memory",
             words: &[

@@ -1,5 +1,6 @@
 //! Better tips than those of clap.
 
+use crate::help_lines::folded_help;
 use clap::Error;
 use clap::error::ErrorKind;
 use std::alloc::{AllocError, Global};
@@ -14,9 +15,12 @@ const PASS: &str = "to pass ";
 const MORE: &str = "For more information, try '--help'.\n";
 
 /// clap's text about an error, with another tip where clap's own one doesn't help: it advises to pass an unknown option as an
-/// argument, or `--help` for `--hex`.
+/// argument, or `--help` for `--hex`. Help is folded.
 pub fn usage_text(alloc: Global, error: &Error) -> Result<String, AllocError> {
     let text = error.to_string(alloc)?;
+    if error.kind() == ErrorKind::DisplayHelp {
+        return folded_help(alloc, text.as_str());
+    }
     match with_tip(alloc, error.kind(), text.as_str())? {
         Some(better) => Ok(better),
         None => Ok(text),

@@ -7,7 +7,7 @@ use crate::texts;
 use clap::{Arg, ArgAction, value_parser};
 use std::alloc::Global;
 
-/// An argument: its name, and its help at the end. The last three are the same for every command.
+/// An argument: its name, and its help at the end. The last four are the same for every command.
 #[derive(Clone, Copy)]
 pub enum Word<'a> {
     /// A required argument, identified by its position.
@@ -28,6 +28,8 @@ pub enum Word<'a> {
     Depth,
     /// `--nodes`: the number of nodes that a value may have.
     Nodes,
+    /// `--width`: the columns that lines have to fit into.
+    Width,
 }
 
 impl<'a> Word<'a> {
@@ -72,6 +74,11 @@ impl<'a> Word<'a> {
                 .value_name("N")
                 .value_parser(value_parser!(u32))
                 .help(texts::NODES),
+            Word::Width => Arg::new(alloc, "width")
+                .long("width")
+                .value_name("N")
+                .value_parser(value_parser!(u32).range(..=1000))
+                .help(texts::WIDTH),
         }
     }
 }

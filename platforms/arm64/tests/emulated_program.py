@@ -66,7 +66,7 @@ def test_program(bench: Bench) -> None:
     ask_rows(bench)
     program = Program(bench, bench.room / "number")
     program.number.write_text("-4660\n", encoding="utf-8")
-    for test in "host_streams", "file_rights":
+    for test in "host_streams", "file_rights", "progress":
         passed(f"the program: {run(test, words(ROOT / f'tests/{test}.py', *program.command())).strip()}")
     streams(program)
     terminal(program)

@@ -20,10 +20,10 @@ OWN = {"fchmod", "getentropy", "open", "read", "statx", "write"}
 # What the programs need of the C library in place of these, and of rattle_... The last line is for the heap and the
 # stack.
 OF_BOTH = """
-    __errno_location __libc_start_main getenv syscall
+    __errno_location __libc_start_main syscall
     free getrlimit madvise malloc mmap mprotect realloc
 """
-PROGRAM_NEEDS = {"x86_64-linux": f"{OF_BOTH} __write environ", "aarch64-linux": f"{OF_BOTH} strlen"}
+PROGRAM_NEEDS = {"x86_64-linux": f"{OF_BOTH} environ", "aarch64-linux": f"{OF_BOTH} strlen"}
 # Compilers call these on memory as they like.
 ON_MEMORY = {"memcpy", "memmove", "memset"}
 
