@@ -510,8 +510,8 @@ Status: 0 done, 2 refused, 3 usage, 4 file or memory",
     # {\"0x1::option::Option<u64>\":{\"NEWTYPESTRUCT\":{\"OPTION\":\"U64\"}}}
   bcs from-move '{\"address\":\"0x1\",\"name\":\"m\",\"structs\":[],
     \"exposed_functions\":[{\"name\":\"f\",\"generic_type_params\":[],
-    \"params\":[\"u8\"]}]}' 0x1::m::f | cut -c-40
-    # {\"0x1::m::f\":{\"STRUCT\":[{\"arg0\":\"U8\"}]},
+    \"params\":[\"u8\"]}]}' 0x1::m::f | cut -c41-
+    # \"0x1::m::f::arg0\":{\"NEWTYPESTRUCT\":\"U8\"}}
 
 Status: 0 done, 2 refused, 3 usage, 4 file or memory",
             words: &[MODULES, TYPE, QUIET, Word::Output],
