@@ -50,13 +50,21 @@ TABLES = {
     21  61c3a9                "a\u00e9"
     24  07                  .n  U8 7
 """,
-    ("{}", '{"TUPLE":["STR","BOOL"]}', "02615f02"): """
+    (
+        "{}",
+        '{"TUPLE":["STR","BOOL"]}',
+        "02615f02",
+    ): """
      0  02                [0]  STR, 2 bytes
      1  615f                "a_"
      3  02                [1]  ! BadBool at 3, BOOL
 refused: BadBool at 3
 """,
-    ("{}", '{"TUPLE":[{"OPTION":{"OPTION":"U8"}},{"SEQ":{"TUPLE":["U8","U8"]}}]}', "01010701080900"): """
+    (
+        "{}",
+        '{"TUPLE":[{"OPTION":{"OPTION":"U8"}},{"SEQ":{"TUPLE":["U8","U8"]}}]}',
+        "01010701080900",
+    ): """
      0  01                [0]  OPTION present
      1  01                  ?  OPTION present
      2  07                  ??  U8 7
@@ -164,7 +172,9 @@ def check_terminals(command: list[str]) -> None:
             fail(f"no colours on a terminal of {columns} columns")
         check("a dumb terminal", on_terminal(command, columns, *words, TERM="dumb"), table)
         check("NO_COLOR", on_terminal(command, columns, *words, NO_COLOR="1"), table)
-    check("COLUMNS", on_terminal(command, 80, *words, COLUMNS="100", NO_COLOR="1"), run(command, *words, "--width", "100"))
+    check(
+        "COLUMNS", on_terminal(command, 80, *words, COLUMNS="100", NO_COLOR="1"), run(command, *words, "--width", "100")
+    )
     for columns in 0, 59:
         check(f"{columns} columns", on_terminal(command, columns, *words, NO_COLOR="1"), plain)
     check("--width 0 on a terminal", on_terminal(command, 80, *words, "--width", "0", NO_COLOR="1"), plain)
