@@ -144,7 +144,7 @@ class Command(unittest.TestCase):
         program = [sys.executable, "-m", "bcs_proved.registries", str(EXAMPLES / "aptos_registry.yaml")]
         told = subprocess.run(program, capture_output=True, text=True, check=True)
         self.assertEqual(json.loads(told.stdout), whole)
-        self.assertIn("numbers of variants that became strings: 29, first in line 10", told.stderr)
+        self.assertIn("numbers of variants that became strings: 52, first in line 10", told.stderr)
 
     def test_proved_check(self) -> None:
         out = self.room / "out.json"
