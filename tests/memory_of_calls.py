@@ -5,9 +5,8 @@
 REFUSER is the library that is built from tests/refuse.c, and CRATE the program's name. For the rows of each paragraph,
 every request for memory is refused in turn, one per run. Then one row answers "out of memory", and all others give
 their usual answers; or the program ends before a row, since it found no room for its own words. If the request was only
-a hint, nothing is missing, and the run is repeated with the next ones refused too. A group of rows has at most one such
-request, or the number in its line `# hints: N`. Where a request within a JSON document is refused, the reader of tokens
-gives up, and the reader of trees begins with a hint of its own: so the next two are refused.
+a hint, nothing is missing, and the run is repeated with the next request refused too. A group of rows has at most one
+such request, or the number in its line `# hints: N`.
 """
 
 import os
@@ -40,8 +39,6 @@ RANGES = 5000
 
 # How many requests of a group may be hints, where it doesn't say.
 HINTS = 1
-# How many requests behind a hint are refused, too.
-NEXT = 2
 
 
 class Group(NamedTuple):
@@ -139,7 +136,7 @@ def swept(tested: Tested, group: Group) -> Counter[str]:
         how = judged(rows, unset, run)
         counts[how] += 1
         if how == "whole":
-            again.append(f"{number}-{number + NEXT}")
+            again.append(f"{number}-{number + 1}")
     if counts["whole"] > group.hints:
         most = f"at most {group.hints} may"
         raise Failed(f"{counts['whole']} runs answer though a request was refused, and {most}: {rows[0][:300]}")

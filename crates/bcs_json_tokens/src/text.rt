@@ -39,6 +39,9 @@ pub fn value_of_text(
         NESTING_LIMIT as usize,
         &mut reader,
     );
+    if let Err(GivenUp::OutOfMemory) = outcome {
+        return Err(GivenUp::OutOfMemory);
+    }
     if reader.next().is_some() {
         return Err(GivenUp::Unusual);
     }
