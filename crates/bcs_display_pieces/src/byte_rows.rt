@@ -7,7 +7,9 @@ use std::alloc::AllocError;
 
 /// The most bytes of a row in this many columns and more.
 const LONG: usize = 32;
+
 const USUAL: usize = 16;
+
 const SHORT: usize = 8;
 
 /// The bytes of a group.
@@ -60,7 +62,10 @@ fn row_size(look: Look) -> usize {
 fn fits(look: Look, size: usize) -> bool {
     let before = look.places.saturating_add(GAP);
     let after = size.saturating_add(2);
-    before.saturating_add(digits_width(size)).saturating_add(after) <= look.width
+    before
+        .saturating_add(digits_width(size))
+        .saturating_add(after)
+        <= look.width
 }
 
 // The columns of the digits: two for each byte, and one between groups.
@@ -72,7 +77,8 @@ fn digits_width(size: usize) -> usize {
 fn put_row(row: &[u8], width: usize, out: &mut Vec<u8>) -> Result<(), AllocError> {
     put_groups(row, width, out)?;
     for byte in row {
-        out.push(if matches!(*byte, b' '..=b'~') { *byte } else { b'.' })?;
+        let is_printable = matches!(*byte, b' '..=b'~');
+        out.push(if is_printable { *byte } else { b'.' })?;
     }
     Ok(out.push(b'\n')?)
 }

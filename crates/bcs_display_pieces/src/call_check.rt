@@ -5,19 +5,24 @@ ghost use Rattle.bcs_registry_model.specs.View.{shape_of};
 ghost use Rattle.bcs_registry_model.specs.WellFormed.{Admits};
 
 use crate::above::Above;
-use crate::elements::has_byte_strings;
+use crate::commands::is_command;
+use crate::elements::{element_at, is_byte_string};
 use crate::findings::Findings;
 use crate::functions::Function;
+use crate::input_types::InputTypes;
+use crate::inputs::Inputs;
+use crate::program::Program;
 use crate::refused_call::{CallFault, RefusedList};
 use crate::steps::put_field_path;
 use crate::stopping::stop_of;
+use crate::views::CallView;
 use crate::walk::Scene;
 use crate::watch::Watch;
 use bcs_explain::{Counted, Expected, Listener, Meaning, Trail};
 use bcs_registry::{Format, Registry};
 use bcs_value::Limits;
 use std::alloc::{AllocError, Global};
-use std::collections::BTreeMap;
+use std::collections::{BTreeMap, BTreeSet};
 
 /// What was found out about the calls in a value.
 #[derive(Drop)]
@@ -26,6 +31,10 @@ pub(crate) struct Checked {
     pub refused: Option<RefusedList>,
     /// The functions that are called, by the places of the lists, where the views name none.
     pub functions: BTreeMap<u64, Function>,
+    /// The places of lists of commands.
+    pub programs: BTreeSet<u64>,
+    /// What the inputs of commands are.
+    pub inputs: InputTypes,
     pub findings: Findings,
 }
 
@@ -57,6 +66,8 @@ pub(crate) fn check_calls(
     let checked = Checked {
         refused: None,
         functions: BTreeMap::new(alloc),
+        programs: BTreeSet::new(alloc),
+        inputs: InputTypes::new(alloc),
         findings: Findings::new(alloc, scene.views)?,
     };
     if scene.views.calls().is_empty() {
@@ -72,6 +83,8 @@ pub(crate) fn check_calls(
         above,
         format,
         watches,
+        programs: Vec::new(alloc),
+        inputs: Inputs::new(alloc, scene.registry),
         checked,
         has_lost: false,
     };
@@ -87,16 +100,21 @@ struct CallCheck<'e> {
     above: &'e Above,
     format: &'e Format,
     watches: Vec<Watch<'e>>,
+    /// The list of commands that was found last for each source.
+    programs: Vec<Program<'e>>,
+    inputs: Inputs<'e>,
     checked: Checked,
     /// Whether an allocation failed.
     has_lost: bool,
 }
 
-impl CallCheck<'_> {
+impl<'e> CallCheck<'e> {
     fn finish(self) -> Result<Checked, AllocError> {
         let CallCheck {
             alloc,
             mut watches,
+            mut programs,
+            mut inputs,
             mut checked,
             has_lost,
             ..
@@ -104,6 +122,12 @@ impl CallCheck<'_> {
         for watch in watches.iter_mut() {
             watch.leave(alloc, &mut checked)?;
         }
+        for program in programs.iter_mut() {
+            program.end(alloc, &mut inputs)?;
+        }
+        let Inputs { types, remarks, .. } = inputs;
+        checked.inputs = types;
+        checked.findings.remarks = remarks;
         if has_lost {
             Err(AllocError)
         } else {
@@ -123,6 +147,9 @@ impl CallCheck<'_> {
         for watch in self.watches.iter_mut() {
             watch.hear(self.alloc, &name, meaning, bytes, &mut self.checked)?;
         }
+        for program in self.programs.iter_mut() {
+            program.hear(self.alloc, &name, meaning, bytes, &mut self.inputs)?;
+        }
         match meaning {
             Meaning::Length(Counted::List | Counted::Octets, _) => self.add_list(
                 place, trail, &name,
@@ -131,7 +158,7 @@ impl CallCheck<'_> {
         }
     }
 
-    // A list, which may have the arguments of a function.
+    // A list, which may have the arguments of a function, or commands.
     fn add_list(
         &mut self,
         place: u64,
@@ -142,16 +169,46 @@ impl CallCheck<'_> {
             return Ok(());
         };
         let place = self.above.place(place);
-        if !has_byte_strings(self.alloc, self.scene.registry, self.format, trail)? {
-            let expected = Vec::from_slice(self.alloc, b"a list of byte strings")?;
-            self.checked.refuse(place, CallFault::BadPath, expected);
-            return Ok(());
+        let registry = self.scene.registry;
+        let element = element_at(self.alloc, registry, self.format, trail)?;
+        match element {
+            Some(element) if is_byte_string(registry, element) => {
+                self.add_arguments(place, call);
+                Ok(())
+            }
+            Some(element) if is_command(registry, element) => self.add_program(place, name, call),
+            _ => {
+                let expected = Vec::from_slice(self.alloc, b"a list of byte strings")?;
+                self.checked.refuse(place, CallFault::BadPath, expected);
+                Ok(())
+            }
         }
+    }
+
+    fn add_arguments(&mut self, place: u64, call: &CallView) {
         for watch in self.watches.iter_mut() {
             if watch.source() == call.source {
                 watch.found(place, &mut self.checked);
             }
         }
+    }
+
+    // A list of commands. That which was found before has ended.
+    fn add_program(
+        &mut self,
+        place: u64,
+        name: &[u8],
+        call: &'e CallView,
+    ) -> Result<(), AllocError> {
+        for program in self.programs.iter_mut() {
+            if program.source() == call.source {
+                program.end(self.alloc, &mut self.inputs)?;
+            }
+        }
+        self.programs
+            .retain(|program| program.source() != call.source);
+        self.programs.push(Program::new(self.alloc, call, name)?)?;
+        self.checked.programs.insert(place)?;
         Ok(())
     }
 }
@@ -167,7 +224,9 @@ impl Listener for CallCheck<'_> {
         meaning: Meaning<'_>,
         _: u32,
     ) {
-        if self.has_lost || matches!(meaning, Meaning::Unsigned(_)) {
+        // (outside commands no number counts)
+        let is_number = matches!(meaning, Meaning::Unsigned(_));
+        if self.has_lost || (is_number && self.programs.is_empty()) {
             return;
         }
         if let Err(AllocError) = self.add(place, bytes, trail, meaning) {

@@ -12,18 +12,36 @@ use std::collections::BTreeMap;
 /// one is never FUNCTION.
 const SPARE: usize = 256;
 
-const ADDRESS: &[u8] = b".module.address";
+/// The names of the members that name a function.
+#[derive(Clone, Copy)]
+pub(crate) struct Members {
+    address: &'static [u8],
+    module: &'static [u8],
+    function: &'static [u8],
+    types: &'static [u8],
+}
 
-const MODULE: &[u8] = b".module.name";
+/// Those beside a list of arguments.
+pub(crate) const ENTRY: Members = Members {
+    address: b".module.address",
+    module: b".module.name",
+    function: b".function",
+    types: b".ty_args",
+};
 
-const FUNCTION: &[u8] = b".function";
-
-const TYPES: &[u8] = b".ty_args";
+/// Those of a command.
+pub(crate) const COMMAND: Members = Members {
+    address: b".package",
+    module: b".module",
+    function: b".function",
+    types: b".type_arguments",
+};
 
 /// What names the function: the members of a struct, by their names in it.
 #[derive(Drop)]
 pub(crate) struct Callee {
     members: BTreeMap<Vec<u8>, Content>,
+    names: Members,
     /// How many members are read, and characters of each.
     limit: usize,
 }
@@ -40,9 +58,10 @@ pub(crate) enum Content {
 
 impl Callee {
     /// Nothing is known yet of the function, whose name has at most `len` bytes, unless it is another one.
-    pub(crate) fn new(alloc: Global, len: usize) -> Callee {
+    pub(crate) fn new(alloc: Global, names: Members, len: usize) -> Callee {
         Callee {
             members: BTreeMap::new(alloc),
+            names,
             limit: len.saturating_add(SPARE),
         }
     }
@@ -55,7 +74,7 @@ impl Callee {
         meaning: Meaning<'_>,
         bytes: &[u8],
     ) -> Result<(), AllocError> {
-        if !is_of_head(name) && (self.is_large() || !name.starts_with(TYPES)) {
+        if !self.names.has_head(name) && (self.is_large() || !name.starts_with(self.names.types)) {
             return Ok(());
         }
         if let Some(content) = content_of(alloc, meaning, bytes, self.limit)? {
@@ -78,7 +97,13 @@ impl Callee {
     /// The function's name, as `from-move` spells it. `None`: a member is missing, or has another format.
     pub(crate) fn name(&self, alloc: Global) -> Result<Option<Vec<u8>>, AllocError> {
         let mut name = Vec::new(alloc);
-        let is_named = self.put_named(ADDRESS, MODULE, FUNCTION, &mut name)?;
+        let Members {
+            address,
+            module,
+            function,
+            types,
+        } = self.names;
+        let is_named = self.put_named(address, module, function, &mut name)?;
         if !is_named {
             return Ok(None);
         }
@@ -86,7 +111,7 @@ impl Callee {
             name.extend_from_slice(b"<...>")?;
             return Ok(Some(name));
         }
-        let has_types = put_types(alloc, self, TYPES, &mut name)?;
+        let has_types = put_types(alloc, self, types, &mut name)?;
         Ok(if has_types { Some(name) } else { None })
     }
 
@@ -120,8 +145,10 @@ impl Callee {
     }
 }
 
-fn is_of_head(name: &[u8]) -> bool {
-    name == ADDRESS || name == MODULE || name == FUNCTION
+impl Members {
+    fn has_head(self, name: &[u8]) -> bool {
+        name == self.address || name == self.module || name == self.function
+    }
 }
 
 fn content_of(

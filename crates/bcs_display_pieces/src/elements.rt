@@ -19,13 +19,13 @@ enum Spot<'r> {
     Nothing,
 }
 
-/// Whether the trail leads to a list of byte strings, in a value of the format.
-pub(crate) fn has_byte_strings(
+/// The format of the elements, if the trail leads to a list, in a value of the format.
+pub(crate) fn element_at<'r>(
     alloc: Global,
-    registry: &Registry,
-    format: &Format,
+    registry: &'r Registry,
+    format: &'r Format,
     trail: &Trail<'_, '_, '_>,
-) -> Result<bool, AllocError> {
+) -> Result<Option<&'r Format>, AllocError> {
     let mut steps = Vec::new(alloc);
     let mut rest = trail;
     while let Trail::Below(above, step) = rest {
@@ -37,13 +37,16 @@ pub(crate) fn has_byte_strings(
         spot = spot_after(registry, spot, step);
     }
     Ok(match spot {
-        Spot::Value(Format::Seq(element)) => is_byte_string(registry, element),
-        _ => false,
+        Spot::Value(format) => match format.kind() {
+            Kind::Seq(element) => Some(element),
+            _ => None,
+        },
+        _ => None,
     })
 }
 
-// Whether it is a byte string, also in newtypes.
-fn is_byte_string(registry: &Registry, format: &Format) -> bool {
+/// Whether it is a byte string, also in newtypes.
+pub(crate) fn is_byte_string(registry: &Registry, format: &Format) -> bool {
     let mut format = format;
     for _ in 0..NEWTYPES {
         match format.kind() {

@@ -68,7 +68,11 @@ pub(crate) fn put_folded_error(
     put_left_out(left.len(), look.places.saturating_add(2), out)
 }
 
-fn put_mark((why, place): (Why, u64), expected: &[u8], out: &mut Vec<u8>) -> Result<(), AllocError> {
+fn put_mark(
+    (why, place): (Why, u64),
+    expected: &[u8],
+    out: &mut Vec<u8>,
+) -> Result<(), AllocError> {
     out.extend_from_slice(b"! ")?;
     out.extend_from_slice(why.name().as_bytes())?;
     out.extend_from_slice(b" at ")?;

@@ -175,14 +175,7 @@ fn ended(
 {
     let Ending { inner, end, halt } = ending;
     let inside = bytes.get(..inner.past as usize).unwrap_or(bytes);
-    put_stop(
-        look,
-        (inner.why, inner.place),
-        end,
-        halt,
-        inside,
-        &mut text,
-    )?;
+    put_stop(look, (inner.why, inner.place), end, halt, inside, &mut text)?;
     let (place, refusal) = (inner.place, inner.refusal);
     let notes = Vec::new(alloc);
     match inner.why {

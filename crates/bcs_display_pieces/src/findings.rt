@@ -1,6 +1,7 @@
 //! What was found for the texts that ask for views.
 
 use crate::candidates::Candidates;
+use crate::remarks::Remarks;
 use crate::views::Views;
 use std::alloc::{AllocError, Global};
 
@@ -31,6 +32,7 @@ pub(crate) struct Findings {
     findings: Vec<Finding>,
     pub strings: Candidates,
     pub lists: Candidates,
+    pub remarks: Remarks,
 }
 
 impl Findings {
@@ -43,6 +45,7 @@ impl Findings {
             findings,
             strings: Candidates::new(alloc),
             lists: Candidates::new(alloc),
+            remarks: Remarks::new(alloc),
         })
     }
 
@@ -60,7 +63,8 @@ impl Findings {
             self.mark(source, *found);
         }
         self.strings.add_all(&other.strings)?;
-        self.lists.add_all(&other.lists)
+        self.lists.add_all(&other.lists)?;
+        self.remarks.add_all(&other.remarks)
     }
 
     pub(crate) fn all(&self) -> &[Finding] {

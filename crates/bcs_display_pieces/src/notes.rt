@@ -18,7 +18,7 @@ const NO_MEMBERS: &str =
 const NO_FUNCTION: &str =
     "not opened: the function that is called isn't beside the list, in module.address, module.name, function and ty_args";
 
-/// A note for each view that needs one: `at --inside, .data: no byte string there`.
+/// A note for each view that needs one, as `at --inside, .data: no byte string there`, and the remarks on commands.
 pub(crate) fn notes_of(
     alloc: Global,
     views: &Views,
@@ -30,8 +30,13 @@ pub(crate) fn notes_of(
             Finding::Found => {}
             Finding::Missing => notes.push(missing(alloc, source, findings)?)?,
             Finding::Uncompared(why) => {
-                notes.push(note(alloc, source, String::from_str(alloc, words_of(*why))?)?)?;
+                notes.push(note(alloc, source, words_of(*why).as_bytes())?)?;
             }
+        }
+    }
+    for remark in findings.remarks.all() {
+        if let Some(source) = views.sources().get(remark.source) {
+            notes.push(note(alloc, source, &remark.message)?)?;
         }
     }
     Ok(notes)
@@ -52,21 +57,18 @@ fn missing(alloc: Global, source: &Source, findings: &Findings) -> Result<Refusa
         _ => ("byte string", &findings.strings),
     };
     let suggestion = Suggestion::of(candidates.nearest(alloc, source.name.as_str())?);
-    note(
-        alloc,
-        source,
-        format!(in alloc; "no {part} there{suggestion}")?,
-    )
+    let message = format!(in alloc; "no {part} there{suggestion}")?;
+    note(alloc, source, message.as_bytes())
 }
 
 // Nothing is refused.
-fn note(alloc: Global, source: &Source, message: String) -> Result<Refusal, AllocError> {
+fn note(alloc: Global, source: &Source, message: &[u8]) -> Result<Refusal, AllocError> {
     Ok(Refusal {
         input: None,
         argument: Some(source.kind.option()),
         location: Location::Name(String::from_str(alloc, source.name.as_str())?),
         fault: None,
-        message: Vec::from_slice(alloc, message.as_bytes())?,
+        message: Vec::from_slice(alloc, message)?,
     })
 }
 

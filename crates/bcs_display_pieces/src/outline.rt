@@ -115,12 +115,7 @@ pub(crate) fn put_piece(
 }
 
 // The step with its depth in front, if it isn't indented by all of it.
-fn label_of(
-    alloc: Global,
-    look: Look,
-    depth: usize,
-    step: &[u8],
-) -> Result<Vec<u8>, AllocError> {
+fn label_of(alloc: Global, look: Look, depth: usize, step: &[u8]) -> Result<Vec<u8>, AllocError> {
     let mut label = Vec::new(alloc);
     if depth > look.deepest() && !step.is_empty() {
         label.push(b'<')?;
@@ -138,7 +133,12 @@ pub(crate) fn put_entry(
     out: &mut Vec<u8>,
 ) -> Result<(), AllocError> {
     let is_short = entry.bytes.len() <= INLINE;
-    put_first_columns(look, entry.place, if is_short { entry.bytes } else { b"" }, out)?;
+    put_first_columns(
+        look,
+        entry.place,
+        if is_short { entry.bytes } else { b"" },
+        out,
+    )?;
     let column = look.start_of(entry.depth);
     put_blanks(column.saturating_sub(look.start_of(0)), out)?;
     put_texts(look, column, entry, out)?;

@@ -75,26 +75,31 @@ pub(crate) fn expected_function(
     Ok(expected)
 }
 
-/// What is expected at a list with the arguments of a function that the registry lacks, and how to add that. A name that was
-/// cut, or has quotes, can't be requested.
+/// What is expected at a list with the arguments of a function that the registry lacks, and how to add that.
 pub(crate) fn expected_containers(alloc: Global, called: &[u8]) -> Result<Vec<u8>, AllocError> {
     let mut expected = Vec::from_slice(
         alloc,
         b"arguments of a function in the registry, found a call of ",
     )?;
     put_shown(called, &mut expected)?;
-    let is_request = called.len() <= LONGEST_NAME
-        && !called.iter().any(|byte| matches!(byte, b'"' | b'.'));
-    if is_request {
-        expected.extend_from_slice(b"; add it by bcs from-move MODULES '")?;
-        expected.extend_from_slice(called)?;
-        expected.push(b'\'')?;
-    }
+    put_request(called, &mut expected)?;
     Ok(expected)
 }
 
-// Appends a name in ASCII, or its first characters.
-fn put_shown(name: &[u8], out: &mut Vec<u8>) -> Result<(), AllocError> {
+/// Appends how to add the containers of a function. A name that was cut, or has quotes, can't be requested.
+pub(crate) fn put_request(called: &[u8], out: &mut Vec<u8>) -> Result<(), AllocError> {
+    let is_request = called.len() <= LONGEST_NAME
+        && !called.iter().any(|byte| matches!(byte, b'"' | b'.'));
+    if is_request {
+        out.extend_from_slice(b"; add it by bcs from-move MODULES '")?;
+        out.extend_from_slice(called)?;
+        out.push(b'\'')?;
+    }
+    Ok(())
+}
+
+/// Appends a name in ASCII, or its first characters.
+pub(crate) fn put_shown(name: &[u8], out: &mut Vec<u8>) -> Result<(), AllocError> {
     match name.get(..SHOWN) {
         Some(first) if name.len() > SHOWN => {
             out.extend_from_slice(first)?;

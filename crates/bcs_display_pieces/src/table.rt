@@ -7,6 +7,7 @@ use crate::call_check::Checked;
 use crate::findings::Finding;
 use crate::functions::Function;
 use crate::halt::Halt;
+use crate::input_types::InputTypes;
 use crate::lines::put_lines;
 use crate::meaning::put_meaning;
 use crate::objects::put_piece_object;
@@ -21,7 +22,7 @@ use crate::walk::{Hole, Scene, Walk};
 use bcs_display_text::style::Form;
 use bcs_explain::{Counted, Expected, Listener, Meaning, Trail};
 use std::alloc::{AllocError, Global};
-use std::collections::BTreeMap;
+use std::collections::{BTreeMap, BTreeSet};
 
 /// The pieces received so far.
 #[derive(Drop)]
@@ -35,6 +36,10 @@ pub(crate) struct Table<'e> {
     refused: Option<RefusedList>,
     /// The functions that are called, where the views name none.
     functions: BTreeMap<u64, Function>,
+    /// The places of lists of commands.
+    programs: BTreeSet<u64>,
+    /// What the inputs of commands are.
+    inputs: InputTypes,
     /// The list of arguments that was found last for each source.
     lists: Vec<OpenList>,
     walk: Walk,
@@ -56,6 +61,8 @@ impl<'e> Table<'e> {
         let Checked {
             refused,
             functions,
+            programs,
+            inputs,
             findings,
         } = checked;
         let way = above.way_before(alloc)?;
@@ -75,6 +82,8 @@ impl<'e> Table<'e> {
             depth,
             refused,
             functions,
+            programs,
+            inputs,
             lists: Vec::new(alloc),
             walk,
             way,
@@ -172,23 +181,36 @@ impl<'e> Table<'e> {
     ) -> Result<bool, AllocError> {
         let name = self.name_of(trail)?;
         self.walk.findings.strings.add(&name)?;
-        let Some(format) = self.format_at(&name)? else {
+        let formats = self.formats_at(&name)?;
+        if formats.is_empty() {
             return Ok(false);
-        };
-        let hole = Hole {
-            at: self.walk.text.len(),
-            format,
-            above: self.above.inside(self.alloc, start, trail)?,
-            end,
-            depth: self.depth.saturating_sub(count_containers(trail)),
-            nodes,
-        };
-        self.walk.holes.push(hole)?;
+        }
+        for format in formats {
+            let hole = Hole {
+                at: self.walk.text.len(),
+                format,
+                above: self.above.inside(self.alloc, start, trail)?,
+                end,
+                depth: self.depth.saturating_sub(count_containers(trail)),
+                nodes,
+            };
+            self.walk.holes.push(hole)?;
+        }
         self.walk.end = end;
         Ok(true)
     }
 
-    // The format of the byte string with this name, if a view asks for it.
+    // The formats of the byte string with this name, if a view asks for it. Only an input of commands has several.
+    fn formats_at(&mut self, name: &[u8]) -> Result<Vec<String>, AllocError> {
+        let mut formats = Vec::new(self.alloc);
+        let Some(format) = self.format_at(name)? else {
+            return Ok(self.inputs.take(name).unwrap_or(formats));
+        };
+        formats.push(format)?;
+        Ok(formats)
+    }
+
+    // The format of the byte string with this name, if a view names it, or the list that it is in.
     fn format_at(&mut self, name: &[u8]) -> Result<Option<String>, AllocError> {
         let mut first = None;
         for view in self.scene.views.insides() {
@@ -256,6 +278,7 @@ impl<'e> Table<'e> {
     // The function whose arguments are in the list at this place: the one that the view names, or the one that is called.
     fn function_of(&mut self, call: &CallView, place: u64) -> Result<Option<Function>, AllocError> {
         match &call.function {
+            _ if self.programs.contains(&place) => Ok(None),
             Some(function) => Ok(Some(function.copy(self.alloc)?)),
             None => Ok(self.functions.remove(&place)),
         }

@@ -1,7 +1,7 @@
 //! What a view of a call has to be compared with.
 
 use crate::call_check::Checked;
-use crate::callee::Callee;
+use crate::callee::{Callee, ENTRY};
 use crate::findings::{Finding, Uncompared};
 use crate::function_names::{LONGEST_NAME, compared_name, is_function_name};
 use crate::functions::Function;
@@ -81,7 +81,7 @@ impl<'e> Watch<'e> {
         self.leave(alloc, checked)?;
         self.site = Some(Site {
             name: Vec::from_slice(alloc, name)?,
-            callee: Callee::new(alloc, self.longest_name()),
+            callee: Callee::new(alloc, ENTRY, self.longest_name()),
             list: None,
         });
         Ok(())
