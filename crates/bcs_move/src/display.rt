@@ -5,7 +5,7 @@ use bcs_move_types::place::MovePlace;
 use bcs_move_types::refusal::MoveRefusal;
 use std::alloc::{AllocError, Global};
 
-/// The refusal as data for display. A type or function is in the argument TYPE.
+/// The refusal as data for display. A type or function is in the argument TYPE, and a given container in that of `--with`.
 pub fn shown_refusal(refusal: MoveRefusal) -> Refusal {
     let MoveRefusal {
         name,
@@ -23,6 +23,9 @@ pub fn shown_refusal(refusal: MoveRefusal) -> Refusal {
                 Location::Pointer(pointer.into_bytes()),
                 message,
             )
+        }
+        MovePlace::Given(location) => {
+            Refusal::of(name.name(), location, message).in_argument("--with")
         }
         MovePlace::Requested(text) => {
             Refusal::of(name.name(), Location::Name(text), message).in_argument("TYPE")

@@ -27,7 +27,7 @@ struct Parameter {
 
 /// Makes a container for each argument that has bytes, such as `0x1::coin::transfer::arg0`, since transactions have the
 /// bytes of each one by itself, and a struct of them all, which is called `name`. Numbers count all parameters except
-/// signers and the TxContext, as transactions do.
+/// signers and the TxContext, as transactions do. If a type has the same name, it has the container of this name.
 pub(crate) fn put_function(
     alloc: Global,
     maker: &mut Maker<'_, '_>,
@@ -48,6 +48,9 @@ pub(crate) fn put_function(
             put_argument(alloc, maker, name, number, format.as_str(), &mut fields)?;
         }
     }
+    if maker.waiting.contains(name) {
+        return note_type(alloc, maker, name);
+    }
     let fields = fields.as_str();
     let container = format!(in alloc; "{{\"STRUCT\":[{fields}]}}")?;
     drop(
@@ -56,6 +59,14 @@ pub(crate) fn put_function(
             .insert(String::from_str(alloc, name)?, container)?,
     );
     Ok(())
+}
+
+/// Notes that there is no struct of all arguments.
+fn note_type(alloc: Global, maker: &mut Maker<'_, '_>, name: &str) -> Result<(), MoveFault> {
+    let note = format!(in alloc;
+        "{name} is a type and a function: the container is the type's, and arguments have {name}::arg0 and so on"
+    )?;
+    Ok(maker.notes.push(note)?)
 }
 
 /// Makes the container for an argument, and appends the field.

@@ -2,6 +2,7 @@
 ghost use Rattle.std.specs.Prelude.{IfOk, OnOk, string_bytes};
 ghost use Rattle.bcs_move.specs.Made.{WritesSome};
 
+use crate::given::{given_containers, put_given, request_given};
 use crate::maker::Maker;
 use crate::missing::refuse_missing;
 use crate::requests::put_request;
@@ -12,6 +13,8 @@ use bcs_move_types::modules_json::modules_value;
 use bcs_move_types::place::Place;
 use bcs_move_types::refusal::{MoveFault, MoveRefusalName, refusal, refusal_with};
 use bcs_registry::{Registry, RegistryFault};
+use bcs_registry_model::containers::Containers;
+use serde_json::Value;
 use std::alloc::{AllocError, Global};
 use std::collections::BTreeMap;
 use std::str::from_utf8;
@@ -44,9 +47,7 @@ pub fn registry_of_modules(
 ) -> Result<MadeRegistry, MoveFault>
     ensures { IfOk result (λ made. WritesSome (string_bytes made.json)) }
 {
-    let made = unchecked_registry(alloc, modules, types)?;
-    require_registry(alloc, made.json.as_str())?;
-    Ok(made)
+    registry_of_bytes(alloc, modules.as_bytes(), types)
 }
 
 /// The same, of the bytes of a file: JSON is in UTF-8.
@@ -57,45 +58,63 @@ pub fn registry_of_bytes(
 ) -> Result<MadeRegistry, MoveFault>
     ensures { IfOk result (λ made. WritesSome (string_bytes made.json)) }
 {
-    match from_utf8(modules) {
-        Ok(text) => registry_of_modules(alloc, text, types),
-        Err(_) => {
-            let message = "this isn't JSON, since it isn't UTF-8";
-            Err(refusal(alloc, MoveRefusalName::NotJson, &Place::At(""), message))
-        }
-    }
+    registry_with(alloc, modules, b"{}", types)
+}
+
+/// The same with the containers of a registry, `given`, which may name types that it lacks: these are made. A given
+/// container that can be made has to be the same.
+pub fn registry_with(
+    alloc: Global,
+    modules: &[u8],
+    given: &[u8],
+    types: &[&str],
+) -> Result<MadeRegistry, MoveFault>
+    ensures { IfOk result (λ made. WritesSome (string_bytes made.json)) }
+{
+    let Ok(modules) = from_utf8(modules) else {
+        let message = "this isn't JSON, since it isn't UTF-8";
+        return Err(refusal(alloc, MoveRefusalName::NotJson, &Place::At(""), message));
+    };
+    let made = unchecked_registry(alloc, modules, given, types)?;
+    require_registry(alloc, made.json.as_str())?;
+    Ok(made)
 }
 
 /// The same, without the check that this is a registry.
 fn unchecked_registry(
     alloc: Global,
     modules: &str,
+    given: &[u8],
     types: &[&str],
 ) -> Result<MadeRegistry, MoveFault> {
     let value = modules_value(alloc, modules)?;
     let index = modules_of(alloc, &value)?;
-    registry_of_index(alloc, &index, types)
+    let given = given_containers(alloc, given)?;
+    registry_of_index(alloc, &index, &given, types)
 }
 
 fn registry_of_index(
     alloc: Global,
     modules: &Modules<'_>,
+    given: &Containers,
     types: &[&str],
 ) -> Result<MadeRegistry, MoveFault> {
-    let mut maker = Maker::new(alloc, modules);
+    let mut maker = Maker::new(alloc, modules, given);
     make_all(alloc, &mut maker, types)?;
     let json = containers_json(alloc, &maker.containers)?;
     let Maker { notes, .. } = maker;
     Ok(MadeRegistry { json, notes })
 }
 
-/// Makes the containers of all types and functions, and all that these need.
+/// Makes the containers of all types and functions, and all that these need, and adds the given ones.
 fn make_all(alloc: Global, maker: &mut Maker<'_, '_>, types: &[&str]) -> Result<(), MoveFault> {
+    request_given(alloc, maker)?;
     for text in types {
         put_request(alloc, maker, *text)?;
     }
     make_waiting(alloc, maker)?;
     refuse_missing(alloc, maker)?;
+    put_given(alloc, maker)?;
     note_ascii(alloc, maker)?;
     note_wide(alloc, maker)
 }
@@ -115,16 +134,17 @@ fn note_wide(alloc: Global, maker: &mut Maker<'_, '_>) -> Result<(), MoveFault> 
     Ok(())
 }
 
-/// The containers as members of an object. Their names need no escapes.
+/// The containers as members of an object.
 fn containers_json(
     alloc: Global,
     containers: &BTreeMap<String, String>,
 ) -> Result<String, AllocError> {
     let mut json = String::from_str(alloc, "{")?;
     for (number, (name, container)) in containers.iter().enumerate() {
-        json.push_str(if number == 0 { "\"" } else { ",\"" })?;
+        json.push_str(if number == 0 { "" } else { "," })?;
+        let name = Value::String(name.clone()?).to_string(alloc)?;
         json.push_str(name.as_str())?;
-        json.push_str("\":")?;
+        json.push(':')?;
         json.push_str(container.as_str())?;
     }
     json.push('}')?;

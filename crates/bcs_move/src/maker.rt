@@ -3,6 +3,7 @@
 use crate::budget::Budget;
 use bcs_move_types::modules::Modules;
 use bcs_move_types::place::{Place, place_text};
+use bcs_registry_model::containers::Containers;
 use std::alloc::{AllocError, Global};
 use std::collections::{BTreeMap, BTreeSet};
 
@@ -10,10 +11,14 @@ use std::collections::{BTreeMap, BTreeSet};
 #[derive(Drop)]
 pub(crate) struct Maker<'a, 'm> {
     pub(crate) modules: &'a Modules<'m>,
+    /// The containers that were given.
+    pub(crate) given: &'a Containers,
     /// The JSON of each container, by its name, which is the text of its type.
     pub(crate) containers: BTreeMap<String, String>,
     /// The names of the types whose containers are still to be made. Their modules are here.
     pub(crate) waiting: BTreeSet<String>,
+    /// The names of given containers that can't be made from the modules.
+    pub(crate) only_given: BTreeSet<String>,
     /// The modules that are missing, each with the first place that needs it.
     pub(crate) missing: BTreeMap<String, String>,
     /// What a reader of the registry has to know.
@@ -23,11 +28,17 @@ pub(crate) struct Maker<'a, 'm> {
 }
 
 impl<'a, 'm> Maker<'a, 'm> {
-    pub(crate) fn new(alloc: Global, modules: &'a Modules<'m>) -> Maker<'a, 'm> {
+    pub(crate) fn new(
+        alloc: Global,
+        modules: &'a Modules<'m>,
+        given: &'a Containers,
+    ) -> Maker<'a, 'm> {
         Maker {
             modules,
+            given,
             containers: BTreeMap::new(alloc),
             waiting: BTreeSet::new(alloc),
+            only_given: BTreeSet::new(alloc),
             missing: BTreeMap::new(alloc),
             notes: Vec::new(alloc),
             ascii: AsciiUses {
@@ -40,7 +51,9 @@ impl<'a, 'm> Maker<'a, 'm> {
 
     /// Whether the type with this name has a container, or will have one.
     pub(crate) fn knows(&self, name: &str) -> bool {
-        self.containers.contains_key(name) || self.waiting.contains(name)
+        self.containers.contains_key(name)
+            || self.waiting.contains(name)
+            || self.only_given.contains(name)
     }
 }
 

@@ -2,9 +2,10 @@
 
 use crate::maker::Maker;
 use bcs_move_types::chains::Chain;
+use bcs_move_types::modules::Modules;
 use bcs_move_types::place::{Place, place_text};
 use bcs_move_types::qualified::split_name;
-use bcs_move_types::refusal::{MoveFault, MoveRefusalName, refusal};
+use bcs_move_types::refusal::{MoveFault, MoveRefusalName, refusal, refusal_with};
 use std::alloc::{AllocError, Global};
 
 /// Notes that the module is missing that declares `head`, and the place that needs it.
@@ -14,6 +15,9 @@ pub(crate) fn note_missing(
     head: &str,
     place: &Place<'_>,
 ) -> Result<(), MoveFault> {
+    if let Some(other) = upgraded_from(maker.modules, head, place) {
+        return Err(upgraded(alloc, head, other, place));
+    }
     let (module, _) = split_name(head);
     if maker.missing.contains_key(module) {
         return Ok(());
@@ -24,13 +28,31 @@ pub(crate) fn note_missing(
     Ok(())
 }
 
+/// On Sui, what was probably requested: the modules of an upgraded package keep the address of its first version, and the
+/// types that it adds have a later one.
+fn upgraded_from<'a>(modules: &'a Modules<'_>, head: &str, place: &Place<'_>) -> Option<&'a str> {
+    match (modules.chain(), place) {
+        (Some(Chain::Sui), Place::Requested(_)) => modules.at_another_address(head),
+        _ => None,
+    }
+}
+
+fn upgraded(alloc: Global, head: &str, other: &str, place: &Place<'_>) -> MoveFault {
+    let (module, _) = split_name(head);
+    let (address, name) = split_name(module);
+    let message = format!(in alloc;
+        "{head} isn't here, but {other} is: if its package was upgraded, write {other}, since modules keep their first address; otherwise add {module}, by sui_getNormalizedMoveModule of {address} and {name}"
+    );
+    refusal_with(alloc, MoveRefusalName::MissingModule, place, message)
+}
+
 /// Refuses the request if modules are missing, with a list of all.
 pub(crate) fn refuse_missing(alloc: Global, maker: &Maker<'_, '_>) -> Result<(), MoveFault> {
     let Some((_, first)) = maker.missing.first_key_value() else {
         return Ok(());
     };
     let message = missing_list(alloc, maker)?;
-    let place = noted_place(first.as_str());
+    let place = noted_place(maker, first.as_str());
     Err(refusal(
         alloc,
         MoveRefusalName::MissingModule,
@@ -39,10 +61,12 @@ pub(crate) fn refuse_missing(alloc: Global, maker: &Maker<'_, '_>) -> Result<(),
     ))
 }
 
-/// The place with this text: a JSON Pointer, or what was requested.
-fn noted_place(text: &str) -> Place<'_> {
+/// The place with this text: a JSON Pointer, a given container, or what was requested.
+fn noted_place<'p>(maker: &Maker<'_, '_>, text: &'p str) -> Place<'p> {
     if text.starts_with('/') {
         Place::At(text)
+    } else if maker.given.contains_key(text) {
+        Place::Given(text)
     } else {
         Place::Requested(text)
     }

@@ -28,6 +28,10 @@ pub(crate) fn put_named(
     let MoveType::Declared(head, arguments) = kind else {
         return Ok(());
     };
+    let is_declared = maker.modules.declared_type(head.as_str()).is_some();
+    if !is_declared && maker.given.contains_key(name.as_str()) {
+        return Ok(());
+    }
     let Some(declaration) = find_type(alloc, maker.modules, head.as_str(), place)? else {
         return note_missing(alloc, maker, head.as_str(), place);
     };

@@ -25,11 +25,13 @@ pub(crate) fn put_request(
     if name.as_str() != text {
         note_name(alloc, maker, text, name.as_str())?;
     }
-    let modules = maker.modules;
-    match function_of(modules, &kind) {
-        Some(function) => put_function(alloc, maker, function, &kind, name.as_str()),
-        None => put_type(alloc, maker, &kind, name, &place),
+    let Some(function) = function_of(alloc, maker.modules, &kind)? else {
+        return put_type(alloc, maker, &kind, name, &place);
+    };
+    if fits(alloc, maker.modules.declared_type(head_of(&kind)), &kind)? {
+        put_type(alloc, maker, &kind, name.clone()?, &place)?;
     }
+    put_function(alloc, maker, function, &kind, name.as_str())
 }
 
 /// Notes that a container isn't called as it was requested.
@@ -45,18 +47,44 @@ fn note_name(
     Ok(maker.notes.push(note)?)
 }
 
-/// The function that is requested. A type with the same name has precedence.
-fn function_of<'a, 'm>(modules: &'a Modules<'m>, kind: &MoveType) -> Option<&'a Declaration<'m>> {
+/// The function that is requested. If a type has the same name, it needs the right number of type arguments.
+fn function_of<'a, 'm>(
+    alloc: Global,
+    modules: &'a Modules<'m>,
+    kind: &MoveType,
+) -> Result<Option<&'a Declaration<'m>>, MoveFault> {
+    let head = head_of(kind);
+    let function = modules.function(head);
+    if modules.declared_type(head).is_none() || fits(alloc, function, kind)? {
+        Ok(function)
+    } else {
+        Ok(None)
+    }
+}
+
+fn head_of(kind: &MoveType) -> &str {
     match kind {
-        MoveType::Declared(head, _) if modules.declared_type(head.as_str()).is_none() => {
-            modules.function(head.as_str())
+        MoveType::Declared(head, _) => head.as_str(),
+        _ => "",
+    }
+}
+
+/// Whether the type has as many arguments as the declaration has parameters.
+fn fits(
+    alloc: Global,
+    declaration: Option<&Declaration<'_>>,
+    kind: &MoveType,
+) -> Result<bool, MoveFault> {
+    match (declaration, kind) {
+        (Some(declaration), MoveType::Declared(_, arguments)) => {
+            Ok(declaration.type_parameters(alloc)? == arguments.len())
         }
-        _ => None,
+        _ => Ok(false),
     }
 }
 
 /// Makes a container with the name of the type.
-fn put_type(
+pub(crate) fn put_type(
     alloc: Global,
     maker: &mut Maker<'_, '_>,
     kind: &MoveType,

@@ -16,6 +16,11 @@ pub(crate) const ASCII: &str = "0x1::ascii::String";
 
 pub(crate) const OPTION: &str = "0x1::option::Option";
 
+/// Whether it is one of these types, which need no module.
+pub(crate) fn is_standard(head: &str) -> bool {
+    matches!(head, STRING | ASCII | OPTION)
+}
+
 /// Refuses a type that isn't declared as in the standard library, if its module is here.
 pub(crate) fn require_standard(
     alloc: Global,

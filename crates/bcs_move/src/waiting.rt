@@ -41,7 +41,14 @@ fn make_container(alloc: Global, maker: &mut Maker<'_, '_>, name: &str) -> Resul
         return Ok(());
     };
     let mut container = String::new(alloc);
-    put_container(alloc, maker, declaration, &arguments, &mut container)?;
+    match put_container(alloc, maker, declaration, &arguments, &mut container) {
+        Ok(()) => {}
+        Err(MoveFault::Refused(_)) if maker.given.contains_key(name) => {
+            drop(maker.only_given.insert(String::from_str(alloc, name)?)?);
+            return Ok(());
+        }
+        Err(fault) => return Err(fault),
+    }
     let name = String::from_str(alloc, name)?;
     drop(maker.containers.insert(name, container)?);
     Ok(())

@@ -77,6 +77,7 @@ pub fn unexpected(
     place: &Place<'_>,
 ) -> MoveFault {
     let message = match shown(alloc, found) {
+        Ok(_) if found.is_none() => format!(in alloc; "expected {expected}; it is missing"),
         Ok(found) => {
             let found = found.as_str();
             format!(in alloc; "expected {expected}, found {found}")

@@ -80,6 +80,11 @@ impl<'m> Modules<'m> {
         self.functions.get(full)
     }
 
+    /// The same name in a module at another address, if one is here.
+    pub fn at_another_address(&self, full: &str) -> Option<&str> {
+        same_but_address(&self.types, full).or(same_but_address(&self.functions, full))
+    }
+
     /// What was probably meant by a name that the module doesn't declare, without the module's name.
     pub fn nearest<'a>(
         &'a self,
@@ -92,6 +97,21 @@ impl<'m> Modules<'m> {
         consider_all(alloc, module, &self.functions, &mut search)?;
         Ok(search.found())
     }
+}
+
+fn same_but_address<'a>(
+    declared: &'a BTreeMap<String, Declaration<'_>>,
+    full: &str,
+) -> Option<&'a str> {
+    let (_, wanted) = full.split_once("::")?;
+    for other in declared.keys() {
+        if let Some((_, name)) = other.split_once("::")
+            && name == wanted
+        {
+            return Some(other.as_str());
+        }
+    }
+    None
 }
 
 fn consider_all<'a>(

@@ -1,5 +1,6 @@
-//! Where something is: in the JSON of modules, or in what was requested of them.
+//! Where something is: in the JSON of modules, in what was requested of them, or in containers that were given.
 
+use bcs_display_refusal::Location;
 use itoa::Buffer;
 use std::alloc::{AllocError, Global};
 
@@ -8,6 +9,8 @@ use std::alloc::{AllocError, Global};
 pub enum Place<'p> {
     /// The type or function that was requested.
     Requested(&'p str),
+    /// The container of this name that was given.
+    Given(&'p str),
     /// The JSON value with this JSON Pointer.
     At(&'p str),
     Member(&'p Place<'p>, &'p str),
@@ -21,6 +24,8 @@ pub enum MovePlace {
     Modules(String),
     /// A type or function, as it was requested.
     Requested(String),
+    /// The containers that were given, or a part of them.
+    Given(Location),
 }
 
 pub fn member<'p>(outer: &'p Place<'p>, name: &'p str) -> Place<'p> {
@@ -35,6 +40,7 @@ pub fn item<'p>(outer: &'p Place<'p>, number: usize) -> Place<'p> {
 pub fn place_of(alloc: Global, place: &Place<'_>) -> Result<MovePlace, AllocError> {
     match place {
         Place::Requested(text) => Ok(MovePlace::Requested(String::from_str(alloc, *text)?)),
+        Place::Given(name) => Ok(MovePlace::Given(Location::Name(String::from_str(alloc, *name)?))),
         _ => Ok(MovePlace::Modules(pointer_of(alloc, place)?)),
     }
 }
@@ -42,7 +48,7 @@ pub fn place_of(alloc: Global, place: &Place<'_>) -> Result<MovePlace, AllocErro
 /// The place in a message: a JSON Pointer, or what was requested.
 pub fn place_text(alloc: Global, place: &Place<'_>) -> Result<String, AllocError> {
     match place {
-        Place::Requested(text) => String::from_str(alloc, *text),
+        Place::Requested(text) | Place::Given(text) => String::from_str(alloc, *text),
         _ => pointer_of(alloc, place),
     }
 }
@@ -56,7 +62,7 @@ pub fn pointer_of(alloc: Global, place: &Place<'_>) -> Result<String, AllocError
 
 fn put_pointer(place: &Place<'_>, pointer: &mut String) -> Result<(), AllocError> {
     match place {
-        Place::Requested(_) => Ok(()),
+        Place::Requested(_) | Place::Given(_) => Ok(()),
         Place::At(text) => pointer.push_str(*text),
         Place::Member(outer, name) => {
             put_pointer(outer, pointer)?;

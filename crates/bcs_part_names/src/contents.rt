@@ -53,7 +53,7 @@ pub fn content_of_scanned<'a>(
 }
 
 /// Where the steps lead, in the value that is ahead.
-fn reach<'r, 'a>(
+pub(crate) fn reach<'r, 'a>(
     registry: &'r Registry,
     start: &Reached<'r, 'a>,
     path: &[Step],
@@ -68,7 +68,7 @@ fn reach<'r, 'a>(
 }
 
 /// The number of bytes of the content, and the bytes from it on.
-fn sized_content<'a>(at: &Reached<'_, 'a>) -> Option<(u64, &'a [u8])>
+pub(crate) fn sized_content<'a>(at: &Reached<'_, 'a>) -> Option<(u64, &'a [u8])>
     ensures { SizesContent at.now.ahead (content_of at.now.here) result }
 {
     match at.here {
