@@ -6,7 +6,7 @@ use Rattle.bcs_calls.specs.Messages.{TellsPlain, TellsValue}
 use Rattle.bcs_calls.specs.declared.asked.Asked.{Asked}
 use Rattle.bcs_calls.specs.declared.call.PlainCall.{PlainCall}
 use Rattle.bcs_calls.specs.declared.call.ValueCall.{ValueCall}
-use Rattle.bcs_calls.specs.declared.call.ValueCall.TheVariants.{Candidates, Check, Compare, Content, Example, Explain, FromBcs, Normalise, Part, PartNamed, Scan, Schema, StopRefusal, TextRefusal, ToBcs}
+use Rattle.bcs_calls.specs.declared.call.ValueCall.TheVariants.{Candidates, Check, Compare, Content, Differences, Example, Explain, FromBcs, Normalise, Part, PartNamed, Scan, Schema, StopRefusal, TextRefusal, ToBcs}
 use Rattle.bcs_calls.specs.declared.question.Question.{Question}
 
 -- this is the call
@@ -42,3 +42,4 @@ module _ (q : Question) (r : Entries) (l : Bounds) (s : Shape) (a : Answer) (is 
   owes_memory Schema = tt
   owes_memory Example = tt
   owes_memory Candidates = tt
+  owes_memory Differences = tt

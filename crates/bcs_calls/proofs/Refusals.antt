@@ -4,8 +4,11 @@ use Rattle.bcs_registry_model.specs.declared.fault.RegistryFault.TheVariants as 
 use Rattle.bcs_json_spec.specs.declared.json_fault.JsonFault.TheVariants as json
 use Rattle.bcs_calls.specs.Compared as compared
 use Rattle.bcs_calls.specs.Denoted as denoted
+use Rattle.bcs_calls.specs.Differing as differing
+use Rattle.bcs_calls.specs.Differing.{CannotBeRead}
 use Rattle.bcs_calls.specs.Registries.{no_memory}
 use Rattle.bcs_calls.specs.declared.fault.Fault.TheVariants.{Registry}
+use Rattle.bcs_calls.specs.declared.given.Given.TheVariants.{Document}
 
 -- memory ran out, or not
 registry_memory : (e : RegistryFault) → (e ≡ registry.OutOfMemory) ⊎ (e ≢ registry.OutOfMemory)
@@ -56,6 +59,12 @@ module _ (registry : Entries) (limits : Bounds) (s : Shape) where
       → AnswersComparing registry limits s first second a
   texts_refused first second e a fault memory refused =
       elim (json_memory e) [ inl h ↦ compared.no_memory (memory h) | inr h ↦ compared.refused e (fault h) (refused h) ]
+
+  -- the answer to a fault of a value that is given as a document
+  pub document_refused : (input : List ℕ) (e : JsonFault) (a : Answer) → (e ≢ json.OutOfMemory → RefusesText registry limits s input e)
+      → (e ≡ json.OutOfMemory → a ≡ plain Memory) → (e ≢ json.OutOfMemory → a ≡ refusal Refused (Text e)) → CannotBeRead Document registry limits s input a
+  document_refused input e a fault memory refused =
+      elim (json_memory e) [ inl h ↦ differing.no_memory (memory h) | inr h ↦ differing.no_document e refl (fault h) (refused h) ]
 
 -- the answer to this stop
 pub same_stop : (x : Stop) (e : Reason) (o : ℕ) (a : Answer) → ◌≡◌ {A = Result ℕ Stop} (Err x) (Err (record { reason = e; place = o })) → a ≡ stop_at x.reason x.place → a ≡ stop_at e o

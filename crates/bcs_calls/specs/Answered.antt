@@ -17,6 +17,7 @@ use Rattle.bcs_calls.specs.Calls.{plain_call_number, show_number, value_call_num
 use Rattle.bcs_calls.specs.Compared.{AnswersComparing}
 use Rattle.bcs_calls.specs.Contents.{AnswersContent}
 use Rattle.bcs_calls.specs.Denoted.{AnswersText}
+use Rattle.bcs_calls.specs.Differing.{AnswersDifferences}
 use Rattle.bcs_calls.specs.Explained.{AnswersExplainedWith}
 use Rattle.bcs_calls.specs.Modules.{AnswersModules, AnswersModulesRefusal}
 use Rattle.bcs_calls.specs.Named.{AnswersName}
@@ -30,7 +31,7 @@ use Rattle.bcs_calls.specs.declared.answer.Answer.{Answer}
 use Rattle.bcs_calls.specs.declared.call.PlainCall.{PlainCall}
 use Rattle.bcs_calls.specs.declared.call.PlainCall.TheVariants.{FaultName, Grows as Growing, ModulesPlace, RegistryOfModules, RegistryRefusal}
 use Rattle.bcs_calls.specs.declared.call.ValueCall.{ValueCall}
-use Rattle.bcs_calls.specs.declared.call.ValueCall.TheVariants.{Check, Compare, Content, Explain, FromBcs, Normalise, Part, PartNamed, Scan, StopRefusal, TextRefusal, ToBcs}
+use Rattle.bcs_calls.specs.declared.call.ValueCall.TheVariants.{Check, Compare, Content, Differences, Explain, FromBcs, Normalise, Part, PartNamed, Scan, StopRefusal, TextRefusal, ToBcs}
 use Rattle.bcs_calls.specs.declared.fault.Fault.TheVariants.{Growth}
 use Rattle.bcs_calls.specs.declared.question.Question.{Question}
 use Rattle.bcs_calls.specs.declared.status.Status.TheVariants.{Done, Memory, NoCall, Refused}
@@ -49,6 +50,7 @@ AnswersValue Content q r l s old new a = AnswersContent r l s q.first.now q.numb
 AnswersValue Explain q r l s old new a = AnswersExplainedWith r l s q.views.now q.first.now old new a
 AnswersValue TextRefusal q r l s old new a = AnswersTextRefusal r l s q.first.now old new a
 AnswersValue StopRefusal q r l s old new a = AnswersStopRefusal r l s q.first.now old new a
+AnswersValue Differences q r l s old new a = AnswersDifferences r l s q old new a
 AnswersValue c q r l s old new a = Unit {0}
 
 -- which answer is owed, unless memory ran out

@@ -3,7 +3,7 @@ use Rattle.std.specs.Prelude.{ℕ}
 use Rattle.bcs_calls.specs.declared.call.PlainCall.{PlainCall}
 use Rattle.bcs_calls.specs.declared.call.PlainCall.TheVariants.{FormatPlace, Grows, GrowthList, GrowthPlace, RegistryRefusal, PathPlace, RegistryOfModules, ModulesPlace, FaultName}
 use Rattle.bcs_calls.specs.declared.call.ValueCall.{ValueCall}
-use Rattle.bcs_calls.specs.declared.call.ValueCall.TheVariants.{Check, ToBcs, FromBcs, Normalise, Compare, Scan, Part, PartNamed, Content, Explain, TextRefusal, StopRefusal, Schema, Example, Candidates}
+use Rattle.bcs_calls.specs.declared.call.ValueCall.TheVariants.{Check, ToBcs, FromBcs, Normalise, Compare, Scan, Part, PartNamed, Content, Explain, TextRefusal, StopRefusal, Schema, Example, Candidates, Differences}
 
 abbrev pub value_call_number : ValueCall → ℕ
 value_call_number Check = 1
@@ -21,6 +21,7 @@ value_call_number StopRefusal = 12
 value_call_number Schema = 13
 value_call_number Example = 14
 value_call_number Candidates = 15
+value_call_number Differences = 16
 
 -- that of the call that shows the open registry
 abbrev pub show_number : ℕ

@@ -8,6 +8,7 @@ pub mod Opened
 pub mod Output
 pub mod Denoted
 pub mod Compared
+pub mod Differing
 pub mod Shown
 pub mod Scanned
 pub mod Parts

@@ -10,6 +10,7 @@ use Rattle.bcs_json.specs.declared.text_refusal.TextRefusal.{TextRefusal}
 use Rattle.bcs_calls.specs.Answers.{plain}
 use Rattle.bcs_calls.specs.Asking.{Whatever, on_handle}
 use Rattle.bcs_calls.specs.Calls.{plain_call_number, value_call_number}
+use Rattle.bcs_calls.specs.Differing.{IsRead, first_given, second_given}
 use Rattle.bcs_calls.specs.Faults.{fault_number}
 use Rattle.bcs_calls.specs.Modules.{AnswersModulesRefusal}
 use Rattle.bcs_calls.specs.Places.{AnswersStopRefusal, AnswersTextRefusal}
@@ -18,8 +19,10 @@ use Rattle.bcs_calls.specs.declared.answer.Answer.{Answer}
 use Rattle.bcs_calls.specs.declared.call.PlainCall.{PlainCall}
 use Rattle.bcs_calls.specs.declared.call.PlainCall.TheVariants.{Grows, RegistryOfModules}
 use Rattle.bcs_calls.specs.declared.call.ValueCall.{ValueCall}
-use Rattle.bcs_calls.specs.declared.call.ValueCall.TheVariants.{Compare, Content, FromBcs, Normalise, Part, PartNamed, Scan, ToBcs}
+use Rattle.bcs_calls.specs.declared.call.ValueCall.TheVariants.{Compare, Content, Differences, FromBcs, Normalise, Part, PartNamed, Scan, ToBcs}
 use Rattle.bcs_calls.specs.declared.fault.Fault.TheVariants.{NoContent}
+use Rattle.bcs_calls.specs.declared.given.Given.{Given}
+use Rattle.bcs_calls.specs.declared.given.Given.TheVariants.{Bytes, Document}
 use Rattle.bcs_calls.specs.declared.question.Question.{Question}
 use Rattle.bcs_calls.specs.declared.status.Status.TheVariants.{Done, No}
 
@@ -35,6 +38,16 @@ module _ (registry : Entries) (limits : Bounds) (s : Shape) where
     of_second : (t : Tree) → Denotes registry limits s first t → AnswersTextRefusal registry limits s second old new x
         → AnswersEitherRefusal first second old new x
 
+  -- what the refusal of an input that is given like this says
+  abbrev pub AnswersGivenRefusal : Given → List ℕ → List ℕ → List ℕ → Answer → Type 0
+  AnswersGivenRefusal Document input old new x = AnswersTextRefusal registry limits s input old new x
+  AnswersGivenRefusal Bytes input old new x = AnswersStopRefusal registry limits s input old new x
+
+  -- the same as for two documents, if each of the two may be a document or bytes
+  pub data AnswersOneRefusal (first second : Given) (a b old new : List ℕ) (x : Answer) : Type 0 where
+    of_first_given : x.status ≢ status_number No → AnswersGivenRefusal first a old new x → AnswersOneRefusal first second a b old new x
+    of_second_given : IsRead first registry limits s a → AnswersGivenRefusal second b old new x → AnswersOneRefusal first second a b old new x
+
 -- what the message of a call that has refused its input with this fault says, as the answer of the call for it alone
 abbrev pub TellsValue : ValueCall → Question → Entries → Bounds → Shape → ℕ → List ℕ → List ℕ → Answer → Type 0
 TellsValue ToBcs q r l s fault old new x = AnswersTextRefusal r l s q.first.now old new x
@@ -46,6 +59,8 @@ TellsValue Part q r l s fault old new x = AnswersStopRefusal r l s q.first.now o
 TellsValue PartNamed q r l s fault old new x = AnswersStopRefusal r l s q.first.now old new x
 TellsValue Content q r l s fault old new x =
     (fault ≡ fault_number NoContent → IsSilent old new x) × (fault ≢ fault_number NoContent → AnswersStopRefusal r l s q.first.now old new x)
+TellsValue Differences q r l s fault old new x =
+    AnswersOneRefusal r l s (first_given q.second_number) (second_given q.second_number) q.first.now q.second.now old new x
 TellsValue c q r l s fault old new x = IsSilent old new x
 
 -- the same without an open registry. What the message of two registries says isn't defined

@@ -12,6 +12,7 @@ use crate::asked::Asked;
 use crate::call::{PlainCall, SHOW, ValueCall};
 use crate::candidates::listed_candidates;
 use crate::contents::content_place;
+use crate::differences::listed_differences;
 use crate::documents::{example, schema};
 use crate::growing::{growth_list, told_growth};
 use crate::handle::Handle;
@@ -152,6 +153,7 @@ fn answer_value(
         ValueCall::Schema => schema(alloc, asked, out),
         ValueCall::Example => example(alloc, asked, number, second, out),
         ValueCall::Candidates => listed_candidates(alloc, asked, number, first, out),
+        ValueCall::Differences => listed_differences(alloc, asked, question, out),
     }
 }
 

@@ -40,6 +40,8 @@ pub(crate) enum ValueCall {
     Example,
     /// The containers that the whole input is a value of.
     Candidates,
+    /// Where two values differ.
+    Differences,
 }
 
 impl ValueCall {
@@ -64,6 +66,7 @@ impl ValueCall {
             13 => Some(ValueCall::Schema),
             14 => Some(ValueCall::Example),
             15 => Some(ValueCall::Candidates),
+            16 => Some(ValueCall::Differences),
             _ => None,
         }
     }

@@ -2,8 +2,9 @@
 ghost use Rattle.std.specs.Prelude.{◌≡◌, ◌≢◌, []};
 ghost use Rattle.bcs_json.specs.Refusing.{IsRefusedAs};
 ghost use Rattle.bcs_calls.specs.Asking.{On};
+ghost use Rattle.bcs_calls.specs.Differing.{first_given, second_given};
 ghost use Rattle.bcs_calls.specs.Faults.{fault_number};
-ghost use Rattle.bcs_calls.specs.Messages.{AnswersEitherRefusal, IsSilent, IsToldOfPlain, IsToldOfText, IsToldOfValue, TellsPlain, TellsValue};
+ghost use Rattle.bcs_calls.specs.Messages.{AnswersEitherRefusal, AnswersGivenRefusal, AnswersOneRefusal, IsSilent, IsToldOfPlain, IsToldOfText, IsToldOfValue, TellsPlain, TellsValue};
 ghost use Rattle.bcs_calls.specs.Places.{AnswersStopRefusal};
 ghost use Rattle.bcs_calls.specs.Statuses.{status_number};
 ghost use Rattle.bcs_calls.specs.declared.fault.Fault.TheVariants.{NoContent};
@@ -13,6 +14,7 @@ use crate::answer::Answer;
 use crate::asked::Asked;
 use crate::call::{PlainCall, ValueCall};
 use crate::fault::Fault;
+use crate::given::Given;
 use crate::growing::told_growth;
 use crate::modules::told_modules;
 use crate::question::Question;
@@ -75,6 +77,7 @@ fn value_refusal(
             told_stop(alloc, asked, first, message)
         }
         ValueCall::Content => content_refusal(alloc, asked, fault, first, message),
+        ValueCall::Differences => refusal_of_given(alloc, asked, question, message),
         _ => Answer::plain(Status::No),
     }
 }
@@ -94,6 +97,36 @@ fn refusal_of_either(
         text_refusal(alloc, asked, second, message)
     } else {
         told
+    }
+}
+
+/// The same for two values, of which each may be given as a document or as bytes.
+fn refusal_of_given(alloc: Global, asked: &Asked, question: &Question, message: &mut [u8]) -> Answer
+    ensures { On asked.now (λ r l s. AnswersOneRefusal r l s (first_given question.now.second_number) (second_given question.now.second_number) question.now.first.now question.now.second.now message.old message.new result) }
+{
+    let given = Given::first(question.second_number);
+    let told = given_refusal(alloc, asked, given, question.first, message);
+    if told.status == Status::No.number() {
+        let given = Given::second(question.second_number);
+        given_refusal(alloc, asked, given, question.second, message)
+    } else {
+        told
+    }
+}
+
+fn given_refusal(
+    alloc: Global,
+    asked: &Asked,
+    given: Given,
+    input: &[u8],
+    message: &mut [u8],
+) -> Answer
+    ensures answers { On asked.now (λ r l s. AnswersGivenRefusal r l s given input.now message.old message.new result) }
+    ensures untouched { result.status ≢ status_number Done → message.new ≡ message.old }
+{
+    match given {
+        Given::Document => text_refusal(alloc, asked, input, message),
+        Given::Bytes => told_stop(alloc, asked, input, message),
     }
 }
 

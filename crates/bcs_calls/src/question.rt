@@ -11,7 +11,7 @@ pub struct Question<'a> {
     pub call: u32,
     /// The form, the notation, or the number of a fault.
     pub number: u32,
-    /// No call uses it yet.
+    /// Which of two values are given as bytes: 1 for the first one, 2 for the second, 3 for both.
     pub second_number: u32,
     /// The number of containers that may be open at once, at most 500.
     pub depth: u32,

@@ -3,7 +3,7 @@ use Rattle.bcs_calls.proofs.Prelude.{inl, inr, rules}
 use Rattle.bcs_calls.specs.Asking.{On}
 use Rattle.bcs_calls.specs.Scanned.{AnswersScan}
 use Rattle.bcs_calls.proofs.Calls.{value_said}
-use Rattle.bcs_calls.specs.declared.call.ValueCall.TheVariants.{Compare, Content, Explain, FromBcs, Normalise, Part, PartNamed, Scan, StopRefusal, TextRefusal, ToBcs}
+use Rattle.bcs_calls.specs.declared.call.ValueCall.TheVariants.{Compare, Content, Differences, Explain, FromBcs, Normalise, Part, PartNamed, Scan, StopRefusal, TextRefusal, ToBcs}
 use Rattle.bcs_calls.proofs.asking.answer_value.Goals as goal
 
 pub returns-in-ToBcs-clause-answers : goal.returns-in-ToBcs-clause-answers
@@ -40,6 +40,9 @@ returns-in-TextRefusal-clause-answers c = value_said c.args.asked.now c.args.que
 
 pub returns-in-StopRefusal-clause-answers : goal.returns-in-StopRefusal-clause-answers
 returns-in-StopRefusal-clause-answers c = value_said c.args.asked.now c.args.question.now c.args.out.now _ c.told_stop.result c.args.call StopRefusal c.in-StopRefusal.is c.told_stop.ensures.answers
+
+pub returns-in-Differences-clause-answers : goal.returns-in-Differences-clause-answers
+returns-in-Differences-clause-answers c = value_said c.args.asked.now c.args.question.now c.args.out.now _ c.listed_differences.result c.args.call Differences c.in-Differences.is c.listed_differences.ensures.answers
 
 -- ---- the refusal of one document
 

@@ -1,6 +1,6 @@
 use Rattle.bcs_calls.proofs.Prelude.{inl, inr}
 use Rattle.bcs_calls.proofs.Calls.{value_told}
-use Rattle.bcs_calls.specs.declared.call.ValueCall.TheVariants.{Compare, Content, FromBcs, Normalise, Part, PartNamed, Scan, ToBcs}
+use Rattle.bcs_calls.specs.declared.call.ValueCall.TheVariants.{Compare, Content, Differences, FromBcs, Normalise, Part, PartNamed, Scan, ToBcs}
 use Rattle.bcs_calls.proofs.messages.value_refusal.Goals as goal
 
 pub returns-in-ToBcs : goal.returns-in-ToBcs
@@ -28,3 +28,6 @@ pub returns-in-Content : goal.returns-in-Content
 returns-in-Content c =
     value_told c.args.asked.now c.args.question.now c.args.fault c.args.message.now _ c.content_refusal.result c.args.call Content c.in-Content.is
     (c.content_refusal.ensures.silent, c.content_refusal.ensures.tells)
+
+pub returns-in-Differences : goal.returns-in-Differences
+returns-in-Differences c = value_told c.args.asked.now c.args.question.now c.args.fault c.args.message.now _ c.refusal_of_given.result c.args.call Differences c.in-Differences.is c.refusal_of_given.ensures
