@@ -2,8 +2,10 @@
 #![tactic(auto)]
 
 mod listing;
+mod meant;
 mod notation;
 mod nowhere;
+mod numbering;
 mod wrong_steps;
 
 pub use nowhere::{nowhere_on_name, nowhere_on_path, nowhere_on_pointer};

@@ -1,7 +1,9 @@
 //! A step that leads nowhere: which one, and what is there.
 
 use crate::listing::{put_fields, put_listed, put_variants};
+use crate::meant::put_meant_pointer;
 use crate::notation::Notation;
+use crate::numbering::put_numbers;
 use bcs_decode_parts::PathStep;
 use bcs_decode_parts::here::{Here, Reached};
 use bcs_decode_parts::inside::{Inside, inside_of};
@@ -93,27 +95,47 @@ fn leads_nowhere(
             put_chosen(notation, variants, at.ahead.bytes, &mut line)?;
         }
         Inside::Option(_) => put_option(notation, at.ahead.bytes, &mut line)?,
-        Inside::List(element) => put_list(notation, element, at.ahead.bytes, &mut line)?,
-        Inside::Array(element, size) => put_row(
-            notation,
-            "an array of ",
-            element,
-            size,
-            &mut line,
-        )?,
-        Inside::Tuple(formats) => put_count("a tuple of ", formats.len() as u64, &mut line)?,
+        Inside::List(element) => { put_list(notation, step, element, at.ahead.bytes, &mut line)? }
+        Inside::Array(element, size) => {
+            put_count("an array of ", size, &mut line)?;
+            put_elements(notation, step, element, size, &mut line)?
+        }
+        Inside::Tuple(formats) => {
+            let count = formats.len() as u64;
+            put_count("a tuple of ", count, &mut line)?;
+            put_numbers(notation, step, count, &mut line)?
+        }
         Inside::Map(_, _) => put_map(notation, at.ahead.bytes, &mut line)?,
         Inside::Container(name) => put_container(name, &mut line)?,
         Inside::Nothing => put_leaf(&at.here, &mut line)?,
     }
+    put_spelling(alloc, notation, step, &mut line)?;
     at_step(alloc, notation, number, step, line)
+}
+
+// How to write a step of a pointer that is empty, or written as in another language.
+fn put_spelling(
+    alloc: Global,
+    notation: Notation,
+    step: &str,
+    line: &mut Vec<u8>,
+) -> Result<(), AllocError> {
+    match notation {
+        Notation::Pointer if step.is_empty() => {
+            line.extend_from_slice(b"; the step is empty: remove the / at the end, or one of two")
+        }
+        Notation::Pointer if step.contains('[') || step.contains("::") => {
+            put_meant_pointer(alloc, step, line)
+        }
+        _ => Ok(()),
+    }
 }
 
 // A step from an entry of a map, or a pointer that ends there.
 fn at_entry(alloc: Global, number: u64, step: &str) -> Result<Refusal, AllocError> {
     let message = Vec::from_slice(
         alloc,
-        b"an entry of a map; 1 leads to its value, and nothing to its key",
+        b"an entry of a map; 1 leads to its value, and no step to its key",
     )?;
     at_step(alloc, Notation::Pointer, number, step, message)
 }
@@ -172,28 +194,33 @@ fn put_option(notation: Notation, bytes: &[u8], line: &mut Vec<u8>) -> Result<()
 
 fn put_list(
     notation: Notation,
+    step: &str,
     element: &Format,
     bytes: &[u8],
     line: &mut Vec<u8>,
 ) -> Result<(), AllocError> {
     match after_number(bytes) {
-        Some((count, _)) => put_row(notation, "a list of ", element, u64::from(count), line),
+        Some((count, _)) => {
+            put_count("a list of ", u64::from(count), line)?;
+            put_elements(notation, step, element, u64::from(count), line)
+        }
         None => line.extend_from_slice(b"a list"),
     }
 }
 
-// Bytes are a string in JSON, so no pointer leads to one of them.
-fn put_row(
+// How to write an element. Bytes are a string in JSON, so no pointer leads to one of them.
+fn put_elements(
     notation: Notation,
-    words: &str,
+    step: &str,
     element: &Format,
     count: u64,
     line: &mut Vec<u8>,
 ) -> Result<(), AllocError> {
-    put_count(words, count, line)?;
     match (notation, element) {
-        (Notation::Pointer, Format::U8) => line.extend_from_slice(b" U8, a string in JSON"),
-        _ => Ok(()),
+        (Notation::Pointer, Format::U8) => {
+            line.extend_from_slice(b" U8, a string in JSON; no pointer leads into it")
+        }
+        _ => put_numbers(notation, step, count, line),
     }
 }
 
@@ -203,7 +230,8 @@ fn put_map(notation: Notation, bytes: &[u8], line: &mut Vec<u8>) -> Result<(), A
         None => line.extend_from_slice(b"a map")?,
     }
     line.extend_from_slice(match notation {
-        Notation::Path => b"; key:DIGITS leads to a value",
+        Notation::Path =>
+            b"; key:DIGITS leads to a value, with all bytes of its key: explain --paths prints them",
         Notation::Name => b"; [key:DIGITS] leads to a value, or [value NUMBER] if its key is long",
         Notation::Pointer => b"; NUMBER/1 leads to a value",
     })

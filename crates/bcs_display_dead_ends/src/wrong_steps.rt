@@ -1,5 +1,6 @@
 //! Texts that aren't names of parts, or aren't JSON Pointers.
 
+use crate::meant::{put_meant_name, put_meant_pointer};
 use crate::notation::Notation;
 use crate::nowhere::at_step;
 use bcs_display_refusal::{Location, Refusal};
@@ -11,8 +12,38 @@ use std::str::from_utf8;
 pub fn wrong_name(alloc: Global, name: &str) -> Result<Refusal, AllocError> {
     let (index, rest) = wrong_step(alloc, name)?;
     let number = (index as u64).saturating_add(1);
-    let expected = b"expected ., .NAME, ::NAME, ?, [NUMBER], [key:DIGITS] or [value NUMBER]";
-    bad_step(alloc, Notation::Name, number, first_of(rest), expected)
+    let mut message = Vec::from_slice(
+        alloc,
+        b"expected ., .NAME, ::NAME, ?, [NUMBER], [key:DIGITS] or [value NUMBER]",
+    )?;
+    let step = first_of(rest);
+    put_name_advice(alloc, name, number, step, &mut message)?;
+    bad_step(alloc, Notation::Name, number, step, message)
+}
+
+// What to write in place of a step that is none.
+fn put_name_advice(
+    alloc: Global,
+    name: &str,
+    number: u64,
+    step: &str,
+    message: &mut Vec<u8>,
+) -> Result<(), AllocError> {
+    if step == "[bcs]" {
+        return message.extend_from_slice(
+            b"; [bcs] is what explain --inside shows, and no step: take the byte string with --content",
+        );
+    }
+    if number != 1 {
+        return Ok(());
+    }
+    match name.as_bytes().first() {
+        Some(b'/') => {
+            message.extend_from_slice(b"; a pointer such as /a/0 belongs to --pointer")
+        }
+        Some(b'$' | b'_' | b'a'..=b'z' | b'A'..=b'Z') => put_meant_name(alloc, name, message),
+        _ => Ok(()),
+    }
 }
 
 // The text before the next step, as far as its characters show it.
@@ -41,16 +72,18 @@ pub fn wrong_pointer(alloc: Global, pointer: &str) -> Result<Refusal, AllocError
     let mut number: u64 = 0;
     for step in pointer.split('/') {
         if number == 0 && !step.is_empty() {
-            return bad_step(alloc, notation, 1, step, b"expected / before each step");
+            let mut message = Vec::from_slice(alloc, b"expected / before each step")?;
+            match pointer.strip_prefix('#') {
+                Some(rest) if rest.is_empty() || rest.starts_with('/') => {
+                    message.extend_from_slice(b"; remove the #")?
+                }
+                _ => put_meant_pointer(alloc, pointer, &mut message)?,
+            }
+            return bad_step(alloc, notation, 1, step, message);
         }
         if has_lone_tilde(step) {
-            return bad_step(
-                alloc,
-                notation,
-                number,
-                step,
-                b"expected ~0 for ~, or ~1 for /",
-            );
+            let message = Vec::from_slice(alloc, b"expected ~0 for ~, or ~1 for /")?;
+            return bad_step(alloc, notation, number, step, message);
         }
         number = number.saturating_add(1);
     }
@@ -63,9 +96,8 @@ fn bad_step(
     notation: Notation,
     number: u64,
     step: &str,
-    expected: &[u8],
+    message: Vec<u8>,
 ) -> Result<Refusal, AllocError> {
-    let message = Vec::from_slice(alloc, expected)?;
     Ok(Refusal {
         fault: Some("BadPath"),
         ..at_step(alloc, notation, number, step, message)?

@@ -12,7 +12,8 @@ pub(crate) enum Content<'a> {
     /// The bytes of an integer of Move, of which BCS has no format.
     Number(&'a Format),
     Row(&'a [Format]),
-    Fields(&'a [Named<Format>]),
+    /// The fields of a struct, and the container's name, if the struct isn't a variant.
+    Fields(Option<&'a str>, &'a [Named<Format>]),
     Variants(Enum<'a>),
 }
 
@@ -39,7 +40,7 @@ impl<'a> Content<'a> {
             Container::UnitStruct => Content::Unit,
             Container::NewTypeStruct(format) => newtype(name, format),
             Container::TupleStruct(formats) => Content::Row(formats.as_slice()),
-            Container::Struct(fields) => Content::Fields(fields.as_slice()),
+            Container::Struct(fields) => Content::Fields(Some(name), fields.as_slice()),
             Container::Enum(variants) => Content::Variants(Enum { name, variants }),
         }
     }
@@ -68,7 +69,7 @@ impl<'a> From<&'a VariantFormat> for Content<'a> {
             VariantFormat::Unit => Content::Unit,
             VariantFormat::NewType(format) => Content::One(format),
             VariantFormat::Tuple(formats) => Content::Row(formats.as_slice()),
-            VariantFormat::Struct(fields) => Content::Fields(fields.as_slice()),
+            VariantFormat::Struct(fields) => Content::Fields(None, fields.as_slice()),
         }
     }
 }

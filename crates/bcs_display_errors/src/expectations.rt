@@ -11,6 +11,8 @@ use std::fmt;
 pub(crate) enum Expected<'a> {
     /// A fixed message.
     Words(&'static str),
+    /// A message, and what was found instead.
+    Found(&'static str, &'static str),
     /// An integer in the range of this integer, and not the number that was found.
     Whole(IntegerKind, FoundNumber<'a>),
     /// Nothing: values of this format aren't supported.
@@ -39,6 +41,7 @@ impl fmt::Display for Expected<'_> {
     fn fmt<W: fmt::Write>(&self, f: &mut fmt::Formatter<W>) -> fmt::Result {
         match self {
             Expected::Words(words) => f.write_str(words),
+            Expected::Found(words, found) => write!(f, "{words}, found {found}"),
             Expected::Whole(number, found) => {
                 write!(f, "{found}")?;
                 write_whole(*number, f)?;

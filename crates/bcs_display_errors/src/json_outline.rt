@@ -20,6 +20,21 @@ pub(crate) enum Outline<'a> {
     Object(BTreeSet<&'a str>),
 }
 
+impl Outline<'_> {
+    /// What it is.
+    pub(crate) fn words(&self) -> &'static str {
+        match self {
+            Outline::Null => "null",
+            Outline::Bool(true) => "true",
+            Outline::Bool(false) => "false",
+            Outline::Number(_) => "a number",
+            Outline::String(_) => "a string",
+            Outline::Array(_) => "an array",
+            Outline::Object(_) => "an object",
+        }
+    }
+}
+
 /// The JSON at the end of the steps. No tree of the document is built: its tokens are passed. `None`: nothing is there, or
 /// an allocation failed.
 pub(crate) fn json_outline<'a>(

@@ -26,7 +26,9 @@ pub(crate) fn expectation<'a>(
         Target::Content(Content::One(format)) => format_expectation(format, outline),
         Target::Content(Content::Number(format)) => number_expectation(format, outline),
         Target::Content(Content::Row(formats)) => row_expectation(formats.len() as u64, outline),
-        Target::Content(Content::Fields(fields)) => struct_expectation(alloc, fields, outline)?,
+        Target::Content(Content::Fields(name, fields)) => struct_expectation(
+            alloc, name, fields, outline,
+        )?,
         Target::Content(Content::Variants(choices)) => {
             enum_expectation(alloc, registry, choices, outline)?
         }
@@ -63,10 +65,19 @@ fn scalar_expectation<'a>(scalar: Scalar, outline: &Outline<'a>) -> Option<Expec
         Scalar::Bool => Expected::Words(words_for_bool(outline)),
         Scalar::Whole(number) => Expected::Whole(number, FoundNumber::of(outline)),
         Scalar::Unsupported(_) => Expected::Unsupported(scalar.word()),
-        Scalar::Str => Expected::Words("expected STR, a string"),
+        Scalar::Str => Expected::Words(words_for_text(outline)),
         Scalar::Bytes => return bytes_expectation(outline),
     };
     Some(expectation)
+}
+
+fn words_for_text(outline: &Outline<'_>) -> &'static str {
+    match outline {
+        Outline::Number(_) => "expected STR, a string; write the number in double quotes",
+        Outline::Bool(_) => "expected STR, a string; write the word in double quotes",
+        Outline::Null => "expected STR, a string; only an option is null when absent",
+        _ => "expected STR, a string",
+    }
 }
 
 fn words_for_bool(outline: &Outline<'_>) -> &'static str {
@@ -91,11 +102,12 @@ fn map_expectation<'a>(outline: &Outline<'a>) -> Option<Expected<'a>> {
     if matches!(outline, Outline::Array(_)) {
         None
     } else {
-        Some(Expected::Words(
-            "expected an array of entries, each an array of a key and its value, as [[1,2],[3,4]]",
-        ))
+        Some(found_instead(ENTRIES, outline))
     }
 }
+
+const ENTRIES: &str =
+    "expected an array of entries, each an array of a key and its value, as [[1,2],[3,4]]";
 
 fn option_expectation<'a>(outline: &Outline<'a>) -> Option<Expected<'a>> {
     let is_option = match outline {
@@ -112,13 +124,28 @@ fn option_expectation<'a>(outline: &Outline<'a>) -> Option<Expected<'a>> {
     }
 }
 
+// What was expected in place of this JSON. A string may have the JSON inside.
+fn found_instead<'a>(expected: &'static str, outline: &Outline<'a>) -> Expected<'a> {
+    match outline {
+        Outline::String(text) if has_json_inside(text) => Expected::Found(expected, INSIDE),
+        _ => Expected::Found(expected, outline.words()),
+    }
+}
+
+const INSIDE: &str = "a string with JSON inside; remove its quotes and backslashes (jq -r .)";
+
+fn has_json_inside(text: &str) -> bool {
+    let text = text.trim();
+    (text.starts_with('{') && text.ends_with('}')) || (text.starts_with('[') && text.ends_with(']'))
+}
+
 fn list_expectation<'a>(element: &Format, outline: &Outline<'a>) -> Option<Expected<'a>> {
     if matches!(outline, Outline::Array(_)) {
         None
     } else if matches!(element, Format::U8) {
         octets_expectation(outline)
     } else {
-        Some(Expected::Words("expected an array"))
+        Some(found_instead("expected an array", outline))
     }
 }
 
@@ -197,16 +224,40 @@ fn entry_expectation<'a>(outline: &Outline<'a>) -> Option<Expected<'a>> {
 
 fn struct_expectation<'a>(
     alloc: Global,
+    name: Option<&'a str>,
     fields: &'a [Named<Format>],
     outline: &Outline<'a>,
 ) -> Result<Option<Expected<'a>>, AllocError> {
     let Outline::Object(members) = outline else {
-        return Ok(Some(Expected::Words("expected an object with a member for each field")));
+        return Ok(Some(found_instead(OBJECT, outline)));
     };
     let names = names_of(alloc, fields)?;
+    if let Some(around) = name_around(name, &names, members) {
+        return Ok(Some(Expected::Named(AROUND, Name::of(around))));
+    }
     match missing_field(alloc, fields, &names, members)? {
         Some(missing) => Ok(Some(missing)),
         None => unknown_field(alloc, fields, &names, members),
+    }
+}
+
+const OBJECT: &str = "expected an object with a member for each field";
+
+const AROUND: &str =
+    "expected the fields, without an object around them: write only what is inside";
+
+// The container's own name, if it is that of the only member, and no field has it.
+fn name_around<'a>(
+    container: Option<&'a str>,
+    fields: &BTreeSet<&'a str>,
+    members: &BTreeSet<&'a str>,
+) -> Option<&'a str> {
+    let (_, last) = container?.rsplit_once("::").unwrap_or(("", container?));
+    let member = only_name(members)?;
+    if member == last && !fields.contains(&member) {
+        Some(member)
+    } else {
+        None
     }
 }
 

@@ -11,7 +11,7 @@ pub fn path_refusal(alloc: Global, word: &str) -> Result<Option<Refusal>, AllocE
     for text in word.split('/') {
         number = number.saturating_add(1);
         if !is_step(alloc, text)? {
-            return Ok(Some(bad_step(alloc, number, text)?));
+            return Ok(Some(bad_step(alloc, word, number, text)?));
         }
     }
     Ok(None)
@@ -26,9 +26,9 @@ fn is_step(alloc: Global, text: &str) -> Result<bool, AllocError> {
     }
 }
 
-fn bad_step(alloc: Global, number: u64, text: &str) -> Result<Refusal, AllocError> {
+fn bad_step(alloc: Global, word: &str, number: u64, text: &str) -> Result<Refusal, AllocError> {
     let words = if text.is_empty() {
-        "an empty step"
+        words_for_empty(word, number)
     } else {
         message_of(text)
     };
@@ -37,14 +37,39 @@ fn bad_step(alloc: Global, number: u64, text: &str) -> Result<Refusal, AllocErro
     Ok(Refusal::of("BadPath", location, message).in_argument("PATH"))
 }
 
+// What is wrong with PATH if a step of it is empty.
+fn words_for_empty(word: &str, number: u64) -> &'static str {
+    if word.is_empty() {
+        "an empty step; . is the path of the whole value"
+    } else if number == 1 {
+        "an empty step; remove the / at the start: a pointer such as /a/0 belongs to --pointer, or to a call by pointer"
+    } else if word.ends_with('/') && !word.contains("//") {
+        "an empty step; remove the / at the end"
+    } else {
+        "an empty step; remove one / of two"
+    }
+}
+
 const NAMED: &str =
     "expected a number, inner, or key: and hexadecimal digits; a name such as .a[0] belongs to --name, or to a call by name";
 
+const JOINED: &str =
+    "expected a number, inner, or key: and hexadecimal digits; steps are joined by /";
+
 // What is wrong with an invalid step that isn't empty.
 fn message_of(text: &str) -> &'static str {
+    let first = text.as_bytes().first().copied().unwrap_or(b' ');
     match text.strip_prefix("key:") {
         Some(digits) if has_prefix(digits.as_bytes()) => PREFIX,
-        _ if text.len() > 1 && text.starts_with('.') => NAMED,
+        None if is_name_start(first) && text.len() > 1 => NAMED,
+        None if first.is_ascii_digit() && text.contains('.') => JOINED,
+        None if text.starts_with('-') => {
+            "expected a number, inner, or key: and hexadecimal digits; elements are counted from 0"
+        }
         _ => "expected a number, inner, or key: and hexadecimal digits",
     }
+}
+
+fn is_name_start(byte: u8) -> bool {
+    byte.is_ascii_alphabetic() || matches!(byte, b'.' | b'[' | b'_' | b'$')
 }

@@ -83,7 +83,9 @@ impl<'a> Target<'a> {
     /// What the member of this name must be.
     fn member(self, registry: &Registry, name: &str) -> Option<Target<'a>> {
         let content = match self {
-            Target::Content(Content::Fields(fields)) => Content::One(field_called(fields, name)?),
+            Target::Content(Content::Fields(_, fields)) => Content::One(field_called(
+                fields, name,
+            )?),
             Target::Content(Content::Variants(choices)) => {
                 Content::from(choices.payload(registry, name)?)
             }

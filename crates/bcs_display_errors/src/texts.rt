@@ -49,6 +49,6 @@ fn expectation_at<'a>(
     };
     match opened(registry, place) {
         Some(location) => expectation(alloc, registry, location.target, outline),
-        None => Ok(Some(Expected::Words("more containers are open than allowed"))),
+        None => Ok(Some(Expected::Words("containers are nested more deeply than allowed"))),
     }
 }

@@ -7,7 +7,7 @@ use bcs_value::Limits;
 use std::alloc::Global;
 
 const DIGITS: &str =
-    "hexadecimal digits, where JSON belongs; decode reads such digits, and in JSON they belong in double quotes (a number has no leading zero)";
+    "found hexadecimal digits instead of JSON; decode reads such digits, and in JSON they belong in double quotes (a number has no leading zero)";
 
 const LINES: &str = "; --lines reads one document from each line";
 

@@ -1,5 +1,7 @@
 //! What is wrong with text that isn't JSON.
 
+use crate::other_forms::words_for_form;
+
 /// A mistake in such text.
 #[derive(Clone, Copy)]
 pub struct Mistake {
@@ -24,11 +26,14 @@ pub(crate) const TRAILING_COMMA: &str = "a comma after the last one; remove it";
 
 /// The words about brackets in too many brackets.
 pub(crate) const NESTED: &str =
-    "arrays and objects are nested more than 127 levels deep; this program reads no more";
+    "arrays and objects are nested more than 127 levels deep; this program reads at most 127";
 
 /// The words about a number that `f64` can't have.
 pub(crate) const BEYOND_F64: &str =
     "a number beyond F64, which ends at 1.8e308; no format has such a number";
+
+/// The words about UTF-16.
+pub(crate) const UTF_16: &str = "UTF-16; convert it to UTF-8 (iconv -f UTF-16 -t UTF-8)";
 
 /// The words about a NUL byte.
 pub(crate) const NUL: &str = "a NUL byte; remove it";
@@ -55,15 +60,17 @@ pub(crate) fn mistake_of_whole(text: &[u8]) -> Option<Mistake> {
     } else if text.starts_with(b"\xef\xbb\xbf") {
         "a byte order mark; save the document as UTF-8 without one"
     } else if is_utf16(text) {
-        "UTF-16; convert it to UTF-8 (iconv -f UTF-16 -t UTF-8)"
+        UTF_16
+    } else if let Some(words) = words_for_form(text) {
+        words
     } else {
         return not_utf8(text);
     };
     Some(Mistake::at_start(words))
 }
 
-// Whether the text begins with a byte order mark of UTF-16, or has a NUL byte beside each of its first two characters.
-fn is_utf16(text: &[u8]) -> bool {
+/// Whether the text begins with a byte order mark of UTF-16, or has a NUL byte beside each of its first two characters.
+pub(crate) fn is_utf16(text: &[u8]) -> bool {
     match text {
         [0xff, 0xfe, ..] | [0xfe, 0xff, ..] => true,
         [0, first, 0, second, ..] | [first, 0, second, 0, ..] => *first != 0 && *second != 0,

@@ -1,5 +1,6 @@
 //! The first mistake in text that isn't JSON.
 
+use crate::characters::odd_in_json;
 use crate::json_mistakes::{
     Mistake, NESTED, TRAILING_COMMA, mistake_of_whole, words_after_value, words_after_whole,
     words_for_name, words_for_value,
@@ -85,6 +86,9 @@ impl<'a> Scan<'a> {
 
     // Passes the token at the start of the rest.
     fn token(&mut self, alloc: Global, rest: &[u8]) -> Result<(), Mistake> {
+        if let Some(words) = odd_in_json(rest) {
+            return Err(self.mistake(words));
+        }
         let byte = rest.first().copied().unwrap_or(b' ');
         match self.awaited {
             Awaited::Value => self.value(alloc, byte, rest),

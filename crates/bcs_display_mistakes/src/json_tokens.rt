@@ -50,7 +50,19 @@ fn wrong_escape(text: &[u8], place: usize) -> Option<&'static str> {
             }
         },
         Some(b'"' | b'\\' | b'/' | b'b' | b'f' | b'n' | b'r' | b't') => None,
-        _ => Some("JSON has no such escape; write \\\\ for a backslash"),
+        other => Some(words_for_escape(other.copied())),
+    }
+}
+
+// What to write in place of an escape that JSON doesn't have.
+fn words_for_escape(byte: Option<u8>) -> &'static str {
+    match byte {
+        Some(b'\'') => "JSON has no such escape; write ' without a backslash",
+        Some(b'x') => "JSON has no \\x; write \\u00 and the two digits",
+        Some(b'U') => "JSON has no \\U; write the character, or \\u and four digits",
+        Some(b'0') => "JSON has no \\0; write \\u0000",
+        Some(b'\n' | b'\r') => "a backslash ends the line; write the string on one line",
+        _ => "JSON has no such escape; write \\\\ for a backslash",
     }
 }
 
@@ -106,7 +118,7 @@ pub(crate) fn number_len(alloc: Global, text: &[u8]) -> Result<usize, Mistake> {
         _ => whole,
     };
     let end = exponent_end(text, point)?;
-    if let Some(words) = wrong_tail(text.get(end)) {
+    if let Some(words) = wrong_tail(text.get(end..).unwrap_or(b"")) {
         return Err(Mistake::at_start(words).after(end));
     }
     let number = text.get(..end).unwrap_or(b"");
@@ -138,15 +150,29 @@ fn digits_end(text: &[u8], start: usize) -> Result<usize, Mistake> {
     }
 }
 
-// What is wrong with the character after a number, if it would belong to it.
-fn wrong_tail(byte: Option<&u8>) -> Option<&'static str> {
-    match *byte? {
+// What is wrong with the text after a number, if it would belong to it.
+fn wrong_tail(text: &[u8]) -> Option<&'static str> {
+    match *text.first()? {
+        _ if is_suffix(text) => Some("a number has no suffix; remove it"),
         b'n' => Some("a number ends before this n; remove it"),
         b'_' => Some("a number has no _ between its digits; remove it"),
         b'x' | b'X' => Some("a JSON number is decimal, without 0x"),
         0x80..=0xff => Some(TEXT),
         byte if byte.is_ascii_alphabetic() || b".+-'".contains(&byte) => Some(TEXT),
         _ => None,
+    }
+}
+
+// Whether the text begins with a type of a number, as other languages write it after the digits: u64, i8, usize, L or f.
+fn is_suffix(text: &[u8]) -> bool {
+    let end = text.iter().position(|byte| !byte.is_ascii_alphanumeric());
+    let word = text.get(..end.unwrap_or(text.len())).unwrap_or(b"");
+    match word {
+        [b'u' | b'i' | b'f', digits @ ..] => {
+            digits.iter().all(|byte| byte.is_ascii_digit()) || digits == b"size".as_slice()
+        }
+        [b'L' | b'l' | b'U' | b'F' | b'd' | b'm'] => true,
+        _ => word.eq_ignore_ascii_case(b"ul") || word.eq_ignore_ascii_case(b"ull"),
     }
 }
 
@@ -175,10 +201,31 @@ fn words_for_word(word: &[u8]) -> &'static str {
         "JSON writes null"
     } else if is_no_number(word) {
         "JSON has no NaN and no infinity, and neither has a format"
+    } else if is_yes(word) {
+        "text belongs in double quotes; for a Boolean, write true"
+    } else if is_no(word) {
+        "text belongs in double quotes; for a Boolean, write false"
     } else {
-        "text belongs in double quotes"
+        UNQUOTED
     }
 }
+
+fn is_yes(word: &[u8]) -> bool {
+    word.eq_ignore_ascii_case(b"yes")
+        || word.eq_ignore_ascii_case(b"on")
+        || word.eq_ignore_ascii_case(b"y")
+        || word.eq_ignore_ascii_case(b"t")
+}
+
+fn is_no(word: &[u8]) -> bool {
+    word.eq_ignore_ascii_case(b"no")
+        || word.eq_ignore_ascii_case(b"off")
+        || word.eq_ignore_ascii_case(b"n")
+        || word.eq_ignore_ascii_case(b"f")
+}
+
+/// The words about a text without quotes.
+pub const UNQUOTED: &str = "text belongs in double quotes";
 
 // Whether another language writes `null` so.
 fn is_null(word: &[u8]) -> bool {

@@ -41,7 +41,7 @@ impl Location {
     pub(crate) fn put(&self, spelling: Spelling, out: &mut Vec<u8>) -> Result<(), AllocError> {
         match self {
             Location::Whole => Ok(()),
-            Location::WholeText => out.extend_from_slice(b"the whole text"),
+            Location::WholeText => out.extend_from_slice(b"the document"),
             Location::WholeInput => out.extend_from_slice(b"the whole input"),
             Location::Byte(place) => {
                 let words = format!(in *out.allocator(); "byte {place} of the input")?;

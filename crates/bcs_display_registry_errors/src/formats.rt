@@ -1,14 +1,15 @@
 //! FORMAT, or NAME of `show`, with a name that no container has.
 
 use crate::nearest_containers::nearest_container;
-use crate::spellings::meant_word;
+use crate::other_types::meant_json;
+use crate::spellings::{known_word, meant_word};
 use bcs_display_mistakes::Suggestion;
 use bcs_display_refusal::{Location, Name, Refusal};
 use bcs_registry::{Registry, RegistryFault};
 use bcs_registry_json::format_text::format_from;
 use bcs_registry_json::json_text::registry_json;
 use bcs_registry_model::known::first_unknown;
-use std::alloc::Global;
+use std::alloc::{AllocError, Global};
 
 /// The refusal of a FORMAT that isn't JSON, if no container has this name. It may be meant as a format without a name, such
 /// as `U64`, so the message says how to write that.
@@ -22,6 +23,11 @@ pub fn unknown_word(
         return Ok(None);
     }
     let nearest = nearest_container(alloc, registry.containers(), word)?;
+    if nearest.is_none()
+        && let Some(message) = typed_message(alloc, word)?
+    {
+        return Ok(Some(unknown("FORMAT", message)));
+    }
     let meant = meant_word(alloc, word)?;
     let name = Name::of(word);
     let message = match (nearest, meant) {
@@ -29,9 +35,8 @@ pub fn unknown_word(
             "no container is called {name}; did you mean the format '\"{meant}\"', in both quotes?"
         )?,
         (None, None) => {
-            format!(in alloc;
-                "no container is called {name}; a format without a name is JSON, as '\"U64\"' or '{{\"SEQ\":\"U8\"}}'"
-            )?
+            let advice = advice_for(word);
+            format!(in alloc; "no container is called {name}; {advice}")?
         }
         (nearest, _) => {
             let suggestion = Suggestion::of(nearest);
@@ -39,6 +44,35 @@ pub fn unknown_word(
         }
     };
     Ok(Some(unknown("FORMAT", message)))
+}
+
+// About a FORMAT that is empty, or a type with parts as other languages write it.
+fn typed_message(alloc: Global, word: &str) -> Result<Option<String>, AllocError> {
+    if word.is_empty() {
+        let message = "FORMAT is empty; it is a container's name, or JSON as '\"U64\"'";
+        return Ok(Some(String::from_str(alloc, message)?));
+    }
+    if known_word(word).is_some() {
+        return Ok(None);
+    }
+    let Some(json) = meant_json(alloc, word)? else {
+        return Ok(None);
+    };
+    let name = Name::of(word);
+    Ok(Some(format!(in alloc; "no container is called {name}; did you mean the format '{json}'?")?))
+}
+
+// What to write in place of a name that is like no other.
+fn advice_for(word: &str) -> &'static str {
+    let is_file = word.contains('/')
+        || word.ends_with(".json")
+        || word.ends_with(".hex")
+        || word.ends_with(".bin");
+    if is_file {
+        "if this is a file, FORMAT is missing before it: REG comes first, then FORMAT, then FILE"
+    } else {
+        "a format without a name is JSON, as '\"U64\"' or '{\"SEQ\":\"U8\"}'"
+    }
 }
 
 /// The refusal of the NAME of `show`, if no container has this name.

@@ -5,6 +5,7 @@
 mod formats;
 mod growth;
 mod nearest_containers;
+mod other_types;
 mod owners;
 mod refusals;
 mod rules;

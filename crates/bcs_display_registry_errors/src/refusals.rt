@@ -4,7 +4,7 @@ use crate::formats::{unknown_name, unknown_word};
 use crate::rules::broken_rule;
 use crate::shapes::{format_misfit, registry_misfit};
 use crate::yaml::{YAML, begins_as_yaml};
-use bcs_display_mistakes::{Mistake, json_mistake};
+use bcs_display_mistakes::{Mistake, UNQUOTED, is_hexadecimal, json_mistake};
 use bcs_display_refusal::Refusal;
 use bcs_registry::RegistryFault;
 use std::alloc::Global;
@@ -30,10 +30,27 @@ pub fn registry_refusal(
 fn no_registry_json(alloc: Global, text: &[u8]) -> Option<Refusal> {
     let mistake = if begins_as_yaml(text) {
         Mistake::at_start(YAML)
+    } else if is_hexadecimal(text) {
+        Mistake::at_start(DIGITS)
     } else {
-        json_mistake(alloc, text)
+        described(json_mistake(alloc, text))
     };
     mistake.refusal(alloc, text)
+}
+
+const DIGITS: &str =
+    "found hexadecimal digits instead of a registry; REG comes first, then FORMAT, then FILE";
+
+const TEXT: &str =
+    "text belongs in double quotes; a registry is a JSON object (bcs-registry makes one from YAML)";
+
+// The mistake, and for a text that begins without quotes, what a registry is.
+fn described(mistake: Mistake) -> Mistake {
+    if mistake.place == 0 && mistake.words == UNQUOTED {
+        Mistake::at_start(TEXT)
+    } else {
+        mistake
+    }
 }
 
 /// Where FORMAT has this fault, for the registry with this JSON.

@@ -1,7 +1,8 @@
 //! What was found in the JSON of a registry or a format where something else was expected, and what to write.
 
+use crate::other_types::meant_json;
 use crate::shape_parts::Part;
-use crate::spellings::{meant_among, meant_word};
+use crate::spellings::{known_word, meant_among, meant_word};
 use bcs_display_mistakes::NearestName;
 use bcs_display_refusal::put_name;
 use bcs_display_text::columns::put_decimal;
@@ -25,14 +26,41 @@ pub(crate) fn put_found(
     match found {
         Value::Null | Value::Bool(_) | Value::Number(_) => {
             let text = format!(in alloc; ", found {found}")?;
-            out.extend_from_slice(text.as_bytes())
+            out.extend_from_slice(text.as_bytes())?;
+            out.extend_from_slice(advice_for_other(part, found).as_bytes())
         }
         Value::String(word) => put_word(alloc, part, word, out),
         Value::Array(items) => {
             out.extend_from_slice(b", found an array")?;
-            out.extend_from_slice(advice_for_array(part, items).as_bytes())
+            match (part, items.first()) {
+                (Part::Variants, Some(Value::String(name))) => {
+                    put_around(
+                        "; write an object, {\"0\":{\"",
+                        name,
+                        "\":\"UNIT\"}}, with the number of each variant",
+                        out,
+                    )
+                }
+                _ => out.extend_from_slice(advice_for_array(part, items).as_bytes()),
+            }
         }
         Value::Object(members) => put_members(alloc, part, members, out),
+    }
+}
+
+// What to write in place of null, a Boolean or a number.
+fn advice_for_other(part: Part, found: &Value) -> &'static str {
+    match (part, found) {
+        (Part::Container, Value::Null) => "; without fields, write \"UNITSTRUCT\"",
+        (Part::Payload, Value::Null) => "; without content, write \"UNIT\"",
+        (Part::Container, _) => "; write an object, as {\"STRUCT\":[{\"NAME\":\"U8\"}]}",
+        (Part::Payload, _) => "; write \"UNIT\", or an object, as {\"NEWTYPE\":\"U8\"}",
+        (Part::Format, _) => "; write a string, as \"U64\", or an object, as {\"SEQ\":\"U8\"}",
+        (Part::Field, _) => "; write an object, as {\"NAME\":\"U8\"}",
+        (Part::Variant, _) => "; write an object, as {\"NAME\":\"UNIT\"}",
+        (Part::Fields, _) => "; write an array, as [{\"NAME\":\"U8\"}]",
+        (Part::Formats, _) => "; write an array, as [\"U8\",\"U8\"]",
+        _ => "",
     }
 }
 
@@ -43,6 +71,12 @@ fn advice_for_array(part: Part, items: &[Value]) -> &'static str {
         Part::Format => "; a list is {\"SEQ\":\"U8\"}, and a tuple {\"TUPLE\":[\"U8\",\"U8\"]}",
         Part::Variants =>
             "; write an object, {\"0\":{\"NAME\":\"UNIT\"}}, with the number of each variant",
+        Part::Field => "; write an object, as {\"NAME\":\"U8\"}",
+        Part::Variant => "; write an object, as {\"NAME\":\"UNIT\"}",
+        Part::Container => "; write an object, as {\"TUPLESTRUCT\":[\"U8\",\"U8\"]}",
+        Part::Payload => "; write an object, as {\"TUPLE\":[\"U8\",\"U8\"]}",
+        Part::Map => "; write an object, as {\"KEY\":\"STR\",\"VALUE\":\"U8\"}",
+        Part::TupleArray => "; write an object, as {\"CONTENT\":\"U8\",\"SIZE\":32}",
         _ => "",
     }
 }
@@ -74,6 +108,7 @@ fn put_word(alloc: Global, part: Part, word: &str, out: &mut Vec<u8>) -> Result<
         Part::Variant if word == "UNIT" => out.extend_from_slice(VARIANT),
         Part::Variant => put_around("; write {\"", word, "\":\"UNIT\"}", out),
         Part::Formats => put_formats_advice(word, out),
+        Part::Field => put_around("; write an object, as {\"", word, "\":\"U8\"}", out),
         Part::Size => out.extend_from_slice(b"; write the number without quotes"),
         _ => Ok(()),
     }
@@ -100,8 +135,18 @@ fn put_formats_advice(word: &str, out: &mut Vec<u8>) -> Result<(), AllocError> {
 
 // What to write in place of a string that isn't the name of a format.
 fn put_format_advice(alloc: Global, word: &str, out: &mut Vec<u8>) -> Result<(), AllocError> {
+    if let Some(meant) = known_word(word) {
+        return put_around("; did you mean \"", meant, "\"?", out);
+    }
+    if let Some(json) = meant_json(alloc, word)? {
+        out.extend_from_slice(b"; write ")?;
+        return out.extend_from_slice(json.as_bytes());
+    }
     if let Some(meant) = meant_word(alloc, word)? {
         return put_around("; did you mean \"", meant, "\"?", out);
+    }
+    if word.eq_ignore_ascii_case("address") {
+        return out.extend_from_slice(ADDRESS.as_bytes());
     }
     if word.eq_ignore_ascii_case("U256") || word.eq_ignore_ascii_case("I256") {
         return put_around("; ", word, NO_256, out);
@@ -116,6 +161,9 @@ fn put_format_advice(alloc: Global, word: &str, out: &mut Vec<u8>) -> Result<(),
         out,
     )
 }
+
+const ADDRESS: &str =
+    "; an address of 32 bytes is {\"TUPLEARRAY\":{\"CONTENT\":\"U8\",\"SIZE\":32}}, and a container {\"TYPENAME\":\"address\"}";
 
 const NO_256: &str =
     " isn't a format of serde-reflection: write {\"TUPLEARRAY\":{\"CONTENT\":\"U8\",\"SIZE\":32}}";
@@ -196,9 +244,24 @@ fn put_member(alloc: Global, part: Part, name: &str, out: &mut Vec<u8>) -> Resul
     if part == Part::Container && FORMATS.contains(&name) {
         return put_around("; write {\"NEWTYPESTRUCT\":{\"", name, "\":..}}", out);
     }
+    if let Some(words) = words_for_member(part, name) {
+        return out.extend_from_slice(words.as_bytes());
+    }
     match meant_among(alloc, name, names)? {
         Some(meant) => put_around("; did you mean ", meant, "?", out),
         None => put_names(names, out),
+    }
+}
+
+// What to write in place of a member that belongs elsewhere.
+fn words_for_member(part: Part, name: &str) -> Option<&'static str> {
+    match part {
+        Part::Container if name == "UNITSTRUCT" => Some("; write \"UNITSTRUCT\" alone"),
+        Part::Payload if name == "UNIT" => Some("; write \"UNIT\" alone"),
+        Part::Format if CONTAINERS.contains(&name) => Some(
+            "; this belongs to a container of the registry, and a format names that: {\"TYPENAME\":\"NAME\"}",
+        ),
+        _ => None,
     }
 }
 
@@ -221,12 +284,65 @@ fn names_of(part: Part) -> &'static [&'static str] {
     }
 }
 
-/// Whether JSON looks like a value: no member of it looks like a container.
-pub(crate) fn looks_like_value(json: &Value) -> bool {
-    match json {
-        Value::Object(members) => !members
+/// What JSON probably is that isn't a registry, and what to do, if no member of it looks like a container.
+pub(crate) fn words_for_value(json: &Value) -> Option<&'static str> {
+    let Value::Object(members) = json else {
+        return None;
+    };
+    if members
+        .iter()
+        .any(|(_, member)| looks_like_container(member))
+        || members
             .iter()
-            .any(|(_, member)| looks_like_container(member)),
+            .all(|(_, member)| matches!(member, Value::Null))
+    {
+        return None;
+    }
+    Some(if members.contains_key("$schema") || members.contains_key("$defs") {
+        SCHEMA
+    } else if members.iter().any(|(_, member)| holds_container(member)) {
+        INSIDE
+    } else if members.iter().any(|(_, member)| holds_word(member)) {
+        FIELDS
+    } else {
+        VALUE
+    })
+}
+
+const SCHEMA: &str =
+    "; this is a JSON Schema, which bcs schema makes from a registry; a registry has containers, as {\"A\":{\"STRUCT\":[{\"x\":\"U64\"}]}}";
+
+const INSIDE: &str = "; the containers inside of it belong one level up";
+
+const FIELDS: &str = "; write its fields as {\"STRUCT\":[{\"NAME\":\"U8\"}]}";
+
+fn holds_container(json: &Value) -> bool {
+    match json {
+        Value::Object(members) => members.iter().any(|(_, member)| is_container(member)),
+        _ => false,
+    }
+}
+
+fn holds_word(json: &Value) -> bool {
+    match json {
+        Value::Object(members) => members.iter().any(|(_, member)| is_word(member)),
+        _ => false,
+    }
+}
+
+fn is_container(member: &Value) -> bool {
+    match member {
+        Value::String(word) => word.as_str() == "UNITSTRUCT",
+        Value::Object(members) => members
+            .iter()
+            .any(|(name, _)| is_container_word(name.as_str())),
+        _ => false,
+    }
+}
+
+fn is_word(member: &Value) -> bool {
+    match member {
+        Value::String(word) => word_format(word).is_some(),
         _ => false,
     }
 }

@@ -1,6 +1,6 @@
 //! Where the JSON of a registry or a format has a wrong shape or a wrong number.
 
-use crate::shape_hints::{VALUE, looks_like_value, put_found};
+use crate::shape_hints::{put_found, words_for_value};
 use crate::shape_parts::Part;
 use crate::shape_steps::{ShapeStep, location_of, value_at};
 use bcs_display_refusal::{Location, Refusal};
@@ -61,8 +61,10 @@ fn put_cause(
     steps: &[ShapeStep],
     out: &mut Vec<u8>,
 ) -> Result<(), AllocError> {
-    if part == Part::Container && looks_like_value(json) {
-        return out.extend_from_slice(VALUE.as_bytes());
+    if part == Part::Container
+        && let Some(words) = words_for_value(json)
+    {
+        return out.extend_from_slice(words.as_bytes());
     }
     match value_at(json, steps) {
         Some(found) if part != Part::VariantNumber => put_found(alloc, part, found, out),

@@ -2,7 +2,7 @@
 use Rattle.std.specs.Prelude.{◌≡◌, ◌≢◌, ◌⊎◌, ◌++◌, ℕ, List, [], Bool, true, false, Option, Some, None, String, codes, string_bytes}
 use Rattle.std.specs.declared.alloc.Global.{Global}
 use Rattle.bcs_io.specs.Taking as sink
-use Rattle.bcs_tool_command_line.specs.FaultPlaces.{ReportsPlace, cause_text, file_text}
+use Rattle.bcs_tool_command_line.specs.FaultPlaces.{ReportsPlace, output_cause_text, file_text}
 use Rattle.bcs_tool_command_line.specs.declared.file_cause.FileCause.{FileCause}
 use Rattle.bcs_tool_command_line.specs.declared.job.Job.{Job}
 use Rattle.bcs_tool_command_line.specs.declared.work.Outcome.{Outcome}
@@ -31,7 +31,7 @@ pub record RanOut (outcome : Outcome) : Type 0 where
 
 -- the file of `--output` couldn't be opened
 abbrev pub IsUnopenedFile : Bool → List ℕ → OpenFailed → Outcome → Type 0
-IsUnopenedFile quiet name (Refused cause) outcome = IsUnwritten quiet name (cause_text cause) outcome
+IsUnopenedFile quiet name (Refused cause) outcome = IsUnwritten quiet name (output_cause_text cause) outcome
 IsUnopenedFile quiet name OutOfMemory outcome = RanOut outcome
 
 module _ {T : Type 0} (stage : T → Stage) (received : T → Option (List ℕ)) where
@@ -39,7 +39,7 @@ module _ {T : Type 0} (stage : T → Stage) (received : T → Option (List ℕ))
   pub data FailsToStore (quiet : Bool) (name bytes : List ℕ) (old new : T) (outcome : Outcome) : Type 0 where
     unopened : Keeps stage received old new → (why : OpenFailed) → IsUnopenedFile quiet name why outcome
         → FailsToStore quiet name bytes old new outcome
-    unstored : IsUnstored stage received name bytes old new → (cause : FileCause) → IsUnwritten quiet name (cause_text cause) outcome
+    unstored : IsUnstored stage received name bytes old new → (cause : FileCause) → IsUnwritten quiet name (output_cause_text cause) outcome
         → FailsToStore quiet name bytes old new outcome
 
 module _ {E : Type 0} (told : E → Option (List ℕ)) (has_failed : E → Bool) where

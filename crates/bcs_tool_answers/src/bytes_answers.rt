@@ -12,6 +12,7 @@ use crate::base64_input::bytes_of_base64;
 use crate::blanks::without_blanks;
 use crate::explanations::answer_explain;
 use crate::input_places::{place_of_base64, place_of_digits};
+use crate::nested_places::place_of_nested;
 use crate::part_answers::answer_part;
 use crate::scan_answers::answer_scan;
 use crate::stop_answers::answer_stop;
@@ -159,7 +160,15 @@ fn answer_decode(
     match from_bcs(alloc, &asked.registry, &asked.format, &work.limits, bytes) {
         Ok(text) => shown(alloc, text),
         Err(FromFault::Stop(stop)) => answer_stop(alloc, work, asked, bytes, stop),
-        Err(FromFault::TooNested) => refused(alloc, "TooNested"),
+        Err(FromFault::TooNested) => answer_nested(alloc, work),
         Err(FromFault::OutOfMemory) => Err(AllocError),
     }
+}
+
+// The answer to bytes whose value has no JSON.
+fn answer_nested(alloc: Global, work: &Work) -> Result<Answer, AllocError>
+    ensures { IfOk result (λ a. (a.status ≡ 2) × (a.output.items ≡ refusal_line (codes "TooNested")) × MayReport work.now a.place.items) }
+{
+    let place = place_of_nested(alloc, work);
+    Ok(placed(refused(alloc, "TooNested")?, place))
 }

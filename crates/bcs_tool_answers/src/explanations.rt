@@ -12,7 +12,9 @@ use crate::stop_answers::answer_stop;
 use crate::validating::Asked;
 use bcs_decode::Stop;
 use bcs_display_candidates::put_only_candidate;
-use bcs_display_pieces::{Explanation, RefusedCall, RefusedView, Views, explain_in_columns, put_notes};
+use bcs_display_pieces::{
+    Explanation, RefusedCall, RefusedView, Views, explain_in_columns, put_notes,
+};
 use bcs_display_refusal::Refusal;
 use bcs_display_text::style::Form;
 use bcs_tool_command_line::{Command, Work};

@@ -5,9 +5,7 @@ ghost use Rattle.bcs_tool_answers.specs.Places.{IsAnswer, MayReport};
 
 use crate::answer::{Answer, placed, refused, shown};
 use crate::places::{place_of, place_of_line};
-use bcs_move::{
-    MadeRegistry, MoveFault, MoveRefusal, notes_line, registry_of_bytes, shown_refusal,
-};
+use bcs_move::{MadeRegistry, MoveFault, MoveRefusal, notes_line, registry_with, shown_refusal};
 use bcs_tool_command_line::{Command, Work};
 use std::alloc::{AllocError, Global};
 
@@ -52,7 +50,12 @@ fn made_registry(alloc: Global, work: &Work) -> Result<MadeRegistry, MoveFault>
             types.push(word.as_str())?;
         }
     }
-    registry_of_bytes(alloc, work.registry.as_slice(), &types)
+    registry_with(
+        alloc,
+        work.registry.as_slice(),
+        work.second.as_slice(),
+        &types,
+    )
 }
 
 // The notes. Empty for a quiet job, if there are none, or if an allocation fails.

@@ -10,7 +10,7 @@ use crate::blanks::without_blanks;
 use crate::input_places::{refusal_of_base64, refusal_of_digits};
 use crate::places::place_of;
 use crate::stop_answers::halt_refusal;
-use crate::text_places::limited_refusal;
+use crate::text_places::{limited_refusal, put_origin};
 use crate::validating::Asked;
 use base64::DecodeAllocError;
 use bcs_decode::{Reason, Stop, scan};
@@ -45,7 +45,7 @@ pub fn value_in(
             Ok(bytes) => value_of_bytes(alloc, work, asked, name, bytes),
             Err(FromHexError::OutOfMemory) => Err(AllocError),
             Err(_) => {
-                let refusal = refusal_of_digits(alloc, input);
+                let refusal = refusal_of_json(alloc, name, input);
                 refused_input(alloc, work, name, "BadHex", refusal)
             }
         },
@@ -144,11 +144,39 @@ fn place_of_text(
 ) -> Vec<u8>
     ensures { MayReport work.now result.items }
 {
-    let refusal = limited_refusal(alloc, work, asked, text, fault);
+    let refusal = named_refusal(alloc, work, asked, name, text, fault);
     if fault.fault == JsonFault::NotJson && are_digits(without_blanks(text)) {
         return place_in(alloc, work, name, advised(alloc, name, refusal));
     }
     place_in(alloc, work, name, refusal)
+}
+
+// Where JSON is refused, and where it comes from if it is empty.
+fn named_refusal(
+    alloc: Global,
+    work: &Work,
+    asked: &Asked,
+    name: &str,
+    text: &[u8],
+    fault: &TextRefusal,
+) -> Option<Refusal> {
+    let mut refusal = limited_refusal(alloc, work, asked, text, fault)?;
+    if name == "B" {
+        put_origin(text, name, &mut refusal.message).ok()?;
+    }
+    Some(refusal)
+}
+
+// Why an input isn't hexadecimal digits. What begins like JSON is probably that.
+fn refusal_of_json(alloc: Global, name: &str, input: &[u8]) -> Option<Refusal> {
+    let mut refusal = refusal_of_digits(alloc, input)?;
+    if matches!(without_blanks(input).first(), Some(b'{' | b'[' | b'"')) {
+        let option: &str = if name == "A" { "--a json" } else { "--b json" };
+        let mut message = Vec::from_slice(alloc, b"this looks like JSON; give ").ok()?;
+        message.extend_from_slice(option.as_bytes()).ok()?;
+        refusal.message = message;
+    }
+    Some(refusal)
 }
 
 fn are_digits(text: &[u8]) -> bool {

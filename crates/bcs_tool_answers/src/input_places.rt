@@ -4,7 +4,7 @@ ghost use Rattle.bcs_tool_answers.specs.Places.{MayReport};
 use crate::blanks::{blanks_before, without_blanks};
 use crate::places::{place_in_input, reports_place};
 use base64::DecodeError;
-use bcs_display_mistakes::{WrongText, input_refusal, wrong_input_digits};
+use bcs_display_mistakes::{WrongText, input_refusal, is_hexadecimal, wrong_input_digits};
 use bcs_display_refusal::Refusal;
 use bcs_tool_command_line::Work;
 use std::alloc::Global;
@@ -24,7 +24,7 @@ pub fn place_of_digits(alloc: Global, work: &Work, input: &[u8]) -> Vec<u8>
 pub fn place_of_base64(alloc: Global, work: &Work, input: &[u8], fault: DecodeError) -> Vec<u8>
     ensures { MayReport work.now result.items }
 {
-    place_of_input(alloc, work, input, "BadBase64", wrong_base64(fault))
+    place_of_input(alloc, work, input, "BadBase64", wrong_base64(input, fault))
 }
 
 /// Why this input isn't valid hexadecimal.
@@ -39,12 +39,34 @@ pub fn refusal_of_base64(alloc: Global, input: &[u8], fault: DecodeError) -> Opt
         alloc,
         blanks_before(input),
         "BadBase64",
-        wrong_base64(fault),
+        wrong_base64(input, fault),
     )
     .ok()
 }
 
-fn wrong_base64(fault: DecodeError) -> WrongText {
+fn wrong_base64(input: &[u8], fault: DecodeError) -> WrongText {
+    let wrong = wrong_place(fault);
+    match words_for_input(input) {
+        Some(words) => WrongText { words, ..wrong },
+        None => wrong,
+    }
+}
+
+// What an input is that isn't base64 as a whole, if it shows that.
+fn words_for_input(input: &[u8]) -> Option<&'static str> {
+    let text = without_blanks(input);
+    if is_hexadecimal(text) {
+        Some("hexadecimal digits, and not base64; leave out --base64")
+    } else if text.starts_with(b"-----") {
+        Some("PEM; remove the lines with dashes, and join the others")
+    } else if text.starts_with(b"data:") {
+        Some("a data URL; write only what follows its comma")
+    } else {
+        None
+    }
+}
+
+fn wrong_place(fault: DecodeError) -> WrongText {
     let (place, words) = match fault {
         DecodeError::InvalidByte(place, byte) => (Some(place), words_for_base64(byte)),
         DecodeError::InvalidLastSymbol { offset, .. } => (

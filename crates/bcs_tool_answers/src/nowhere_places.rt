@@ -1,6 +1,7 @@
 //! Where steps lead nowhere, or to a part without a content.
 ghost use Rattle.bcs_tool_answers.specs.Places.{MayReport};
 
+use crate::newtypes::newtypes_at;
 use crate::places::{place_in_input, place_of, reports_place};
 use crate::validating::Asked;
 use bcs_display_dead_ends::{nowhere_on_name, nowhere_on_path, nowhere_on_pointer};
@@ -31,16 +32,21 @@ pub fn place_of_nowhere(
 
 /// The part that has no content, by the argument that leads to it. Empty for a quiet job, for a line of an input unless
 /// refusals are JSON, or if an allocation fails.
-pub fn place_of_no_content(alloc: Global, work: &Work) -> Vec<u8>
+pub fn place_of_no_content(alloc: Global, work: &Work, asked: &Asked, bytes: &[u8]) -> Vec<u8>
     ensures { MayReport work.now result.items }
 {
     if !reports_place(work) {
         return Vec::new(alloc);
     }
-    place_in_input(alloc, work, no_content(alloc, work).ok())
+    place_in_input(alloc, work, no_content(alloc, work, asked, bytes).ok())
 }
 
-fn no_content(alloc: Global, work: &Work) -> Result<Refusal, AllocError> {
+fn no_content(
+    alloc: Global,
+    work: &Work,
+    asked: &Asked,
+    bytes: &[u8],
+) -> Result<Refusal, AllocError> {
     Ok(Refusal {
         input: None,
         argument: Some(match work.options.notation {
@@ -50,11 +56,35 @@ fn no_content(alloc: Global, work: &Work) -> Result<Refusal, AllocError> {
         }),
         location: Location::Name(String::from_str(alloc, work.path.as_str())?),
         fault: Some("NoContent"),
-        message: Vec::from_slice(
-            alloc,
-            b"only STR, BYTES, and lists and arrays of U8 have a content, and no container around one: explain --paths prints its PATH; or leave out --content",
-        )?,
+        message: no_content_message(alloc, work, asked, bytes)?,
     })
+}
+
+fn no_content_message(
+    alloc: Global,
+    work: &Work,
+    asked: &Asked,
+    bytes: &[u8],
+) -> Result<Vec<u8>, AllocError> {
+    let count = match work.options.notation {
+        Notation::Path => newtypes_at(alloc, work, asked, bytes, asked.path.as_slice())?,
+        Notation::Names | Notation::Pointer => 0,
+    };
+    if count == 0 {
+        return Vec::from_slice(
+            alloc,
+            b"only STR, BYTES, and lists and arrays of U8 have a content: leave out --content",
+        );
+    }
+    let mut message = Vec::from_slice(alloc, b"PATH is that of a newtype: its content is at ")?;
+    if work.path.as_str() != "." {
+        message.extend_from_slice(work.path.as_bytes())?;
+        message.push(b'/')?;
+    }
+    for number in 0..count {
+        message.extend_from_slice(if number == 0 { b"inner" } else { b"/inner" })?;
+    }
+    Ok(message)
 }
 
 // The first step that leads nowhere.

@@ -15,6 +15,7 @@ ghost use Rattle.bcs_tool_answers.specs.Preparing.{IsAskedBy};
 ghost use Rattle.bcs_tool_answers.specs.Notations.{SpellsSteps};
 
 use crate::answer::{Answer, found, nowhere, placed, ranged, refused};
+use crate::newtypes::into_newtypes;
 use crate::nowhere_places::{place_of_no_content, place_of_nowhere};
 use crate::stop_answers::answer_stop;
 use crate::validating::Asked;
@@ -75,7 +76,8 @@ fn answer_scanned(
     }
 }
 
-// Similarly for names and pointers. The contract allows any steps, since which part the names mean is only for display.
+// Similarly for names and pointers. The contract allows any steps, since which part the names mean is only for display: with
+// `--content`, they mean what is inside of newtypes.
 fn answer_named(
     alloc: Global,
     work: &Work,
@@ -90,6 +92,7 @@ fn answer_named(
     ensures { IfOk result (λ a. AnswersBytes work.now bytes.now a) }
 {
     let Led { path, nowhere } = led;
+    let path = into_newtypes(alloc, work, asked, bytes, path)?;
     answer_steps(alloc, work, asked, bytes, path.as_slice(), nowhere)
 }
 
@@ -115,7 +118,7 @@ fn answer_steps(
             let place = place_of_nowhere(alloc, work, asked, bytes, end);
             answer_nowhere(alloc, work, place)
         }
-        Err(NoContent) => answer_no_content(alloc, work),
+        Err(NoContent) => answer_no_content(alloc, work, asked, bytes),
     }
 }
 
@@ -153,10 +156,15 @@ fn answer_found(alloc: Global, work: &Work, part: Part<'_>) -> Result<Answer, Al
 }
 
 // What is printed if the part has no content.
-fn answer_no_content(alloc: Global, work: &Work) -> Result<Answer, AllocError>
+fn answer_no_content(
+    alloc: Global,
+    work: &Work,
+    asked: &Asked,
+    bytes: &[u8],
+) -> Result<Answer, AllocError>
     ensures { IfOk result (λ a. (a.status ≡ 2) × (a.output.items ≡ refusal_line (codes "NoContent")) × MayReport work.now a.place.items) }
 {
-    let place = place_of_no_content(alloc, work);
+    let place = place_of_no_content(alloc, work, asked, bytes);
     Ok(placed(refused(alloc, "NoContent")?, place))
 }
 

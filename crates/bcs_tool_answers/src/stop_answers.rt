@@ -5,6 +5,7 @@ ghost use Rattle.bcs_tool_answers.specs.Places.{MayReport};
 ghost use Rattle.bcs_tool_answers.specs.Preparing.{IsAskedBy};
 
 use crate::answer::{Answer, placed, stopped};
+use crate::coding_hints::put_coding_hint;
 use crate::places::{place_in_input, reports_place};
 use crate::validating::Asked;
 use bcs_decode::Stop;
@@ -40,9 +41,28 @@ fn place_of_stop(alloc: Global, work: &Work, asked: &Asked, bytes: &[u8], stop: 
     if !reports_place(work) {
         return Vec::new(alloc);
     }
-    match halt_refusal(alloc, work, asked, bytes, stop) {
+    match hinted_refusal(alloc, work, asked, bytes, stop) {
         Ok(refusal) => place_in_input(alloc, work, refusal),
         Err(AllocError) => Vec::new(alloc),
+    }
+}
+
+// The refusal for a stop, and what to do if the input is written in another way.
+fn hinted_refusal(
+    alloc: Global,
+    work: &Work,
+    asked: &Asked,
+    bytes: &[u8],
+    stop: Stop,
+) -> Result<Option<Refusal>, AllocError>
+    requires { IsAskedBy work.now asked.now }
+{
+    match halt_refusal(alloc, work, asked, bytes, stop)? {
+        Some(mut refusal) => {
+            put_coding_hint(alloc, work.coding(), bytes, &mut refusal.message)?;
+            Ok(Some(refusal))
+        }
+        None => Ok(None),
     }
 }
 

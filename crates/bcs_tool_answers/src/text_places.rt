@@ -7,7 +7,7 @@ use bcs_display_errors::{put_text_limit, text_refusal};
 use bcs_display_refusal::Refusal;
 use bcs_json::{TextRefusal, read_value_or_refusal};
 use bcs_tool_command_line::Work;
-use std::alloc::Global;
+use std::alloc::{AllocError, Global};
 
 /// Where this text is refused. Empty for a job that reports no places, or if an allocation fails.
 pub fn place_of_refusal(
@@ -22,8 +22,21 @@ pub fn place_of_refusal(
     if !reports_place(work) {
         return Vec::new(alloc);
     }
-    let refusal = limited_refusal(alloc, work, asked, text, refusal);
+    let refusal = input_refusal(alloc, work, asked, text, refusal);
     place_in_input(alloc, work, refusal)
+}
+
+// The refusal of an input, and where it comes from if it is empty.
+fn input_refusal(
+    alloc: Global,
+    work: &Work,
+    asked: &Asked,
+    text: &[u8],
+    refusal: &TextRefusal,
+) -> Option<Refusal> {
+    let mut told = limited_refusal(alloc, work, asked, text, refusal)?;
+    put_origin(text, "FILE", &mut told.message).ok()?;
+    Some(told)
 }
 
 /// Where the job's text, or else this one, is refused. Empty for a quiet job, or if an allocation fails.
@@ -43,7 +56,11 @@ fn pair_refusal(alloc: Global, work: &Work, asked: &Asked, text: &[u8]) -> Optio
         Some(refusal) => ("A", first, refusal),
         None => ("B", text, refusal_of(alloc, work, asked, text)?),
     };
-    Some(limited_refusal(alloc, work, asked, text, &refusal)?.in_input(name))
+    let mut told = limited_refusal(alloc, work, asked, text, &refusal)?;
+    if name == "B" {
+        put_origin(text, name, &mut told.message).ok()?;
+    }
+    Some(told.in_input(name))
 }
 
 // Why the text is refused, if it is.
@@ -70,4 +87,14 @@ pub fn limited_refusal(
     )?;
     put_text_limit(limits, refusal.fault, &mut told.message).ok()?;
     Some(told)
+}
+
+/// Appends where the input comes from, if it is empty.
+pub fn put_origin(text: &[u8], file: &str, message: &mut Vec<u8>) -> Result<(), AllocError> {
+    if !text.trim_ascii().is_empty() {
+        return Ok(());
+    }
+    message.extend_from_slice(b"; without ")?;
+    message.extend_from_slice(file.as_bytes())?;
+    message.extend_from_slice(b", standard input is read")
 }

@@ -4,7 +4,7 @@ use Rattle.std.specs.declared.io.ErrorKind.{ErrorKind}
 use Rattle.std.specs.declared.io.ErrorKind.TheVariants as kind
 use Rattle.bcs_display_text.specs.Escaped.{escaped}
 use Rattle.bcs_tool_command_line.specs.declared.file_cause.FileCause.{FileCause}
-use Rattle.bcs_tool_command_line.specs.declared.file_cause.FileCause.TheVariants.{Missing, Forbidden, NotPermitted, NoFolder, Loop, LongName, BadName, Busy, Full, NoDevice, NoDescriptor, Other}
+use Rattle.bcs_tool_command_line.specs.declared.file_cause.FileCause.TheVariants.{Missing, NoRegistry, NoModules, NoFirstValue, NoInput, Unexpanded, Quoted, Remote, Folder, Forbidden, NotPermitted, NoFolder, Loop, LongName, BadName, Busy, Full, NoDevice, NoDescriptor, Other}
 use Rattle.bcs_tool_command_line.specs.declared.origin.Origin.{Origin}
 use Rattle.bcs_tool_command_line.specs.declared.origin.Origin.TheVariants.{File, StandardInput}
 use Rattle.bcs_io.specs.declared.taking.TakeFault.{TakeFault}
@@ -16,6 +16,7 @@ use Rattle.bcs_tool_command_line.specs.declared.unread_file.UnreadFile.TheVarian
 
 abbrev pub cause_of : ErrorKind → FileCause
 cause_of kind.NotFound = Missing
+cause_of kind.IsADirectory = Folder
 cause_of kind.PermissionDenied = Forbidden
 cause_of kind.NotADirectory = NoFolder
 cause_of kind.FilesystemLoop = Loop
@@ -37,6 +38,14 @@ cause_at number kind = if number == 1 then NotPermitted else (if number == 6 the
 -- behind the file's name; nothing of what has no word here
 abbrev pub cause_text : FileCause → List ℕ
 cause_text Missing = codes ": No such file or directory"
+cause_text NoRegistry = codes ": No such file or directory"
+cause_text NoModules = codes ": No such file or directory"
+cause_text NoFirstValue = codes ": No such file or directory"
+cause_text NoInput = codes ": No such file or directory"
+cause_text Unexpanded = codes ": No such file or directory"
+cause_text Quoted = codes ": No such file or directory"
+cause_text Remote = codes ": No such file or directory"
+cause_text Folder = codes ": Is a directory"
 cause_text Forbidden = codes ": Permission denied"
 cause_text NotPermitted = codes ": Operation not permitted"
 cause_text NoFolder = codes ": Not a directory"
@@ -49,10 +58,23 @@ cause_text NoDevice = codes ": No such device or address"
 cause_text NoDescriptor = codes ": Bad file descriptor"
 cause_text Other = []
 
--- behind that, where a reader may have given the content in place of a name
+-- behind that for a file that wasn't read: what to do
 abbrev pub advice_text : FileCause → List ℕ
-advice_text Missing = codes "; a value itself goes to standard input, a registry itself starts with {, and modules with { or ["
+advice_text NoRegistry = codes "; REG comes first, and a registry itself starts with {"
+advice_text NoModules = codes "; MODULES comes first, and modules themselves start with { or ["
+advice_text NoFirstValue = codes "; A is the name of a file, and a value itself goes to standard input, as B"
+advice_text NoInput = codes "; a value itself goes to standard input, as JSON or digits"
+advice_text Unexpanded = codes "; ~ and * are replaced by a shell alone, and only outside quotes"
+advice_text Quoted = codes "; its quotes are part of it: cmd.exe needs double quotes around REG, and escaped ones inside"
+advice_text Remote = codes "; download it first (curl -o FILE URL)"
+advice_text Folder = codes "; name a file in it"
 advice_text _ = []
+
+-- behind the name of a file that wasn't written
+abbrev pub output_cause_text : FileCause → List ℕ
+output_cause_text Missing = codes ": No such file or directory; make its folder first"
+output_cause_text Folder = codes ": Is a directory; name a file in it"
+output_cause_text cause = cause_text cause
 
 -- ---- the line
 

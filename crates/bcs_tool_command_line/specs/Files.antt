@@ -51,6 +51,12 @@ has_first_value Same = true
 has_first_value Diff = true
 has_first_value other = false
 
+-- whether the second word of a command is a registry: NEW, or REG of `--with`
+abbrev pub has_second_registry : Command → Bool
+has_second_registry Grows = true
+has_second_registry FromMove = true
+has_second_registry other = false
+
 -- these bytes may be the content: they are it, where it is known
 abbrev pub IsContent : Option (List ℕ) → List ℕ → Type 0
 IsContent None bytes = Unit {0}
@@ -59,11 +65,11 @@ IsContent (Some content) bytes = bytes ≡ content
 -- the job's registries, or its modules, are texts themselves, and it has no A, so that no file is read for its work
 abbrev pub NamesNoFile : Job → Type 0
 NamesNoFile job = (is_first_text job.command (string_bytes job.registry) ≡ true) × (has_first_value job.command ≡ false)
-    × (job.command ≡ Grows → is_registry_text (string_bytes job.second) ≡ true)
+    × (has_second_registry job.command ≡ true → is_registry_text (string_bytes job.second) ≡ true)
 
--- the job's second word names the file that its work needs: that of NEW, or of A
+-- the job's second word names the file that its work needs: that of NEW, of REG of `--with`, or of A
 abbrev pub NamesSecond : Job → List ℕ → Type 0
-NamesSecond job name = ((job.command ≡ Grows) × (is_registry_text name ≡ false) × (name ≡ string_bytes job.second))
+NamesSecond job name = ((has_second_registry job.command ≡ true) × (is_registry_text name ≡ false) × (name ≡ string_bytes job.second))
     ⊎ ((has_first_value job.command ≡ true) × (name ≡ string_bytes job.second))
 
 -- What files gave. Which file a name opens, no clause of std says: it is known what an opened file gave, and
@@ -104,6 +110,7 @@ module _ {F : Type 0} (remaining : F → Option (List ℕ)) where
   -- bytes that were read for the second word of a command: none where the command has none
   abbrev pub IsSecondOf : Command → List ℕ → List ℕ → Type 0
   IsSecondOf Grows word text = IsTextOfWord word text
+  IsSecondOf FromMove word text = IsTextOfWord word text
   IsSecondOf Same word text = IsFileText text
   IsSecondOf Diff word text = IsFileText text
   IsSecondOf other word text = text ≡ []

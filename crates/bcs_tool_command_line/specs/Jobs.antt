@@ -15,6 +15,7 @@ use Rattle.bcs_tool_command_line.specs.Options.{command_named, has_no_format}
 use Rattle.bcs_tool_command_line.specs.declared.coding.Coding.{Coding}
 use Rattle.bcs_tool_command_line.specs.declared.coding.Coding.TheVariants.{Hexadecimal, Base64, Raw}
 use Rattle.bcs_tool_command_line.specs.declared.command.Command.{Command}
+use Rattle.bcs_tool_command_line.specs.declared.command.Command.TheVariants.{FromMove}
 use Rattle.bcs_tool_command_line.specs.declared.job.Job.{Job}
 use Rattle.bcs_tool_command_line.specs.declared.job_options.JobOptions.{JobOptions}
 use Rattle.bcs_tool_command_line.specs.declared.notation.Notation.{Notation}
@@ -46,6 +47,11 @@ file_found found = file_by (notation_found found) found
 -- FORMAT; or for a command on bytes without one, a format that doesn't matter
 abbrev pub format_found : Command → List Row → Option Text
 format_found command found = if has_no_format command then Some (codes "\"UNIT\"") else first_of (codes "FORMAT") found
+
+-- the second argument: NEW, A, or REG of `--with`, which has no containers if it wasn't given
+abbrev pub second_found : Command → List Row → Option Text
+second_found FromMove found = option_or (first_of (codes "with") found) (Some (codes "{}"))
+second_found other found = option_or (first_of (codes "NEW") found) (first_of (codes "A") found)
 
 -- how bytes are read and written, with `--raw` and with `--base64`, which overrides it
 abbrev pub coding : Bool → Bool → Coding
@@ -115,7 +121,7 @@ HasNoOptions options = HasOptions [] options
 pub record IsJob (command : Command) (found : List Row) (job : Job) : Type 0 where
   pub same_command : job.command ≡ command
   pub registry : string_bytes job.registry ≡ text_or_empty (registry_found found)
-  pub second : string_bytes job.second ≡ text_or_empty (option_or (first_of (codes "NEW") found) (first_of (codes "A") found))
+  pub second : string_bytes job.second ≡ text_or_empty (second_found command found)
   pub format : string_bytes job.format ≡ text_or_empty (format_found command found)
   pub path : string_bytes job.path ≡ text_or_empty (path_found found)
   pub file : option_map string_bytes job.file ≡ file_found found

@@ -3,7 +3,7 @@ ghost use Rattle.std.specs.Prelude.{◌≡◌, ℕ, IfOk, map, option_map, strin
 ghost use Rattle.clap.specs.Words.{first_of, found_of, one_of, rows_of};
 ghost use Rattle.bcs_value_model.specs.Limits.{Bounds};
 ghost use Rattle.bcs_tool_command_line.specs.Options.{has_no_format};
-ghost use Rattle.bcs_tool_command_line.specs.Jobs.{IsGiven, IsJob, WritesLimit, WritesLimits, coding_found, file_found, format_found, has_value as has_value_in, is_set as is_set_in, notation_found, path_found, registry_found, text_or_empty};
+ghost use Rattle.bcs_tool_command_line.specs.Jobs.{IsGiven, IsJob, WritesLimit, WritesLimits, coding_found, file_found, format_found, has_value as has_value_in, is_set as is_set_in, notation_found, path_found, registry_found, second_found, text_or_empty};
 
 use crate::coding::Coding;
 use crate::command::Command;
@@ -22,7 +22,7 @@ pub fn job_of(alloc: Global, command: Command, given: &ArgMatches<'_>) -> Result
     Ok(Job {
         command,
         registry: text_of(alloc, registry_of(given))?,
-        second: text_of(alloc, given.get_str("NEW").or(given.get_str("A")))?,
+        second: text_of(alloc, second_of(command, given))?,
         format: text_of(alloc, format_of(command, given))?,
         path: text_of(alloc, path_of(given))?,
         file: given_name(alloc, file_of(given))?,
@@ -73,6 +73,16 @@ fn registry_of<'a>(given: &ArgMatches<'a>) -> Option<&'a str>
     given
         .get_str("REG")
         .or(given.get_str("OLD").or(given.get_str("MODULES")))
+}
+
+// The second argument: NEW, A, or REG of `--with`, which has no containers if it wasn't given.
+fn second_of<'a>(command: Command, given: &ArgMatches<'a>) -> Option<&'a str>
+    ensures { option_map (λ t. t.now) result ≡ second_found command (rows_of (found_of given.now)) }
+{
+    match command {
+        Command::FromMove => given.get_str("with").or(Some("{}")),
+        _ => given.get_str("NEW").or(given.get_str("A")),
+    }
 }
 
 // FORMAT; or for a command on bytes without one, a format that doesn't matter.

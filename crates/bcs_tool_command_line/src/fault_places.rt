@@ -1,6 +1,6 @@
 //! Where faults occurred: the line after the note.
 ghost use Rattle.std.specs.Prelude.{◌≡◌, ◌++◌, IfOk};
-ghost use Rattle.bcs_tool_command_line.specs.FaultPlaces.{ReportsPlace, advice_text, cause_text, file_place, file_text, origin_text, output_text, take_place};
+ghost use Rattle.bcs_tool_command_line.specs.FaultPlaces.{ReportsPlace, advice_text, cause_text, file_place, file_text, origin_text, output_cause_text, output_text, take_place};
 
 use crate::file_cause::FileCause;
 use crate::origin::Origin;
@@ -26,12 +26,12 @@ pub fn place_of_file(alloc: Global, quiet: bool, unread: UnreadFile, name: &str)
 /// The file of this name, which couldn't be written, and why. It is empty for a quiet job, or if no
 /// memory is left for it.
 pub fn place_of_output(alloc: Global, quiet: bool, cause: FileCause, name: &str) -> Vec<u8>
-    ensures { ReportsPlace quiet (file_text name.now ++ cause_text cause) result.items }
+    ensures { ReportsPlace quiet (file_text name.now ++ output_cause_text cause) result.items }
 {
     if quiet {
         return Vec::new(alloc);
     }
-    match caused_line(alloc, name, cause) {
+    match caused_line(alloc, name, cause.output_text()) {
         Ok(line) => line,
         Err(AllocError) => Vec::new(alloc),
     }
@@ -72,17 +72,17 @@ fn unread_line(alloc: Global, unread: UnreadFile, name: &str) -> Result<Vec<u8>,
 fn unopened_line(alloc: Global, name: &str, cause: FileCause) -> Result<Vec<u8>, AllocError>
     ensures { IfOk result (λ line. line.items ≡ (file_text name.now ++ cause_text cause) ++ advice_text cause) }
 {
-    let mut line = caused_line(alloc, name, cause)?;
+    let mut line = caused_line(alloc, name, cause.text())?;
     line.extend_from_slice(cause.advice().as_bytes())?;
     Ok(line)
 }
 
-// The file, and why the system couldn't open it.
-fn caused_line(alloc: Global, name: &str, cause: FileCause) -> Result<Vec<u8>, AllocError>
-    ensures { IfOk result (λ line. line.items ≡ file_text name.now ++ cause_text cause) }
+// The file, and why the system couldn't open or write it.
+fn caused_line(alloc: Global, name: &str, cause: &str) -> Result<Vec<u8>, AllocError>
+    ensures { IfOk result (λ line. line.items ≡ file_text name.now ++ cause.now) }
 {
     let mut line = file_line(alloc, name)?;
-    line.extend_from_slice(cause.text().as_bytes())?;
+    line.extend_from_slice(cause.as_bytes())?;
     Ok(line)
 }
 

@@ -54,6 +54,13 @@ const TYPE: Word<'static> = Word::Several(
     0x1::aptos_account::transfer, whose arguments get containers: 0x1::aptos_account::transfer::arg0 and so on",
 );
 
+const WITH: Word<'static> = Word::Text(
+    "with",
+    "REG",
+    "Adds the containers of this registry, its JSON or the name of its file, such as enums that the chain doesn't \
+    describe. Types that they name and it lacks are made, too",
+);
+
 const CONTAINER: Word<'static> = Word::Optional(
     "NAME",
     "The container to print, with everything it depends on, instead of the whole registry",
@@ -169,7 +176,8 @@ const POINTER: Word<'static> = Word::Text(
 
 const CONTENT: Word<'static> = Word::Flag(
     "content",
-    "Prints the content of a string, a byte string, or a list or array of U8, without its length",
+    "Prints the content of a string, a byte string, or a list or array of U8, without its length. With --name or \
+    --pointer, newtypes of one have it, too",
 );
 
 const RANGE: Word<'static> = Word::Flag(
@@ -262,7 +270,8 @@ const CALL: Word<'static> = Word::Repeated(
     "call",
     "NAME",
     "Explains the byte strings of the list at NAME as the arguments of the function that is called, by its containers \
-    in REG, such as FUNCTION::arg0. With NAME=FUNCTION, only if FUNCTION is called. May be given several times",
+    in REG, such as FUNCTION::arg0; or, if NAME is a list of Sui's commands, the inputs beside it. With \
+    NAME=FUNCTION, only if FUNCTION is called. May be given several times",
 );
 
 const ADDRESS: Word<'static> = Word::Repeated(
@@ -512,9 +521,12 @@ Status: 0 done, 2 refused, 3 usage, 4 file or memory",
     \"exposed_functions\":[{\"name\":\"f\",\"generic_type_params\":[],
     \"params\":[\"u8\"]}]}' 0x1::m::f | cut -c41-
     # \"0x1::m::f::arg0\":{\"NEWTYPESTRUCT\":\"U8\"}}
+  bcs from-move '[]' 'vector<0x1::m::E>' --with '{\"0x1::m::E\":{\"ENUM\":
+    {\"0\":{\"A\":\"UNIT\"}}}}' | cut -c42-
+    # \"vector<0x1::m::E>\":{\"NEWTYPESTRUCT\":{\"SEQ\":{\"TYPENAME\":\"0x1::m::E\"}}}}
 
 Status: 0 done, 2 refused, 3 usage, 4 file or memory",
-            words: &[MODULES, TYPE, QUIET, Word::Output],
+            words: &[MODULES, TYPE, WITH, QUIET, Word::Output],
         },
         Command::Encode => Row {
             name: "encode",
@@ -601,7 +613,7 @@ Status: 0 done, 2 refused, 3 usage, 4 file or memory",
         Command::Normalise => Row {
             name: "normalise",
             alias: Some("normalize"),
-            about: "Prints the JSON of a value in its one normal form",
+            about: "Prints a value's JSON in its one normal form",
             examples: "Example:
   echo '\"-4660\"' | bcs normalise '{}' '\"I16\"'  # -4660
   echo '{\"b\":true,\"a\":\"7\"}' |

@@ -4,7 +4,7 @@ pub const OUTPUT: &str =
     "Writes the answer to this file (- is standard output, ./- a file of that name). If the status isn't 0, \
     the file stays as it is, and the answer goes to standard error";
 
-pub const DEPTH: &str = "Limits how many containers may be open at once. At most 500, the default";
+pub const DEPTH: &str = "Limits how deeply containers may nest. At most 500, the default";
 
 pub const NODES: &str = "Limits how many nodes a value may have. At most 4294967295, the default";
 

@@ -11,7 +11,7 @@ pub struct Work {
     pub command: Command,
     /// The JSON of REG, of OLD or of MODULES.
     pub registry: Vec<u8>,
-    /// The JSON of NEW, or of A; empty if the command has neither.
+    /// The JSON of NEW, of A, or of REG of `--with`; empty if the command has neither.
     pub second: Vec<u8>,
     /// FORMAT as it is; empty if the command has no FORMAT.
     pub format: String,

@@ -2,7 +2,7 @@
 ghost use Rattle.std.specs.Prelude.{IfErr, IfOk};
 ghost use Rattle.bcs_tool.specs.Delivering.{Delivers, FailsToStore, IsUnopenedFile, IsUnwritten, PrintsAnswer, RanOut};
 ghost use Rattle.bcs_tool.specs.OutputFile.{IsStored};
-ghost use Rattle.bcs_tool_command_line.specs.FaultPlaces.{cause_text};
+ghost use Rattle.bcs_tool_command_line.specs.FaultPlaces.{output_cause_text};
 
 use crate::console::reporting::print_report;
 use crate::files::held_output::HeldOutput;
@@ -87,7 +87,7 @@ fn unopened(alloc: Global, quiet: bool, name: &str, why: OpenFailed) -> Outcome
 
 // The outcome of a job whose file wasn't written.
 fn unwritten(alloc: Global, quiet: bool, name: &str, cause: FileCause) -> Outcome
-    ensures { IsUnwritten quiet name.now (cause_text cause) result }
+    ensures { IsUnwritten quiet name.now (output_cause_text cause) result }
 {
     let place = place_of_output(alloc, quiet, cause, name);
     failed("fault: write", place)

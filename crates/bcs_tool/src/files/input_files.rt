@@ -3,14 +3,14 @@
 use bcs_tool_command_line::{Command, Display, with_color};
 use std::fs::File;
 use std::io;
-use std::io::Read;
+use std::io::{ErrorKind, Read};
 
 /// What a job needs of the system besides memory. Nothing can be opened for writing by it.
 pub trait InputFiles {
     /// A file that is open for reading.
     type File: Read + Drop;
 
-    /// Opens a file for reading.
+    /// Opens a file for reading. A folder has no content to read, so it isn't opened.
     fn open(&self, name: &str) -> io::Result<Self::File>;
 
     /// The same options with the color decided.
@@ -21,7 +21,11 @@ impl InputFiles for HostRuntime {
     type File = File;
 
     fn open(&self, name: &str) -> io::Result<File> {
-        File::open(self, name)
+        let file = File::open(self, name)?;
+        if file.metadata().is_ok_and(|found| found.is_dir()) {
+            return Err(io::Error::from(ErrorKind::IsADirectory));
+        }
+        Ok(file)
     }
 
     fn with_color(&self, command: Command, display: Display) -> Display {

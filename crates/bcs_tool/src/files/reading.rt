@@ -3,13 +3,13 @@ ghost use Rattle.std.specs.Prelude.{◌≡◌, ◌≢◌, ◌⊎◌, ◌≤◌, 
 ghost use Rattle.std.specs.Io.KnownBytes.{IsAtEnd};
 ghost use Rattle.bcs_io.specs.Giving.{Gave, GaveThenFailed};
 ghost use Rattle.bcs_tool_command_line.specs.Files.{size_limit};
-ghost use Rattle.bcs_tool_command_line.specs.Files.{IsFaultOfFiles, IsFileText, IsFirstOf, IsRefusalOf, IsSecondOf, IsTextOfWord, IsWorkOf, NamesNoFile, file_fault_of, has_first_value, is_first_text, is_registry_text};
+ghost use Rattle.bcs_tool_command_line.specs.Files.{IsFaultOfFiles, IsFileText, IsFirstOf, IsRefusalOf, IsSecondOf, IsTextOfWord, IsWorkOf, NamesNoFile, file_fault_of, has_first_value, has_second_registry, is_first_text, is_registry_text};
 
 use crate::files::input_files::InputFiles;
 use bcs_io::{ByteSource, ReadSource, TakeFault, take_all};
 use bcs_tool_command_line::limits::SIZE_LIMIT;
 use bcs_tool_command_line::{
-    Command, FileCause, FileFault, FileRefusal, Job, JobOptions, UnreadFile, Work,
+    Command, FileCause, FileFault, FileRefusal, FileRole, Job, JobOptions, UnreadFile, Work,
 };
 use std::alloc::{AllocError, Global};
 
@@ -26,23 +26,32 @@ pub fn read_named<R: InputFiles + AllocGlobal>(rt: &R, name: &str) -> Result<Vec
 }
 
 // The same, with the cause if the file couldn't be opened.
-fn read_file<R: InputFiles + AllocGlobal>(rt: &R, name: &str) -> Result<Vec<u8>, UnreadFile>
+fn read_file<R: InputFiles + AllocGlobal>(
+    rt: &R,
+    role: FileRole,
+    name: &str,
+) -> Result<Vec<u8>, UnreadFile>
     ensures within { IfOk result (λ v. vec_len v ≤ size_limit) }
     ensures text { IfOk result (λ v. IsFileText R.File.remaining v.items) }
     ensures fault { IfErr result (λ e. IsFaultOfFiles R.File.remaining (file_fault_of e)) }
 {
     match read_named(rt, name) {
         Ok(text) => Ok(text),
-        Err(fault) => Err(unread_file(rt, name, fault)),
+        Err(fault) => Err(unread_file(rt, role, name, fault)),
     }
 }
 
 // The fault of the file of this name, with the cause if it couldn't be opened.
-fn unread_file<R: InputFiles + AllocGlobal>(rt: &R, name: &str, fault: FileFault) -> UnreadFile
+fn unread_file<R: InputFiles + AllocGlobal>(
+    rt: &R,
+    role: FileRole,
+    name: &str,
+    fault: FileFault,
+) -> UnreadFile
     ensures { file_fault_of result ≡ fault }
 {
     match fault {
-        FileFault::Open => UnreadFile::OpenFailed(open_cause(rt, name)),
+        FileFault::Open => UnreadFile::OpenFailed(open_cause(rt, role, name)),
         FileFault::Read => UnreadFile::ReadFailed(TakeFault::Read),
         FileFault::TooLarge => UnreadFile::ReadFailed(TakeFault::TooLarge),
         FileFault::OutOfMemory => UnreadFile::ReadFailed(TakeFault::OutOfMemory),
@@ -50,10 +59,10 @@ fn unread_file<R: InputFiles + AllocGlobal>(rt: &R, name: &str, fault: FileFault
 }
 
 // Why a file of this name, which couldn't be opened before, can't be opened now. It is only shown to people.
-fn open_cause<R: InputFiles + AllocGlobal>(rt: &R, name: &str) -> FileCause {
+fn open_cause<R: InputFiles + AllocGlobal>(rt: &R, role: FileRole, name: &str) -> FileCause {
     match rt.open(name) {
         Ok(_) => FileCause::Other,
-        Err(error) => FileCause::of(&error),
+        Err(error) => FileCause::of(&error).of_file(role, name),
     }
 }
 
@@ -126,14 +135,14 @@ fn read_second<R: InputFiles + AllocGlobal>(
 ) -> Result<Vec<u8>, UnreadFile>
     ensures text { IfOk result (λ v. IsSecondOf R.File.remaining command word.now v.items) }
     ensures fault { IfErr result (λ e. IsFaultOfFiles R.File.remaining (file_fault_of e)) }
-    ensures good { has_first_value command ≡ false → (command ≡ Command.Grows → is_registry_text word.now ≡ true)
+    ensures good { has_first_value command ≡ false → (has_second_registry command ≡ true → is_registry_text word.now ≡ true)
         → IsOkUnless result (UnreadFile.ReadFailed TakeFault.OutOfMemory) }
     ensures named { IfErr result (λ e. e ≢ UnreadFile.ReadFailed TakeFault.OutOfMemory
-        → (has_first_value command ≡ true) ⊎ ((command ≡ Command.Grows) × (is_registry_text word.now ≡ false))) }
+        → (has_first_value command ≡ true) ⊎ ((has_second_registry command ≡ true) × (is_registry_text word.now ≡ false))) }
 {
     match command {
-        Command::Grows => read_registry(rt, word),
-        Command::Same | Command::Diff => read_file(rt, word),
+        Command::Grows | Command::FromMove => read_registry(rt, word),
+        Command::Same | Command::Diff => read_file(rt, FileRole::FirstValue, word),
         _ => Ok(Vec::new(rt.alloc())),
     }
 }
@@ -152,7 +161,14 @@ fn read_first_word<R: InputFiles + AllocGlobal>(
     if is_first_text(command, word) {
         copy(rt.alloc(), word)
     } else {
-        read_file(rt, word)
+        read_file(rt, first_role(command), word)
+    }
+}
+
+fn first_role(command: Command) -> FileRole {
+    match command {
+        Command::FromMove => FileRole::Modules,
+        _ => FileRole::Registry,
     }
 }
 
@@ -175,7 +191,7 @@ fn read_registry<R: InputFiles + AllocGlobal>(rt: &R, word: &str) -> Result<Vec<
     if is_registry_text(word) {
         copy(rt.alloc(), word)
     } else {
-        read_file(rt, word)
+        read_file(rt, FileRole::Registry, word)
     }
 }
 

@@ -8,7 +8,7 @@ use crate::files::reading::read_work;
 use crate::jobs::running::{failed, outcome_of, validate_and_answer};
 use bcs_io::{ByteSink, ByteSource, ReadSource, TakeFault};
 use bcs_tool_command_line::{
-    FileCause, FileFault, Job, Origin, Outcome, UnreadFile, place_of_file,
+    FileCause, FileFault, FileRole, Job, Origin, Outcome, UnreadFile, place_of_file,
 };
 use std::alloc::Global;
 use std::io::BufReader;
@@ -58,7 +58,10 @@ fn open_input<R: InputFiles + AllocGlobal>(
             Ok(reader) => Ok(reader),
             Err(_) => Err(UnreadFile::ReadFailed(TakeFault::OutOfMemory)),
         },
-        Err(error) => Err(UnreadFile::OpenFailed(FileCause::of(&error))),
+        Err(error) => {
+            let cause = FileCause::of(&error).of_file(FileRole::Input, name);
+            Err(UnreadFile::OpenFailed(cause))
+        },
     }
 }
 

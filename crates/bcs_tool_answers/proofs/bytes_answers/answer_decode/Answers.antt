@@ -21,5 +21,5 @@ returns-in-Err-TooNested c =
     let asked = c.args.asked.now in
     let bytes = c.args.bytes.now in
     let deep = nests asked.registry c.args.work.now.limits (shape_of asked.format) bytes c.in-Err-TooNested.field-0 c.in-Err-TooNested.field-0-is c.in-Err-TooNested.ensures in
-    IfOk-weaker c.refused.result _ _ (λ a is input within gives. same_answer _ input a 2 _ is
-    (too_nested _ _ bytes deep.0 (is_asked input Decode c.requires.command c.requires.asked within) gives deep.1 deep.2)) c.refused.ensures
+    IfOk-weaker c.answer_nested.result _ _ (λ a is input within gives. placed_answer _ input 2 _ a is.0 is.1 is.2
+    (too_nested _ _ bytes deep.0 (is_asked input Decode c.requires.command c.requires.asked within) gives deep.1 deep.2)) c.answer_nested.ensures

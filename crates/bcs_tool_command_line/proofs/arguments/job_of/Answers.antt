@@ -1,15 +1,12 @@
-use Rattle.bcs_tool_command_line.proofs.Prelude.{◌∙◌, ap, codes, refl, rules, found_of, first_value-rows, text_or_empty}
-use Rattle.bcs_tool_command_line.proofs.FoundTexts.{either}
+use Rattle.bcs_tool_command_line.proofs.Prelude.{◌∙◌, ap, refl, rules, text_or_empty}
 use Rattle.bcs_tool_command_line.proofs.arguments.job_of.Goals as goal
 
 pub returns : goal.returns
 returns c =
-    let f = found_of c.args.given.now in
     record {
       same_command = refl;
       registry = c.in_ok-text_of.ensures ∙ ap text_or_empty c.registry_of.ensures;
-      second = c.in_ok-text_of-2.ensures ∙ ap text_or_empty (either c.get_str.result c.get_str-2.result c.or.result _ _ c.or.ensures (c.get_str.ensures ∙ first_value-rows f (codes "NEW"))
-          (c.get_str-2.ensures ∙ first_value-rows f (codes "A")));
+      second = c.in_ok-text_of-2.ensures ∙ ap text_or_empty c.second_of.ensures;
       format = c.in_ok-text_of-3.ensures ∙ ap text_or_empty c.format_of.ensures;
       path = c.in_ok-text_of-4.ensures ∙ ap text_or_empty c.path_of.ensures;
       file = c.in_ok-given_name.ensures ∙ c.file_of.ensures;
