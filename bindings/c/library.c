@@ -151,7 +151,7 @@ enum need {
     TEXT_LEVEL = ON(1936, 1536),        /* and for each level, as long as that nests (1330; 1680) */
     INSIDE = ON(56 << 10, 48 << 10),    /* explaining byte strings in a value, with up to 32 levels of their formats (38900) */
     INSIDE_STEP = ON(7 << 10, 6 << 10), /* and for each byte string that such a byte string is in (5280) */
-    MODULES = ON(192 << 10, 144 << 10), /* reading any modules of a Move chain, and any types (117080) */
+    MODULES = ON(320 << 10, 256 << 10), /* reading any modules of a Move chain, and any types (206616) */
 };
 
 #define MOST_LEVELS 32
@@ -342,6 +342,7 @@ static const struct rule rules[] = {
     [BCS_SCHEMA] = {.kind = ON_HANDLE},
     [BCS_EXAMPLE] = {.kind = ON_HANDLE, .is_of_depth = true},
     [BCS_CANDIDATES] = {.kind = ON_HANDLE, .is_of_depth = true},
+    [BCS_DIFFERENCES] = {.kind = ON_HANDLE, .reads_first = true, .reads_second = true},
     [BCS_SHOW] = {.kind = ON_HANDLE},
     [BCS_FORMAT_PLACE] = {.kind = ON_JSON, .reads_format = true, .reads_first = true, .stack = FIXED},
     [BCS_GROWS] = {.kind = WITHOUT_HANDLE, .reads_first = true, .reads_second = true, .stack = FIXED},

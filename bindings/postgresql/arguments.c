@@ -108,10 +108,10 @@ keep_format(const struct question *question, const Registry *registry)
 }
 
 static Arguments
-arguments_of_call(FunctionCallInfo fcinfo, int inputs)
+arguments_on_format(FunctionCallInfo fcinfo, struct piece format, int place_of_limits)
 {
-	const int64 nodes = PG_GETARG_INT64(2 + inputs);
-	const int32 depth = PG_GETARG_INT32(3 + inputs);
+	const int64 nodes = PG_GETARG_INT64(place_of_limits);
+	const int32 depth = PG_GETARG_INT32(place_of_limits + 1);
 	Arguments	arguments = {.question = {.depth = depth, .nodes = nodes}};
 	const Registry *registry;
 
@@ -122,11 +122,17 @@ arguments_of_call(FunctionCallInfo fcinfo, int inputs)
 	CHECK_FOR_INTERRUPTS();
 	check_stack(depth);
 	cap_nodes(&arguments, 1);
-	arguments.question.format = format_of(utf8_of(argument(fcinfo, 1)));
+	arguments.question.format = format_of(format);
 	registry = registry_of_call(fcinfo);
 	arguments.question.handle = registry->handle;
 	keep_format(&arguments.question, registry);
 	return arguments;
+}
+
+static Arguments
+arguments_of_call(FunctionCallInfo fcinfo, int inputs)
+{
+	return arguments_on_format(fcinfo, utf8_of(argument(fcinfo, 1)), 2 + inputs);
 }
 
 /* If there are two inputs, the second is a text, and so is a third one, which is views. */
@@ -151,6 +157,32 @@ arguments_of_part(FunctionCallInfo fcinfo, uint32 notation)
 	Arguments	arguments = arguments_of_bytes(fcinfo, 2);
 
 	arguments.notation = notation;
+	return arguments;
+}
+
+/* Of two values as bytes. */
+Arguments
+arguments_of_pair(FunctionCallInfo fcinfo)
+{
+	const struct piece input = argument(fcinfo, 2);
+	const struct piece second = argument(fcinfo, 3);
+	Arguments	arguments = arguments_of_call(fcinfo, 2);
+
+	arguments.input = input;
+	arguments.second = second;
+	arguments.is_pair = true;
+	return arguments;
+}
+
+/* Of bytes whose container isn't known. They come with no format, so any will do. */
+Arguments
+arguments_of_candidates(FunctionCallInfo fcinfo)
+{
+	const struct piece input = argument(fcinfo, 1);
+	const struct piece unit = {(const uint8_t *) "\"UNIT\"", strlen("\"UNIT\"")};
+	Arguments	arguments = arguments_on_format(fcinfo, unit, 2);
+
+	arguments.input = arguments.second = input;
 	return arguments;
 }
 

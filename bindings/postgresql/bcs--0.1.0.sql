@@ -128,6 +128,23 @@ CREATE FUNCTION @extschema@.bcs_explain_with(registry pg_catalog.json, format pg
     RETURNS pg_catalog.text AS 'MODULE_PATHNAME', 'bcs_pg_explain_with'
     LANGUAGE C IMMUTABLE STRICT PARALLEL SAFE COST 500;
 
+-- Functions that return rows.
+CREATE FUNCTION @extschema@.bcs_differences(registry pg_catalog.json, format pg_catalog.text,
+    one pg_catalog.bytea, other pg_catalog.bytea,
+    nodes pg_catalog.int8 DEFAULT 6250, depth pg_catalog.int4 DEFAULT 100)
+    RETURNS TABLE (difference pg_catalog.text,
+        a_name pg_catalog.text, a_path pg_catalog.text, a_place pg_catalog.int8, a_size pg_catalog.int8,
+        a_text pg_catalog.text, a_bytes pg_catalog.bytea,
+        b_name pg_catalog.text, b_path pg_catalog.text, b_place pg_catalog.int8, b_size pg_catalog.int8,
+        b_text pg_catalog.text, b_bytes pg_catalog.bytea,
+        from_byte pg_catalog.int8) AS 'MODULE_PATHNAME', 'bcs_pg_differences'
+    LANGUAGE C IMMUTABLE STRICT PARALLEL SAFE COST 1000 ROWS 10;
+CREATE FUNCTION @extschema@.bcs_candidates(registry pg_catalog.json, bytes pg_catalog.bytea,
+    nodes pg_catalog.int8 DEFAULT 6250, depth pg_catalog.int4 DEFAULT 100)
+    RETURNS TABLE (container pg_catalog.text, evidence pg_catalog.int8, pieces pg_catalog.int8)
+    AS 'MODULE_PATHNAME', 'bcs_pg_candidates'
+    LANGUAGE C IMMUTABLE STRICT PARALLEL SAFE COST 1000 ROWS 3;
+
 -- The registry for types of a Move chain, from the JSON of its modules, and notes about the registry for people.
 CREATE FUNCTION @extschema@.bcs_registry_of_modules(modules pg_catalog.json, types pg_catalog.text[])
     RETURNS pg_catalog.json AS 'MODULE_PATHNAME', 'bcs_pg_registry_of_modules'
@@ -242,6 +259,21 @@ CREATE FUNCTION @extschema@.bcs_explain_with(registry pg_catalog.text, format pg
     nodes pg_catalog.int8 DEFAULT 6250, depth pg_catalog.int4 DEFAULT 100)
     RETURNS pg_catalog.text AS 'MODULE_PATHNAME', 'bcs_pg_explain_with'
     LANGUAGE C STABLE SUPPORT @extschema@.bcs_support STRICT PARALLEL SAFE COST 500;
+CREATE FUNCTION @extschema@.bcs_differences(registry pg_catalog.text, format pg_catalog.text,
+    one pg_catalog.bytea, other pg_catalog.bytea,
+    nodes pg_catalog.int8 DEFAULT 6250, depth pg_catalog.int4 DEFAULT 100)
+    RETURNS TABLE (difference pg_catalog.text,
+        a_name pg_catalog.text, a_path pg_catalog.text, a_place pg_catalog.int8, a_size pg_catalog.int8,
+        a_text pg_catalog.text, a_bytes pg_catalog.bytea,
+        b_name pg_catalog.text, b_path pg_catalog.text, b_place pg_catalog.int8, b_size pg_catalog.int8,
+        b_text pg_catalog.text, b_bytes pg_catalog.bytea,
+        from_byte pg_catalog.int8) AS 'MODULE_PATHNAME', 'bcs_pg_differences'
+    LANGUAGE C STABLE SUPPORT @extschema@.bcs_support STRICT PARALLEL SAFE COST 1000 ROWS 10;
+CREATE FUNCTION @extschema@.bcs_candidates(registry pg_catalog.text, bytes pg_catalog.bytea,
+    nodes pg_catalog.int8 DEFAULT 6250, depth pg_catalog.int4 DEFAULT 100)
+    RETURNS TABLE (container pg_catalog.text, evidence pg_catalog.int8, pieces pg_catalog.int8)
+    AS 'MODULE_PATHNAME', 'bcs_pg_candidates'
+    LANGUAGE C STABLE SUPPORT @extschema@.bcs_support STRICT PARALLEL SAFE COST 1000 ROWS 3;
 
 -- Registries by name. When a change is committed, every process closes the ones that it has open.
 CREATE TABLE @extschema@.bcs_registries (

@@ -29,6 +29,7 @@ typedef struct Arguments
 	uint32		most_nodes;		/* what bcs.max_nodes allows this call */
 	struct piece input;
 	struct piece second;
+	bool		is_pair;		/* whether both inputs are bytes */
 	struct piece views;
 	uint32		form;			/* of pieces */
 	uint32		notation;		/* of the second input, if it names a part */
@@ -38,6 +39,8 @@ typedef struct Arguments
 extern void define_nodes(void);
 extern Arguments arguments_of_bytes(FunctionCallInfo fcinfo, int inputs);
 extern Arguments arguments_of_part(FunctionCallInfo fcinfo, uint32 notation);
+extern Arguments arguments_of_pair(FunctionCallInfo fcinfo);
+extern Arguments arguments_of_candidates(FunctionCallInfo fcinfo);
 extern Arguments arguments_of_text(FunctionCallInfo fcinfo, int inputs);
 extern Arguments arguments_of_jsonb(FunctionCallInfo fcinfo, int inputs);
 extern void check_stack(uint32 depth);
@@ -52,6 +55,7 @@ extern StringInfoData text_of_jsonb(Jsonb *jsonb);
 /* functions.c: what a call writes, as a value with a zero behind it, which must be done or refused; and a UTF-8 text in the encoding
  * of the database. */
 typedef bcs_answer Writing(const Arguments *arguments, uint8_t *out, size_t room);
+#define NODES_OF_PIECE 8		/* printing a piece takes as long as other calls take for so many nodes */
 extern struct varlena *written(const Arguments *arguments, Writing *call, size_t room);
 extern struct varlena *server_text(struct varlena *utf8);
 

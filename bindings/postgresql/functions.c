@@ -51,9 +51,6 @@ write_normal(const Arguments *arguments, uint8_t *out, size_t room)
 	return bcs_handle_normalise(QUESTION(&arguments->question), PIECE(arguments->input), out, room);
 }
 
-/* Printing a piece takes as long as other calls take for eight nodes. */
-#define NODES_OF_PIECE 8
-
 /* Pieces that end where bcs.max_nodes stops them aren't those that the query needs. */
 static bcs_answer
 unless_capped(const Arguments *arguments, bcs_answer answer)

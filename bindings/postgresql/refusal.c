@@ -55,7 +55,7 @@ refused_of(const Arguments *arguments, bcs_answer answer)
 {
 	return (struct refused) {
 		.answer = answer, .question = &arguments->question, .input = arguments->input, .second = arguments->second,
-		.notation = arguments->notation, .format = arguments->question.format,
+		.is_pair = arguments->is_pair, .notation = arguments->notation, .format = arguments->question.format,
 	};
 }
 

@@ -46,8 +46,12 @@ LIMITS = (4294967295, 500)
 # The calls whose place is only in an error.
 IN_LINES = ("text_place", "pair_place", "registry_place", "modules_place", "format_place", "path_place")
 # Which of a call's words behind the limits isn't hexadecimal.
-PLAIN = dict.fromkeys(("explain", "explain_with", "stop_place"), 1)
-PLAIN |= dict.fromkeys(("part_named", "content", "path_place"), 2)
+PLAIN: dict[str, tuple[int, ...]] = dict.fromkeys(("explain", "explain_with", "stop_place"), (1,))
+PLAIN |= dict.fromkeys(("part_named", "content", "path_place"), (2,)) | {"diff": (2, 3)}
+# The characters of names that the program escapes.
+NOT_PLAIN = re.compile(r"[^ !#-\[\]-~]")
+# What bcs_differences has of each of the two parts, besides its bytes.
+SIDE = ("name", "path", "place", "size", "text")
 STATUSES = {" in the registry": "registry", " in the format": "format", " in the path": "path"}
 
 
@@ -93,6 +97,9 @@ class Database(Protocol):
     encode: str
     decode: str
     cast: str
+    # The rows of a function as a JSON array, and the digits of bytes in a column.
+    rows: str
+    digits: str
 
     def text(self, data: bytes) -> str | bytes:
         """The argument for a string."""
@@ -112,6 +119,7 @@ class Sqlite:
 
     encode, decode = "bcs_encode(?, ?, ?, ?, ?)", "bcs_decode(?, ?, ?, ?, ?)"
     cast = "?"
+    rows, digits = "json_group_array(json_array({})) from {}", "{}"
 
     def __init__(self, extension: str) -> None:
         import sqlite3
@@ -149,6 +157,8 @@ class Postgresql:
 
     encode, decode = "bcs_encode_json(?, ?, ?, ?, ?)", "bcs_decode_json(?, ?, ?, ?, ?)::text"
     cast = "cast(? as text[])"
+    rows = "cast(coalesce(json_agg(json_build_array({})), '[]') as text) from {}"
+    digits = "encode({}, 'hex')"
 
     def __init__(self, connection: str) -> None:
         import psycopg2
@@ -229,6 +239,29 @@ class Calls:
     def compare(self, *question: Any) -> Answer | None:
         texts = [self.text(data) for data in question[3:]]
         return ("-", 0, 0, b"") if self.ask("bcs_equal(?, ?, ?, ?, ?, ?)", *question[:3], *texts) else None
+
+    def diff(self, *question: Any) -> Answer:
+        """SQL takes bytes, and returns rows."""
+        *asked, first, second, given, form = question
+        if given != "both" or form != "json":
+            raise Unsayable
+        sides = [f"{side}_{name}" for side in "ab" for name in SIDE]
+        sides += [self.database.digits.format(f"{side}_bytes") for side in "ab"]
+        rows = self.rows("bcs_differences", ["difference", *sides, "from_byte"], *asked[:2], first, second, *asked[2])
+        objects = [difference_of(row) for row in rows] + [{"differences": len(rows)}]
+        return self.written("".join(f"{json.dumps(it)}\n" for it in objects))
+
+    def which(self, registry: bytes, data: bytes) -> Answer:
+        rows = self.rows("bcs_candidates", ["container"], self.database.registry(registry), data, *LIMITS)
+        return self.written("".join(f"{NOT_PLAIN.sub(escaped, name)}\n" for (name,) in rows))
+
+    def rows(self, function: str, columns: list[str], *arguments: Any) -> list[Any]:
+        """The rows of a function, as one JSON value."""
+        call = f"{function}({', '.join('?' * len(arguments))})"
+        told: list[Any] = json.loads(
+            self.database.value(self.database.rows.format(", ".join(columns), call), *arguments)
+        )
+        return told
 
     def scan(self, *question: Any) -> Answer:
         return "-", 0, self.ask("bcs_scan(?, ?, ?, ?, ?)", *question), b""
@@ -332,6 +365,21 @@ class Calls:
         return last.get("refused", "-"), place, len(text.encode()), text.encode()
 
 
+def escaped(found: re.Match[str]) -> str:
+    """A character as the program prints it in names."""
+    if found[0] in '"\\':
+        return "\\" + found[0]
+    return re.sub("....", r"\\u\g<0>", found[0].encode("utf-16-be").hex())
+
+
+def difference_of(row: list[Any]) -> dict[str, Any]:
+    """The object of a row."""
+    difference, *columns, a_bytes, b_bytes, from_byte = row
+    sides = [dict(zip(SIDE, columns[:5]), bytes=a_bytes), dict(zip(SIDE, columns[5:]), bytes=b_bytes)]
+    a, b = (None if side["name"] is None else side for side in sides)
+    return {"difference": difference, "a": a, "b": b, "from": from_byte}
+
+
 def is_the_same(fault: dict[str, Any] | None, last: dict[str, Any]) -> bool:
     """Whether bcs_fault reports what the last line of bcs_explain does, and what was found."""
     if fault is None or "refused" not in last:
@@ -365,9 +413,11 @@ def answer(calls: Calls, line: str) -> tuple[str, ...]:
     if call in ("registry_of_modules", "modules_place", "registry_place"):
         return answered(getattr(calls, call)(*(bytes.fromhex(word) for word in words)))
     registry, format = (bytes.fromhex(word) for word in words[:2])
+    if call == "which":
+        return answered(calls.which(registry, format))
     if format[:1] not in (b"{", b'"'):
         raise Unsayable
-    rest = [word if place == PLAIN.get(call) else bytes.fromhex(word) for place, word in enumerate(words[4:])]
+    rest = [word if place in PLAIN.get(call, ()) else bytes.fromhex(word) for place, word in enumerate(words[4:])]
     told = getattr(calls, call)(
         calls.database.registry(registry), calls.text(format), (int(words[3]), int(words[2])), *rest
     )

@@ -145,6 +145,7 @@ struct refused {
     bcs_answer answer;
     const struct question *question; /* null for a registry and for modules */
     struct piece input, second;
+    bool is_pair;      /* whether the second input is bytes, as the first one */
     uint32_t notation; /* of a path: enum bcs_notation */
     struct view view;
     struct piece format; /* the JSON of the format that may be refused: of the value, or in the view */
@@ -273,7 +274,10 @@ static inline bcs_answer tell_path(const struct refused *refused, uint8_t *out, 
 /* (The pieces of a value may stop inside a byte string. The library reports only where the value itself does.) */
 static inline bcs_answer tell_stop(const struct refused *refused, uint8_t *out, size_t room) {
     const bcs_answer nothing = {.status = BCS_NO};
-    const bcs_answer told = bcs_handle_stop_refusal(QUESTION(refused->question), PIECE(refused->input), out, room);
+    bcs_answer told = bcs_handle_stop_refusal(QUESTION(refused->question), PIECE(refused->input), out, room);
+    if (told.status == BCS_NO && refused->is_pair) {
+        told = bcs_handle_stop_refusal(QUESTION(refused->question), PIECE(refused->second), out, room);
+    }
     return told.status == BCS_DONE && told.place != refused->answer.place ? nothing : told;
 }
 

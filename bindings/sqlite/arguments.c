@@ -3,6 +3,8 @@
 #include "bcs_sqlite.h"
 SQLITE_EXTENSION_INIT3
 
+#define BYTES_EXPECTED "bytes must be a BLOB such as x'07'"
+
 /* An argument is wrong, or memory ran out. */
 static bool refuse_argument(sqlite3_context *context, const char *message) {
     if (message != NULL) {
@@ -67,11 +69,11 @@ static bool take_limits(sqlite3_context *context, struct question *question, int
            refuse_argument(context, "bcs: nodes are from 0 to 4294967295, and a depth is from 0 to 500");
 }
 
-/* The registry comes last, since nothing here may close it again. */
-static bool take_question(sqlite3_context *context, struct arguments *arguments, sqlite3_value **values) {
-    struct piece registry, format;
-    if (!take_piece(context, values[0], IS_TEXT | IS_BLOB, "the registry must be TEXT or BLOB", &registry) ||
-        !take_piece(context, values[1], IS_TEXT, "the format must be TEXT", &format)) {
+/* The registry comes last, since nothing here may close it again. Without an argument for it, any format will do. */
+static bool take_question(sqlite3_context *context, struct arguments *arguments, sqlite3_value *of_registry, sqlite3_value *of_format) {
+    struct piece registry, format = {(const uint8_t *)"\"UNIT\"", 6};
+    if (!take_piece(context, of_registry, IS_TEXT | IS_BLOB, "the registry must be TEXT or BLOB", &registry) ||
+        (of_format != NULL && !take_piece(context, of_format, IS_TEXT, "the format must be TEXT", &format))) {
         return false;
     }
     arguments->format = sqlite3_malloc64(write_format(format, NULL));
@@ -113,7 +115,7 @@ static bool take_inputs(sqlite3_context *context, struct arguments *arguments, i
         return false;
     }
     arguments->memory = memory_of_call(arguments, inputs, count > 2 + inputs);
-    return take_question(context, arguments, values);
+    return take_question(context, arguments, values[0], values[1]);
 }
 
 bool take_arguments(sqlite3_context *context, struct arguments *arguments, int inputs, int count, sqlite3_value **values) {
@@ -122,7 +124,29 @@ bool take_arguments(sqlite3_context *context, struct arguments *arguments, int i
 
 bool take_arguments_of_bytes(sqlite3_context *context, struct arguments *arguments, int inputs, int count,
                             sqlite3_value **values) {
-    return take_inputs(context, arguments, inputs, IS_BLOB, "bytes must be a BLOB such as x'07'", count, values);
+    return take_inputs(context, arguments, inputs, IS_BLOB, BYTES_EXPECTED, count, values);
+}
+
+bool take_arguments_of_pair(sqlite3_context *context, struct arguments *arguments, int count, sqlite3_value **values) {
+    *arguments = (struct arguments){.context = context, .is_pair = true};
+    if (are_some_null(count, values) || !take_limits(context, &arguments->question, 4, count, values) ||
+        !take_piece(context, values[2], IS_BLOB, BYTES_EXPECTED, &arguments->input) ||
+        !take_piece(context, values[3], IS_BLOB, BYTES_EXPECTED, &arguments->second)) {
+        return false;
+    }
+    arguments->memory = memory_of_call(arguments, 2, count > 4);
+    return take_question(context, arguments, values[0], values[1]);
+}
+
+bool take_arguments_of_candidates(sqlite3_context *context, struct arguments *arguments, int count, sqlite3_value **values) {
+    *arguments = (struct arguments){.context = context};
+    if (are_some_null(count, values) || !take_limits(context, &arguments->question, 2, count, values) ||
+        !take_piece(context, values[1], IS_BLOB, BYTES_EXPECTED, &arguments->input)) {
+        return false;
+    }
+    arguments->second = arguments->input;
+    arguments->memory = memory_of_call(arguments, 1, count > 2);
+    return take_question(context, arguments, values[0], NULL);
 }
 
 void drop_arguments(struct arguments *arguments) {

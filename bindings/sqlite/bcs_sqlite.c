@@ -55,7 +55,7 @@ void answer_owned(sqlite3_context *context, enum kind kind, uint8_t *out, size_t
     }
 }
 
-static void answer_written(sqlite3_context *context, struct arguments *arguments, writing *call, size_t room, enum kind kind) {
+void answer_written(sqlite3_context *context, struct arguments *arguments, writing *call, size_t room, enum kind kind) {
     const int most = sqlite3_limit(sqlite3_context_db_handle(context), SQLITE_LIMIT_LENGTH, -1);
     bcs_answer answer;
     uint8_t *out = written(arguments, call, room, (size_t)most, &answer);
@@ -307,6 +307,9 @@ static int create_functions(sqlite3 *database, struct connection *connection) {
     }
     if (status == SQLITE_OK) {
         status = create_functions_of_modules(database, connection, flags);
+    }
+    if (status == SQLITE_OK) {
+        status = create_functions_of_rows(database, connection, flags);
     }
     for (int count = 0; count <= 1 && status == SQLITE_OK; count++) {
         connection->functions++;

@@ -46,6 +46,7 @@ struct arguments {
     sqlite3_int64 memory; /* of the call and its registry */
     char *format; /* its JSON, in memory of SQLite */
     struct piece input, second, views;
+    bool is_pair;      /* whether both inputs are bytes */
     uint32_t form;     /* of pieces */
     uint32_t notation; /* of the second input, if it names a part */
 };
@@ -85,6 +86,13 @@ enum kind { A_BLOB, A_TEXT, A_JSON };
 /* The answer, in memory that is SQLite's from now on. */
 void answer_owned(sqlite3_context *context, enum kind kind, uint8_t *out, size_t length);
 
+/* The answer of a call that writes one, or its error. */
+void answer_written(sqlite3_context *context, struct arguments *arguments, writing *call, size_t room, enum kind kind);
+
+/* rows.c: the functions whose answers are rows. */
+
+int create_functions_of_rows(sqlite3 *database, struct connection *connection, int flags);
+
 /* modules.c: the functions that make registries from modules. */
 
 int create_functions_of_modules(sqlite3 *database, struct connection *connection, int flags);
@@ -106,6 +114,9 @@ sqlite3_int64 memory_of_call(const struct arguments *arguments, int inputs, bool
 bool take_arguments(sqlite3_context *context, struct arguments *arguments, int inputs, int count, sqlite3_value **values);
 bool take_arguments_of_bytes(sqlite3_context *context, struct arguments *arguments, int inputs, int count,
                             sqlite3_value **values);
+/* The same with two values as bytes, and with bytes of any container, without a format. */
+bool take_arguments_of_pair(sqlite3_context *context, struct arguments *arguments, int count, sqlite3_value **values);
+bool take_arguments_of_candidates(sqlite3_context *context, struct arguments *arguments, int count, sqlite3_value **values);
 void drop_arguments(struct arguments *arguments);
 
 /* refusal.c */

@@ -104,6 +104,7 @@ static struct refused refused_of(const struct arguments *arguments, bcs_answer a
                             .question = &arguments->question,
                             .input = arguments->input,
                             .second = arguments->second,
+                            .is_pair = arguments->is_pair,
                             .notation = arguments->notation,
                             .format = arguments->question.format};
 }

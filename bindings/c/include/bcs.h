@@ -139,6 +139,14 @@ enum bcs_notation {
     BCS_POINTER = 2 /* as a JSON Pointer (RFC 6901) into the value's JSON document: /payload/EntryFunction/args/1 */
 };
 
+/* How the values of bcs_handle_differences are given. */
+enum bcs_given {
+    BCS_DOCUMENTS = 0,    /* both as JSON */
+    BCS_FIRST_BYTES = 1,  /* the first as bytes, the second as JSON */
+    BCS_SECOND_BYTES = 2, /* the first as JSON, the second as bytes */
+    BCS_BOTH_BYTES = 3    /* both as bytes */
+};
+
 /* What bcs_handle_example puts into options, lists and maps. */
 enum bcs_example {
     BCS_LEAST = 0, /* nothing: options are null, lists and maps are empty */
@@ -185,6 +193,7 @@ enum bcs_call {
     BCS_SCHEMA = 13,
     BCS_EXAMPLE = 14,      /* second: the name of a variant, or empty; number: enum bcs_example */
     BCS_CANDIDATES = 15,   /* first: bytes; number: enum bcs_form */
+    BCS_DIFFERENCES = 16,  /* first and second: JSON, or bytes; number: enum bcs_form; second_number: enum bcs_given */
     /* about a registry: on a handle */
     BCS_SHOW = 20,         /* second: the name of a container, or empty; number: enum bcs_form */
     BCS_FORMAT_PLACE = 21, /* format */
@@ -208,7 +217,7 @@ typedef struct bcs_question {
     uint32_t size;          /* sizeof(bcs_question) */
     uint32_t call;          /* enum bcs_call; BCS_NO_CALL: the library has no call of this number */
     uint32_t number;        /* a form, a notation, or a fault */
-    uint32_t second_number; /* no call reads it yet */
+    uint32_t second_number; /* which inputs are bytes: enum bcs_given */
     uint32_t depth;         /* how deeply containers may nest, at most BCS_DEPTH */
     uint32_t nodes;         /* how many nodes a value may have, for instance bcs_handle_nodes_for(handle, first_length) */
     const uint8_t *format;  /* JSON, as bcs_format writes it */
@@ -230,8 +239,8 @@ typedef struct bcs_question {
    `message`: where and why the input is refused, found by the same call. It is unchanged unless the status is BCS_REFUSED. Then it
    begins with what bcs_handle_text_refusal, bcs_handle_stop_refusal, bcs_growth_place or bcs_modules_place writes for the input: a
    place, a NUL, and a message. `length` is the number of these bytes. If `length` is above `message_length`, nothing was written;
-   if it is 0, no more is known than the fault, or memory ran out. For one of two documents (BCS_COMPARE), it is about the first one
-   that is refused. With `message_length` 0, no message is made, and `length` is 0 with BCS_REFUSED. */
+   if it is 0, no more is known than the fault, or memory ran out. For one of two inputs (BCS_COMPARE, BCS_DIFFERENCES), it is about
+   the first one that is refused. With `message_length` 0, no message is made, and `length` is 0 with BCS_REFUSED. */
 bcs_answer bcs_ask(bcs_handle *handle, const bcs_question *question, uint8_t *out, size_t out_length, uint8_t *message,
                    size_t message_length);
 
@@ -416,6 +425,19 @@ static inline bcs_answer bcs_handle_candidates(bcs_handle *handle, uint32_t dept
     static const char unit[] = "\"UNIT\"";
     const bcs_question question = {sizeof question, BCS_CANDIDATES, form, 0, depth, nodes, (const uint8_t *)unit, sizeof unit - 1,
                                    bytes, bytes_length, NULL, 0, NULL, 0};
+    return bcs_ask(handle, &question, out, out_length, NULL, 0);
+}
+
+/* Where two values differ, as `bcs diff` prints it: a line for each difference, and equal or different. `form` is BCS_JSON for the
+   JSON objects of `bcs diff --json`, of which the last one has the number of differences; any other number means lines. `given` says
+   which values are bytes; a number beyond enum bcs_given means BCS_DOCUMENTS. The answer is BCS_DONE whether or not the values
+   differ. BCS_REFUSED: the first input isn't exactly one value of the format, or else the second. */
+static inline bcs_answer bcs_handle_differences(bcs_handle *handle, const uint8_t *format, size_t format_length, uint32_t depth,
+                                                uint32_t nodes, uint32_t form, uint32_t given, const uint8_t *first,
+                                                size_t first_length, const uint8_t *second, size_t second_length, uint8_t *out,
+                                                size_t out_length) {
+    const bcs_question question = {sizeof question, BCS_DIFFERENCES, form, given, depth, nodes, format, format_length,
+                                   first, first_length, second, second_length, NULL, 0};
     return bcs_ask(handle, &question, out, out_length, NULL, 0);
 }
 

@@ -65,7 +65,7 @@ static void nodes_are_bounded(void) {
     }
     /* Five bytes that spell 2147483647 units are refused at once. */
     const struct question units = {BCS_SCAN, OF("{}"), OF("{\"SEQ\":\"UNIT\"}"), OF("\xff\xff\xff\xff\x07"), {NULL, 0},
-                                   {NULL, 0}, BCS_DEPTH, bcs_nodes_for(5), 0};
+                                   {NULL, 0}, BCS_DEPTH, bcs_nodes_for(5), 0, 0};
     const bcs_answer answer = ask(BY_NAME, &units, NULL, 0);
     CHECK(answer.status == BCS_REFUSED && answer.fault == BCS_STOP_TOO_MANY_NODES);
 }

@@ -41,6 +41,19 @@ static const struct done outputs[] = {
     {{ON_FORMAT(BCS_CANDIDATES, "\"UNIT\""), .number = 4}, OF("Nothing\n")},
     {{ON_VALUE(BCS_CANDIDATES, "\"UNIT\"", "\x03" "bob\x07\0\0\0\0\0\0\0"), .number = BCS_JSON},
      OF("{\"container\":\"Payment\",\"evidence\":11,\"pieces\":3,\"size\":12}\n")},
+    {{ON_VALUE(BCS_DIFFERENCES, "\"U8\"", "7"), .second = OF("8"), .number = 4}, OF("., at 0: U8 7 -> U8 8\ndifferent\n")},
+    {{ON_VALUE(BCS_DIFFERENCES, "\"U8\"", "7"), .second = OF(" 7 ")}, OF("equal\n")},
+    {{ON_VALUE(BCS_DIFFERENCES, "\"U8\"", "7"), .second = OF("7"), .second_number = BCS_SECOND_BYTES, .number = BCS_TREE},
+     OF("., at 0: U8 7 -> U8 55\ndifferent\n")},
+    {{ON_VALUE(BCS_DIFFERENCES, "\"U8\"", "\x07"), .second = OF("7"), .second_number = BCS_FIRST_BYTES}, OF("equal\n")},
+    {{ON_VALUE(BCS_DIFFERENCES, "\"UNIT\"", ""), .second_number = BCS_BOTH_BYTES}, OF("equal\n")},
+    {{ON_VALUE(BCS_DIFFERENCES, "\"U8\"", "1"), .second = OF("1"), .second_number = BCS_BOTH_BYTES, .number = BCS_JSON},
+     OF("{\"differences\":0}\n")},
+    {{ON_VALUE(BCS_DIFFERENCES, "\"STR\"", "\"a\""), .second = OF("\0"), .second_number = BCS_SECOND_BYTES, .number = BCS_JSON},
+     OF("{\"a\":{\"bytes\":\"61\",\"name\":\".\",\"path\":\".\",\"place\":0,\"size\":2,\"text\":\"\\\"a\\\"\"},"
+        "\"b\":{\"bytes\":\"\",\"name\":\".\",\"path\":\".\",\"place\":0,\"size\":1,\"text\":\"\\\"\\\"\"},"
+        "\"difference\":\"text\",\"from\":0}\n{\"differences\":1}\n")},
+    {{ON_VALUE(BCS_DIFFERENCES, "\"U8\"", "1"), .second = OF("2"), .second_number = 4}, OF("., at 0: U8 1 -> U8 2\ndifferent\n")},
     {{.call = BCS_SHOW, .registry = OF(REGISTRY), .second = OF("Nothing"), .number = BCS_JSON}, OF("{\"Nothing\":\"UNITSTRUCT\"}\n")},
     {{.call = BCS_SHOW, .registry = OF(REGISTRY), .second = OF("Nothing"), .number = 4}, OF("Nothing: UNITSTRUCT, 0 bytes, used by no other\n")},
     {{.call = BCS_GROWTH_LIST, .first = OF("{}"), .second = OF("{\"P\":\"UNITSTRUCT\"}")}, OF("P: container added\n")},
@@ -54,11 +67,11 @@ static const struct told {
     uint32_t fault;
     uint64_t place;
 } refusals[] = {
-    {{{ON_VALUE(BCS_TEXT_REFUSAL, PAYMENT, "{\"to\":1}")}, OF("/to\0" "expected STR, a string")}, BCS_TEXT_BAD_SHAPE, 0},
+    {{{ON_VALUE(BCS_TEXT_REFUSAL, PAYMENT, "{\"to\":1}")}, OF("/to\0" "expected STR, a string; write the number in double quotes")}, BCS_TEXT_BAD_SHAPE, 0},
     {{{ON_VALUE(BCS_STOP_REFUSAL, PAYMENT, "\x01")}, OF(".to\0" "expected 1 byte of STR, found the end of the input")},
      BCS_STOP_END_OF_INPUT, 1},
     {{{.call = BCS_FORMAT_PLACE, .registry = OF(REGISTRY), .format = OF("{\"SEQ\":7}")},
-      OF("/SEQ\0" "expected a format, found 7")}, BCS_REGISTRY_BAD_SHAPE, 0},
+      OF("/SEQ\0" "expected a format, found 7; write a string, as \"U64\", or an object, as {\"SEQ\":\"U8\"}")}, BCS_REGISTRY_BAD_SHAPE, 0},
     {{{.call = BCS_REGISTRY_REFUSAL}, OF("\0" "line 1, column 1: the document is empty")}, BCS_REGISTRY_NOT_JSON, 0},
     {{{.call = BCS_PATH_PLACE, .second = OF("inner/a")},
       OF("step 2 a\0" "expected a number, inner, or key: and hexadecimal digits")}, BCS_PATH_BAD_PATH, 0},
@@ -120,7 +133,7 @@ static void is_answer(struct question question, uint32_t status, uint32_t fault,
 static void refused_in_order(void) {
     for (uint32_t call = BCS_CHECK; call <= BCS_EXAMPLE; call++) {
         struct question question = {(enum bcs_call)call, OF("{"),       OF("{"),   OF("{"),   OF("{"), OF("{"),
-                                    BCS_DEPTH + 1,       BCS_NODES, UINT32_MAX};
+                                    BCS_DEPTH + 1,       BCS_NODES, UINT32_MAX, 0};
         is_answer(question, BCS_REGISTRY, BCS_REGISTRY_NOT_JSON, 0);
         question.registry = (struct slice)OF("{}");
         is_answer(question, BCS_FORMAT, BCS_REGISTRY_NOT_JSON, 0);
@@ -137,6 +150,14 @@ static void refused_in_order(void) {
     /* Of two documents, the first that is refused is reported. */
     is_answer((struct question){ON_VALUE(BCS_COMPARE, "\"U8\"", "7"), .second = OF("x")}, BCS_REFUSED, BCS_TEXT_NOT_JSON, 0);
     is_answer((struct question){ON_VALUE(BCS_COMPARE, "\"U8\"", "null"), .second = OF("x")}, BCS_REFUSED, BCS_TEXT_BAD_SHAPE, 0);
+    is_answer((struct question){ON_VALUE(BCS_DIFFERENCES, "\"U8\"", "x"), .second = OF(""), .second_number = BCS_SECOND_BYTES},
+              BCS_REFUSED, BCS_TEXT_NOT_JSON, 0);
+    is_answer((struct question){ON_VALUE(BCS_DIFFERENCES, "\"BOOL\"", "true"), .second = OF("7"), .second_number = BCS_SECOND_BYTES},
+              BCS_REFUSED, BCS_STOP_BAD_BOOL, 0);
+    is_answer((struct question){ON_VALUE(BCS_DIFFERENCES, "\"U8\"", ""), .second = OF("x"), .second_number = BCS_FIRST_BYTES},
+              BCS_REFUSED, BCS_STOP_END_OF_INPUT, 0);
+    is_answer((struct question){ON_VALUE(BCS_DIFFERENCES, "\"STR\"", "\"\xff\""), .second = OF("x")}, BCS_REFUSED,
+              BCS_TEXT_NOT_JSON, 0);
 }
 
 /* Numbers that are no notation of a path, a name and a pointer that aren't UTF-8, and wrong lines of views. */

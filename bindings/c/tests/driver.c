@@ -31,6 +31,7 @@ static const struct call_word {
     {"schema", BCS_SCHEMA, 5},
     {"example", BCS_EXAMPLE, 7},
     {"which", BCS_CANDIDATES, 4},
+    {"diff", BCS_DIFFERENCES, 9},
     {"show", BCS_SHOW, 4},
     {"format_place", BCS_FORMAT_PLACE, 6},
     {"grows", BCS_GROWS, 3},
@@ -46,6 +47,7 @@ static const char *const status_words[] = {"done",    "short",  "registry", "for
                                            "refused", "memory", "no",       "path",   "newer",  "closed"};
 static const char *const form_words[] = {"ways", "paths", "tree", "json"};
 static const char *const what_words[] = {"where", "wanted"};
+static const char *const given_words[] = {"documents", "first", "second", "both"};
 static const char *const example_words[] = {[BCS_LEAST] = "least", [BCS_FULL] = "full"};
 static const char *const notation_words[] = {"steps", "name", "pointer"};
 #define COUNT(words) (sizeof(words) / sizeof *(words))
@@ -152,6 +154,11 @@ static void read_input(struct line *line, char *const words[WORDS], size_t count
         break;
     case BCS_EXAMPLE:
         question->number = NUMBER(words[6], example_words);
+        break;
+    case BCS_DIFFERENCES:
+        question->second = bytes_of(words[6]);
+        question->second_number = NUMBER(words[7], given_words);
+        question->number = NUMBER(words[8], form_words);
         break;
     case BCS_TEXT_REFUSAL:
     case BCS_STOP_REFUSAL:
@@ -367,7 +374,16 @@ static void check_message(enum way way, struct question question, bcs_answer ans
     memcpy(message, told->message, answer.length);
     bcs_answer refusal = {.status = BCS_NO};
     struct outputs to;
-    if (question.call != BCS_EXAMPLE) {
+    if (question.call == BCS_DIFFERENCES) {
+        const enum bcs_call calls[2] = {question.second_number & BCS_FIRST_BYTES ? BCS_STOP_REFUSAL : BCS_TEXT_REFUSAL,
+                                        question.second_number & BCS_SECOND_BYTES ? BCS_STOP_REFUSAL : BCS_TEXT_REFUSAL};
+        question.number = question.second_number = 0;
+        for (size_t input = 0; input < 2 && refusal.status == BCS_NO; input++) {
+            question.call = calls[input];
+            refusal = ask_in_full(way, &question, &to);
+            question.first = question.second;
+        }
+    } else if (question.call != BCS_EXAMPLE) {
         const bool has_two = question.call == BCS_COMPARE;
         question.call = refusal_of(question.call);
         question.number = 0;

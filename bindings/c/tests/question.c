@@ -66,7 +66,7 @@ static void sizes(void) {
 
 /* Whether a call has this number. */
 static bool is_call(uint32_t number) {
-    return (number >= BCS_CHECK && number <= BCS_CANDIDATES) || number == BCS_SHOW || number == BCS_FORMAT_PLACE ||
+    return (number >= BCS_CHECK && number <= BCS_DIFFERENCES) || number == BCS_SHOW || number == BCS_FORMAT_PLACE ||
            (number >= BCS_GROWS && number <= BCS_FAULT_NAME);
 }
 
@@ -129,6 +129,10 @@ static const struct {
     {{ON_VALUE(BCS_NORMALISE, "{")}, {ON_VALUE(BCS_TEXT_REFUSAL, "{")}},
     {{ON_VALUE(BCS_COMPARE, NO_TEXT), .second = OF("{")}, {ON_VALUE(BCS_TEXT_REFUSAL, NO_TEXT)}},
     {{ON_VALUE(BCS_COMPARE, TEXT), .second = OF("{")}, {ON_VALUE(BCS_TEXT_REFUSAL, "{")}},
+    {{ON_VALUE(BCS_DIFFERENCES, NO_TEXT), .second = OF("{")}, {ON_VALUE(BCS_TEXT_REFUSAL, NO_TEXT)}},
+    {{ON_VALUE(BCS_DIFFERENCES, NO_BYTES), .second = OF("{"), .second_number = BCS_FIRST_BYTES}, {ON_VALUE(BCS_STOP_REFUSAL, NO_BYTES)}},
+    {{ON_VALUE(BCS_DIFFERENCES, TEXT), .second = OF(NO_BYTES), .second_number = BCS_SECOND_BYTES}, {ON_VALUE(BCS_STOP_REFUSAL, NO_BYTES)}},
+    {{ON_VALUE(BCS_DIFFERENCES, BYTES_OF_IT), .second = OF("{"), .second_number = BCS_FIRST_BYTES}, {ON_VALUE(BCS_TEXT_REFUSAL, "{")}},
     {{ON_VALUE(BCS_FROM_BCS, NO_BYTES)}, {ON_VALUE(BCS_STOP_REFUSAL, NO_BYTES)}},
     {{ON_VALUE(BCS_FROM_BCS, BYTES_OF_IT "!")}, {ON_VALUE(BCS_STOP_REFUSAL, BYTES_OF_IT "!")}},
     {{ON_VALUE(BCS_SCAN, NO_BYTES)}, {ON_VALUE(BCS_STOP_REFUSAL, NO_BYTES)}},

@@ -7,7 +7,7 @@
 struct question {
     enum bcs_call call;
     struct slice registry, format, first, second, views;
-    uint32_t depth, nodes, number;
+    uint32_t depth, nodes, number, second_number;
 };
 
 /* A text, or bytes that are spelled as one, in a table. */
@@ -51,6 +51,7 @@ static inline bcs_question question_for_library(const struct question *question)
         .size = sizeof(bcs_question),
         .call = question->call,
         .number = question->number,
+        .second_number = question->second_number,
         .depth = question->depth,
         .nodes = question->nodes,
         .format = question->format.at,
@@ -88,6 +89,8 @@ static inline bcs_answer ask_by_name(bcs_handle *handle, const struct question *
     case BCS_EXAMPLE: return bcs_handle_example(ON_VALUES, question->number, PIECE(second), out, room);
     case BCS_CANDIDATES:
         return bcs_handle_candidates(handle, question->depth, question->nodes, question->number, PIECE(first), out, room);
+    case BCS_DIFFERENCES:
+        return bcs_handle_differences(ON_VALUES, question->number, question->second_number, PIECE(first), PIECE(second), out, room);
     case BCS_SHOW: return bcs_handle_show(handle, question->number, PIECE(second), out, room);
     case BCS_FORMAT_PLACE: return bcs_handle_format_place(handle, PIECE(question->format), out, room);
     case BCS_GROWS: return bcs_grows(PIECE(first), PIECE(second));

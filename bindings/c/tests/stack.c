@@ -71,7 +71,7 @@ static const size_t counts_of_containers[] = {1, 6, 50, 500};
 
 /* Containers in one another, with so many levels between each two, and the innermost one without a part. */
 struct chain {
-    struct text registry, bytes, text;
+    struct text registry, bytes, other, text; /* the bytes of a value, and perhaps of another one */
     size_t containers, levels, nesting;
     bcs_handle *handle;
 };
@@ -105,6 +105,10 @@ static struct chain chain_of(const struct link *container, const struct link *le
         add_often(&chain.text, level->text_behind, count_of_levels);
         add_words(&chain.text, container->text_behind);
     }
+    add(&chain.other, chain.bytes.at, chain.bytes.length);
+    if (chain.other.length > 0 && chain.other.at[chain.other.length - 1] == 1) {
+        chain.other.at[chain.other.length - 1] = 0;
+    }
     chain.nesting = (count - 1) * (container->nesting + count_of_levels * level->nesting);
     CHECK(bcs_open(&chain.handle, (const uint8_t *)chain.registry.at, chain.registry.length).status == BCS_DONE);
     return chain;
@@ -114,6 +118,7 @@ static void drop_chain(struct chain *chain) {
     bcs_close(chain->handle);
     free(chain->registry.at);
     free(chain->bytes.at);
+    free(chain->other.at);
     free(chain->text.at);
 }
 
@@ -121,8 +126,9 @@ static void drop_chain(struct chain *chain) {
 static const enum bcs_call calls[] = {
     BCS_CHECK,   BCS_TO_BCS,  BCS_FROM_BCS, BCS_NORMALISE,    BCS_COMPARE,      BCS_SCAN,       BCS_PART,
     BCS_EXPLAIN, BCS_EXPLAIN, BCS_EXPLAIN,  BCS_TEXT_REFUSAL, BCS_STOP_REFUSAL, BCS_PART_NAMED, BCS_EXAMPLE,
+    BCS_DIFFERENCES,
 };
-static const uint32_t numbers[] = {0, 0, 0, 0, 0, 0, 0, BCS_WAYS, BCS_TREE, BCS_JSON, 0, 0, BCS_NAME, BCS_LEAST};
+static const uint32_t numbers[] = {0, 0, 0, 0, 0, 0, 0, BCS_WAYS, BCS_TREE, BCS_JSON, 0, 0, BCS_NAME, BCS_LEAST, BCS_JSON};
 
 static bool takes_text(enum bcs_call call) {
     return call == BCS_TO_BCS || call == BCS_NORMALISE || call == BCS_COMPARE || call == BCS_TEXT_REFUSAL;
@@ -139,13 +145,16 @@ static struct question question_of(const struct chain *chain, size_t call, uint3
     question.second = question.call == BCS_PART         ? (struct slice)OF(".")
                       : question.call == BCS_PART_NAMED ? (struct slice)OF(".f.f") /* often it leads nowhere */
                       : question.call == BCS_COMPARE    ? question.first
+                      : question.call == BCS_DIFFERENCES
+                          ? (struct slice){(const uint8_t *)chain->other.at, chain->other.length}
                                                         : (struct slice){NULL, 0};
+    question.second_number = question.call == BCS_DIFFERENCES ? BCS_BOTH_BYTES : BCS_DOCUMENTS;
     return question;
 }
 
-/* Each line of `explain` has the way to its piece. */
+/* Each line of `explain` has the way to its piece, and finding differences looks at it. */
 static bool takes_long(const struct chain *chain, enum bcs_call call) {
-    return call == BCS_EXPLAIN && chain->containers * (chain->levels + 1) > 500;
+    return (call == BCS_EXPLAIN || call == BCS_DIFFERENCES) && chain->containers * (chain->levels + 1) > 500;
 }
 
 /* What is known of an answer without asking a thread of 8 MiB: a value of so many containers is one at this depth, and refused
@@ -569,9 +578,11 @@ static void *transfer(void *data) {
     (void)data;
     const struct slice registry = example("aptos_registry.json"), text = example("aptos_transfer.json");
     struct question question = {BCS_TO_BCS, registry, OF("{\"TYPENAME\":\"RawTransaction\"}"), text, text, STANDARD, 0};
-    uint8_t bytes[1000], normal[1000];
+    uint8_t bytes[1000], other[1000], normal[1000];
     const bcs_answer coded = ask(BY_NAME, &question, bytes, sizeof bytes);
     CHECK(coded.status == BCS_DONE);
+    memcpy(other, bytes, coded.length);
+    other[coded.length - 1] ^= 1;
     question.call = BCS_FROM_BCS;
     question.first = (struct slice){bytes, coded.length};
     const bcs_answer shown = ask(BY_NAME, &question, normal, sizeof normal);
@@ -586,7 +597,9 @@ static void *transfer(void *data) {
         question.first = is_text ? (struct slice){normal, shown.length} : (struct slice){bytes, coded.length};
         question.second = question.call == BCS_PART || question.call == BCS_PART_NAMED ? (struct slice)OF(".")
                           : question.call == BCS_COMPARE                               ? text
+                          : question.call == BCS_DIFFERENCES ? (struct slice){other, coded.length}
                                                                                        : (struct slice){NULL, 0};
+        question.second_number = question.call == BCS_DIFFERENCES ? BCS_BOTH_BYTES : BCS_DOCUMENTS;
         const bool is_asked_why = question.call == BCS_TEXT_REFUSAL || question.call == BCS_STOP_REFUSAL;
         CHECK(ask(BY_NAME, &question, output, ROOM).status == (is_asked_why ? BCS_NO : BCS_DONE));
         CHECK(ask(BY_QUESTION, &question, output, ROOM).status == (is_asked_why ? BCS_NO : BCS_DONE));

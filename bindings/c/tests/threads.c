@@ -27,6 +27,7 @@ static const struct {
     {{ON_VALUE(BCS_NORMALISE, TEXT)}, BCS_DONE},
     {{ON_VALUE(BCS_COMPARE, TEXT), .second = OF(TEXT)}, BCS_DONE},
     {{ON_VALUE(BCS_SCAN, BYTES_OF_IT "!")}, BCS_DONE},
+    {{ON_VALUE(BCS_DIFFERENCES, BYTES_OF_IT), .second = OF(TEXT), .second_number = BCS_FIRST_BYTES}, BCS_DONE},
     {{ON_VALUE(BCS_PART, BYTES_OF_IT), .second = OF("inner/2/key:0162")}, BCS_DONE},
     {{ON_VALUE(BCS_PART_NAMED, BYTES_OF_IT), .number = BCS_POINTER, .second = OF("/to")}, BCS_DONE},
     {{ON_VALUE(BCS_CONTENT, BYTES_OF_IT), .number = BCS_STEPS, .second = OF("inner/2/key:0162")}, BCS_DONE},

@@ -320,6 +320,8 @@ func answerOn(r *bcs.Registry, format string, words []string) string {
 	case "compare":
 		equal, err := r.EqualJSON(format, first, unhex(words[6]))
 		return failed(err, map[bool]string{true: done(0, 0), false: no}[equal])
+	case "diff":
+		return diff(r, format, words)
 	case "scan":
 		length, err := r.Scan(format, first)
 		return failed(err, done(0, length))

@@ -7,7 +7,7 @@
 #include <stdio.h>
 #include <stdlib.h>
 
-/* Native.java passes each field but size and second_number. */
+/* Native.java passes each field but size. */
 #define AT(field, offset) (offsetof(bcs_question, field) == (offset))
 _Static_assert(AT(size, 0) && AT(call, 4) && AT(number, 8) && AT(second_number, 12) && AT(depth, 16) && AT(nodes, 20) &&
                    AT(format, 24) && AT(format_length, 32) && AT(first, 40) && AT(first_length, 48) && AT(second, 56) &&
@@ -107,12 +107,12 @@ JNIEXPORT jint JNICALL Java_bcsproved_Native_nodesFor(JNIEnv *env, jclass type, 
 }
 
 JNIEXPORT jbyteArray JNICALL Java_bcsproved_Native_ask(JNIEnv *env, jclass type, jlong handle, jint call, jint number,
-                                                       jint depth, jint nodes, jbyteArray format, jbyteArray first,
-                                                       jbyteArray second, jbyteArray views, jlong room,
+                                                       jint second_number, jint depth, jint nodes, jbyteArray format,
+                                                       jbyteArray first, jbyteArray second, jbyteArray views, jlong room,
                                                        jlongArray fields) {
     (void)type;
     bcs_question question = {.size = sizeof question, .call = (uint32_t)call, .number = (uint32_t)number,
-                             .depth = (uint32_t)depth, .nodes = (uint32_t)nodes};
+                             .second_number = (uint32_t)second_number, .depth = (uint32_t)depth, .nodes = (uint32_t)nodes};
     uint8_t *block = NULL, *reply = NULL;
     bcs_answer answer = plain(BCS_MEMORY);
     if (copy(env, format, &question.format, &question.format_length) &&

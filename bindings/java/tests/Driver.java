@@ -2,8 +2,10 @@ import static java.util.stream.Collectors.joining;
 
 import bcsproved.BcsException;
 import bcsproved.BcsException.Kind;
+import bcsproved.Difference;
 import bcsproved.Explanation;
 import bcsproved.Form;
+import bcsproved.Given;
 import bcsproved.Limits;
 import bcsproved.MadeRegistry;
 import bcsproved.Part;
@@ -68,7 +70,7 @@ public final class Driver {
         if (e.place() >= 0 != (e.kind() == Kind.BYTES && !"TooNested".equals(e.reason()))) {
             throw new AssertionError("the place " + e.place() + " of " + e);
         }
-        boolean isOfInput = e.kind() == KINDS.getOrDefault(call, Kind.BYTES);
+        boolean isOfInput = e.kind() == KINDS.getOrDefault(call, Kind.BYTES) || call.equals("diff") && e.kind() == Kind.TEXT;
         String status = isOfInput ? "refused" : e.kind().name().toLowerCase(Locale.ROOT);
         return line(status, e.reason() == null ? "-" : e.reason(), Math.max(e.place(), 0), 0, new byte[0]);
     }
@@ -174,6 +176,36 @@ public final class Driver {
         return place(decoded, what);
     }
 
+    /** A JSON object for each difference, and one with their number. */
+    private static String diff(Registry registry, String format, String[] words) throws BcsException, Unsayable {
+        if (!words[8].equals("json")) {
+            throw new Unsayable();
+        }
+        List<Difference> list = registry.diff(format, given(words[5], words[7].equals("first") || words[7].equals("both")),
+                given(words[6], words[7].equals("second") || words[7].equals("both")));
+        return output(list.stream().map(Driver::json).collect(joining()) + "{\"differences\":" + list.size() + "}\n");
+    }
+
+    private static Given given(String digits, boolean isBytes) {
+        return isBytes ? Given.bytes(unhex(digits)) : Given.json(unhex(digits));
+    }
+
+    private static String json(Difference it) {
+        String from = it.from().isPresent() ? ",\"from\":" + it.from().getAsLong() : "";
+        return "{\"a\":" + json(it.a()) + ",\"b\":" + json(it.b()) + ",\"difference\":" + quoted(it.kind()) + from + "}\n";
+    }
+
+    private static String json(Optional<Difference.Side> side) {
+        return side.map(it -> "{" + it.bytes().map(bytes -> "\"bytes\":" + quoted(HexFormat.of().formatHex(bytes)) + ",").orElse("")
+                + "\"name\":" + quoted(it.name()) + ",\"path\":" + it.path().map(Driver::quoted).orElse("null") + ",\"place\":" + it.place()
+                + ",\"size\":" + it.size() + ",\"text\":" + quoted(it.text()) + "}").orElse("null");
+    }
+
+    /** (these texts are printable ASCII) */
+    private static String quoted(String text) {
+        return '"' + text.replace("\\", "\\\\").replace("\"", "\\\"") + '"';
+    }
+
     private static Form form(String word) {
         return Form.valueOf(word.toUpperCase(Locale.ROOT));
     }
@@ -256,6 +288,8 @@ public final class Driver {
                 return output(registry.normaliseJson(format, first));
             case "compare":
                 return registry.equalJson(format, first, unhex(words[6])) ? DONE : NO;
+            case "diff":
+                return diff(registry, format, words);
             case "scan":
                 return line("done", "-", 0, registry.scan(format, first), new byte[0]);
             case "part":

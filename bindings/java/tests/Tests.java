@@ -3,8 +3,10 @@ import static java.util.stream.Collectors.joining;
 
 import bcsproved.BcsException;
 import bcsproved.BcsException.Kind;
+import bcsproved.Difference;
 import bcsproved.Explanation;
 import bcsproved.Form;
+import bcsproved.Given;
 import bcsproved.Limits;
 import bcsproved.MadeRegistry;
 import bcsproved.Prefix;
@@ -76,9 +78,10 @@ public final class Tests extends Check {
     private static void numbers() throws Exception {
         String header = Files.readString(examples.resolve("../bindings/c/include/bcs.h"));
         Map<String, Integer> own = ownConstants();
-        Map<String, Integer> known = constants(header, "call|status|form|notation");
-        // Calls whose answers come with refusals, and statuses that the package handles in C, or never gets.
-        known.keySet().removeAll(List.of("TEXT_REFUSAL", "GROWTH_PLACE", "MODULES_PLACE", "SHORT", "CLOSED", "NO_CALL"));
+        Map<String, Integer> known = constants(header, "call|status|form|notation|given");
+        // Calls whose answers come with refusals, statuses that the package handles in C, or never gets, and sums.
+        known.keySet().removeAll(List.of("TEXT_REFUSAL", "GROWTH_PLACE", "MODULES_PLACE", "SHORT", "CLOSED", "NO_CALL", "DOCUMENTS",
+                "BOTH_BYTES"));
         Map<String, Integer> faults = constants(header, "fault");
         faults.keySet().retainAll(own.keySet());
         known.putAll(faults);
@@ -175,6 +178,21 @@ public final class Tests extends Check {
         thrown(IllegalStateException.class, () -> registry.content("Note", data, "."));
     }
 
+    /** Which differences there are is asked by the rows of tests/rows. */
+    private static void differences() throws BcsException {
+        Registry registry = Registry.open("{}");
+        List<Difference> found = registry.diff("{\"SEQ\":\"STR\"}", Given.json("[\"a\"]"), Given.bytes(unhex("0201610162")));
+        equal(found.stream().map(Difference::kind).toList(), List.of("length", "only"));
+        equal(found.get(0).from().isEmpty() && found.get(1).a().isEmpty() && found.get(0).a().get().bytes().isEmpty(), true);
+        Difference.Side only = found.get(1).b().get();
+        equal(List.of(only.name(), only.path().get(), only.place(), only.size(), only.text()), List.of("[1]", "1", 3L, 2L, "\"b\""));
+        equal(registry.diff("\"U8\"", Given.bytes(unhex("37")), Given.json("55")), List.of());
+        refused(Kind.TEXT, "NotJson", -1, "", "line 1, column 1: the document is empty",
+                () -> registry.diff("\"U8\"", Given.json(""), Given.bytes(NOTHING)));
+        refused(Kind.BYTES, "EndOfInput", 0, ".", "expected U8, found the end of the input",
+                () -> registry.diff("\"U8\"", Given.json("7"), Given.bytes(NOTHING)));
+    }
+
     /** What Java finds wrong before a call is made. */
     private static void arguments() throws BcsException {
         Registry registry = Registry.open(SHAPES);
@@ -185,6 +203,8 @@ public final class Tests extends Check {
                 () -> registry.equalJson("Point", (byte[]) null, NOTHING), () -> registry.part("Point", NOTHING, null),
                 () -> registry.partByName("Point", NOTHING, null), () -> registry.partByPointer("Point", null, ""),
                 () -> registry.explain("Point", NOTHING, null), () -> registry.explain("Point", null, Form.JSON),
+                () -> registry.diff("Point", null, Given.json("1")), () -> registry.diff("Point", Given.json("1"), null),
+                () -> registry.diff(null, Given.json("1"), Given.json("1")), () -> Given.json((byte[]) null), () -> Given.bytes(null),
                 () -> registry.withLimits(null), () -> Registry.grows(null, NOTHING), () -> Registry.grows(NOTHING, null),
                 () -> Registry.registryOfModules((byte[]) null, List.of()), () -> Registry.registryOfModules((String) null, List.of()),
                 () -> Registry.registryOfModules("[]", null), () -> Registry.registryOfModules("[]", Arrays.asList("u8", null)))) {
@@ -192,7 +212,7 @@ public final class Tests extends Check {
         }
         for (Test test : List.<Test>of(() -> registry.encodeJson("\"STR\"", "\"" + half + "\""), () -> registry.check(half),
                 () -> registry.part("Point", NOTHING, half), () -> Registry.open(half), () -> Registry.registryOfModules(half, List.of()),
-                () -> Registry.registryOfModules("[]", List.of(half)), () -> new Limits(-1, 0),
+                () -> Registry.registryOfModules("[]", List.of(half)), () -> Given.json(half), () -> new Limits(-1, 0),
                 () -> new Limits(0, 1L << 32))) {
             thrown(IllegalArgumentException.class, test);
         }
@@ -200,7 +220,8 @@ public final class Tests extends Check {
         registry.withLimits(Limits.STANDARD).close();
         registry.close();
         for (Test test : List.<Test>of(() -> registry.check("Point"), () -> registry.withLimits(Limits.STANDARD).check("Point"),
-                () -> registry.explain("Point", NOTHING, Form.WAYS))) {
+                () -> registry.explain("Point", NOTHING, Form.WAYS),
+                () -> registry.diff("Point", Given.bytes(NOTHING), Given.json("1")))) {
             thrown(IllegalStateException.class, test);
         }
     }
@@ -383,7 +404,8 @@ public final class Tests extends Check {
     public static void main(String[] words) throws Exception {
         examples = Path.of(words[0]);
         List<Test> tests = words.length > 1 ? List.of(Tests::memory)
-                : List.of(Tests::numbers, Tests::strings, Tests::refusals, Tests::modules, Tests::views, Tests::contents, Tests::arguments,
+                : List.of(Tests::numbers, Tests::strings, Tests::refusals, Tests::modules, Tests::views, Tests::contents,
+                        Tests::differences, Tests::arguments,
                         Tests::limits, Tests::longRefusals, Tests::closing, Tests::collecting, Tests::stacks);
         for (Test test : tests) {
             test.run();

@@ -131,8 +131,8 @@ class Costs(Measured):
 
     def test_timeout(self) -> None:
         """A query with many calls ends at the timeout, and one call with all nodes long before."""
-        run(self.session, "set statement_timeout = '1s'")
         self.ends("54000", 800, f"select bcs_scan(%s, 'T0', '', {ALL})", doubling(40))
+        run(self.session, "set statement_timeout = '1s'")
         calls = f"select count(bcs_is(%s, 'T26', '', {MOST})) from generate_series(1, 1000000) as n"
         self.ends("57014", 4000, calls, doubling(40))
 

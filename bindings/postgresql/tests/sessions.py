@@ -319,7 +319,8 @@ class Memory(Database):
         first, last = spent(100000), spent(CALLS)
         contexts, process = last[0] - first[0], last[1] - first[1]
         print(f"sessions: {CALLS} calls, and {contexts} bytes more in contexts, {process} in the process")
-        self.assertLess(max(contexts, process), 1 << 20)
+        # (the kernel may add a huge page; a block that each call loses is 16 MB)
+        self.assertLess(max(contexts, process), 8 << 20)
 
 
 class Latin1(Database):

@@ -74,6 +74,7 @@ class Call(enum.IntEnum):
     SCHEMA = 13
     EXAMPLE = 14
     CANDIDATES = 15
+    DIFFERENCES = 16
     SHOW = 20
     FORMAT_PLACE = 21
     GROWS = 30

@@ -29,6 +29,9 @@ Names = Mapping[str, Iterable[str]]
 _MOST_FORMATS = 1000
 # What is added to a form of bcs.h: notes about the views.
 _WITH_NOTES = 4
+# enum bcs_given of bcs.h, which are added, and the numbers of the faults of bytes.
+_FIRST_BYTES, _SECOND_BYTES = 1, 2
+_STOPS = range(400, 500)
 # enum bcs_notation of bcs.h.
 _STEPS, _NAME, _POINTER = 0, 1, 2
 _NOTATIONS = {_NAME: "a name such as .payload.args[1]", _POINTER: "a JSON Pointer such as /payload/args/1"}
@@ -398,6 +401,26 @@ class Registry:
         answer = question.ask(Call.CANDIDATES, data, room=1000)
         question.require(answer, FormatError)
         return str(answer.output, "utf-8").split("\n")[:-1]
+
+    def diff(
+        self, format: Format, first: Union[str, Data], second: Union[str, Data], limits: Optional[Limits] = None
+    ) -> list[dict[str, Any]]:
+        """Where two values differ, a dict for each difference, as `bcs diff --json` prints it: "difference", "a", "b",
+        and for strings and bytes "from". "a" and "b" have "name", "path", "place", "size" and "text", and "bytes" if
+        the part has no parts; one of them is None if only the other value has the part. The list is empty if and only
+        if the values are equal.
+
+        A `str` is a JSON document, and anything else the bytes of a value: use `encode` for Python's values. Raises
+        TextError or BytesError for the first of the two that isn't exactly one value."""
+        inputs = [bytes_of_text(value) if isinstance(value, str) else bytes_of(value) for value in (first, second)]
+        given = _FIRST_BYTES * (not isinstance(first, str)) + _SECOND_BYTES * (not isinstance(second, str))
+        question = self._question(format, limits, max(inputs, key=len) if given else None)
+        question.second_number = given
+        room = min(4 * (len(inputs[0]) + len(inputs[1])) + 4000, 1000000)
+        answer = question.ask(Call.DIFFERENCES, *inputs, number=Form.JSON, room=room)
+        question.require(answer, BytesError if answer.fault in _STOPS else TextError)
+        # (the last line has the number of differences)
+        return [json.loads(line) for line in str(answer.output, "utf-8").split("\n")[:-2]]
 
     def part(self, format: Format, data: Data, path: str, limits: Optional[Limits] = None) -> Optional[Part]:
         """The part of the value at the beginning to which a path leads, or None if it leads nowhere. A path is "." for

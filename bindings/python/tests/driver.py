@@ -5,7 +5,7 @@ import json
 import pathlib
 import re
 import sys
-from typing import Any, Callable, Optional
+from typing import Any, Callable, Optional, Union
 
 sys.path.insert(0, str(pathlib.Path(__file__).resolve().parent.parent))
 
@@ -151,6 +151,20 @@ def pair_place(registry: Registry, format: bytes, limits: Limits, first: bytes, 
     return place(refused_by(lambda: registry.equal_json(format, first, second, limits)), what)
 
 
+def diff(
+    registry: Registry, format: bytes, limits: Limits, first: bytes, second: bytes, given: str, form: str
+) -> Answer:
+    if form != "json":
+        return Answer("unsayable")
+    try:
+        a: Union[str, bytes] = first if given in ("first", "both") else first.decode()
+        b: Union[str, bytes] = second if given in ("second", "both") else second.decode()
+    except UnicodeDecodeError:
+        return Answer("unsayable")
+    found = registry.diff(format, a, b, limits)
+    return output("".join(f"{json.dumps(one)}\n" for one in [*found, {"differences": len(found)}]).encode())
+
+
 def stop_place(registry: Registry, format: bytes, limits: Limits, data: bytes, what: str) -> Answer:
     """If the value at the start is refused, `scan` reports the same."""
     decoded = refused_by(lambda: registry.decode_json(format, data, limits))
@@ -228,6 +242,7 @@ CALLS: dict[str, Callable[..., Answer]] = {
     "from_bcs": from_bcs,
     "normalise": lambda registry, *words: output(registry.normalise_json(words[0], words[2], words[1]).encode()),
     "compare": lambda registry, *words: truth(registry.equal_json(words[0], words[2], words[3], words[1])),
+    "diff": diff,
     "scan": lambda registry, *words: Answer("done", length=registry.scan(words[0], words[2], words[1])),
     "part": part,
     "part_named": part_named,
@@ -247,7 +262,7 @@ CALLS: dict[str, Callable[..., Answer]] = {
 PLAIN = {
     **dict.fromkeys(["explain", "explain_with", "text_place", "stop_place", "example", "value"], [1]),
     **dict.fromkeys(["part_named", "content", "pair_place"], [2]),
-    "path_place": [2, 3],
+    **dict.fromkeys(["path_place", "diff"], [2, 3]),
     "format_place": [0],
 }
 
@@ -318,9 +333,14 @@ KINDS = {
 }
 
 
+def kind_of(fault: bcs_proved.BcsError, call: str) -> str:
+    """The kind of what the call refuses of its input. `diff` takes documents and bytes."""
+    return fault.kind if call == "diff" and fault.kind in ("text", "bytes") else KINDS.get(call, "bytes")
+
+
 def refusal(fault: bcs_proved.BcsError, call: str) -> Answer:
     assert (fault.place is None) == (fault.kind != "bytes" or fault.reason == "TooNested"), fault
-    kind = "refused" if fault.kind == KINDS.get(call, "bytes") and fault.reason != "BadPath" else fault.kind
+    kind = "refused" if fault.kind == kind_of(fault, call) and fault.reason != "BadPath" else fault.kind
     kind = "refused" if call == "content" and kind == "bytes" else kind
     return Answer(kind, fault.reason or "-", fault.place or 0)
 

@@ -1,8 +1,8 @@
 //! Makes the calls that standard input names, one a line, and answers each with a line. `tests/rows` starts it, and asks it the
 //! rows of the repository's tests.
 use bcs_proved::{
-    Error, ErrorKind, Example, Explanation, Form, Format, Limits, MadeRegistry, Part, Registry, Views,
-    registry_of_modules,
+    Difference, Error, ErrorKind, Example, Explanation, Form, Format, Given, Limits, MadeRegistry, Part, Registry,
+    Side, Views, registry_of_modules,
 };
 use std::cell::RefCell;
 use std::io::{self, BufRead, Write};
@@ -220,6 +220,7 @@ fn ask(call: &str, mut words: Words) -> Result<Told, Error> {
         "example" => example(&registry, format, input, words.next())?,
         "path_place" => path_place(&registry, format, &input, &words.bytes(), words.next(), words.next()),
         "normalise" => Told::output(registry.normalise_json(format, input)?.into()),
+        "diff" => diff(&registry, format, &input, &words.bytes(), words.next(), words.next())?,
         "compare" => Told::yes_or_no(registry.equal_json(format, input, words.bytes())?),
         "scan" => Told { length: registry.scan(format, input)?, ..Told::done() },
         "part" => part_named(&registry, format, &input, &words.bytes(), "steps")?,
@@ -235,6 +236,32 @@ fn ask(call: &str, mut words: Words) -> Result<Told, Error> {
         "stop_place" => stop_place(&registry, format, &input, words.next()),
         _ => panic!("no call is named {call}"),
     })
+}
+
+/// An object for each difference, and one with their number.
+fn diff(registry: &Registry, format: &Format, a: &[u8], b: &[u8], given: &str, form: &str) -> Result<Told, Error> {
+    if form != "json" {
+        return Ok(Told { status: UNSAYABLE, ..Told::default() });
+    }
+    let side = |data, is_bytes: bool| if is_bytes { Given::Bytes(data) } else { Given::Json(data) };
+    let first = side(a, ["first", "both"].contains(&given));
+    let found = registry.diff(format, first, side(b, ["second", "both"].contains(&given)))?;
+    let lines: String = found.iter().map(object_of).collect();
+    Ok(Told::output(format!("{lines}{{\"differences\":{}}}\n", found.len()).into()))
+}
+
+fn object_of(difference: &Difference) -> String {
+    let from = difference.from.map_or(String::new(), |from| format!(",\"from\":{from}"));
+    let [a, b] = [&difference.a, &difference.b].map(|side| side.as_ref().map_or("null".into(), object_of_side));
+    format!("{{\"a\":{a},\"b\":{b},\"difference\":{:?}{from}}}\n", difference.kind)
+}
+
+/// (the texts are printable ASCII, which `Debug` escapes as JSON does)
+fn object_of_side(side: &Side) -> String {
+    let Side { name, place, size, text, .. } = side;
+    let bytes = side.bytes.as_ref().map_or(String::new(), |bytes| format!("\"bytes\":\"{}\",", digits(bytes)));
+    let path = side.path.as_ref().map_or("null".into(), |path| format!("{path:?}"));
+    format!("{{{bytes}\"name\":{name:?},\"path\":{path},\"place\":{place},\"size\":{size},\"text\":{text:?}}}")
 }
 
 /// The value at the beginning of longer bytes is the same.

@@ -92,19 +92,27 @@ impl Pieces {
     }
 }
 
-/// A line that the library explains.
-struct Object(Vec<(String, Json)>);
+/// An object in what the library explains.
+pub(crate) struct Object(Vec<(String, Json)>);
 
 impl Object {
-    fn of(line: &str) -> Option<Object> {
+    pub(crate) fn of(line: &str) -> Option<Object> {
         Some(Object(members(line)?))
     }
 
-    fn text(&self, name: &str) -> Option<String> {
+    /// The object that is this member.
+    pub(crate) fn object(&self, name: &str) -> Option<Object> {
+        match &self.0.iter().find(|member| member.0 == name)?.1 {
+            Json::Other(text) => Object::of(text),
+            _ => None,
+        }
+    }
+
+    pub(crate) fn text(&self, name: &str) -> Option<String> {
         match &self.0.iter().find(|member| member.0 == name)?.1 {
             Json::Text(text) | Json::Number(text) => Some(text.clone()),
             Json::Truth(truth) => Some(truth.to_string()),
-            Json::Null | Json::Other => None,
+            Json::Null | Json::Other(_) => None,
         }
     }
 

@@ -26,8 +26,8 @@ pub(crate) enum Json {
     Truth(bool),
     Number(String),
     Text(String),
-    /// An array or an object.
-    Other,
+    /// An array or an object, as it is written.
+    Other(String),
 }
 
 /// The members of the JSON object in a text, in its order. `None`: it isn't one object.
@@ -64,7 +64,11 @@ impl Reader<'_> {
         self.rest = self.rest.trim_start();
         match self.rest.chars().next()? {
             '"' => self.text().map(Json::Text),
-            '{' | '[' => self.skip().map(|()| Json::Other),
+            '{' | '[' => {
+                let start = self.rest;
+                self.skip()?;
+                Some(Json::Other(start[..start.len() - self.rest.len()].to_owned()))
+            }
             _ => Some(self.word()),
         }
     }
@@ -158,7 +162,7 @@ mod tests {
         let text = r#" { "a\u00e9\ud83d\ude00\"\\\/\n" : [ "]", {"b":1} ] , "c":null,"d":true,"e":-17 , "f" : "x" } "#;
         let found = members(text).unwrap();
         let wanted = [
-            ("aé😀\"\\/\n", Json::Other),
+            ("aé😀\"\\/\n", Json::Other(r#"[ "]", {"b":1} ]"#.into())),
             ("c", Json::Null),
             ("d", Json::Truth(true)),
             ("e", Json::Number("-17".into())),

@@ -24,6 +24,7 @@ mod address;
 mod answers;
 #[cfg(feature = "serde_json")]
 pub mod bytes;
+mod differences;
 mod error;
 mod explanation;
 mod faults;
@@ -61,6 +62,7 @@ mod wide_integers;
 pub use address::{Address, ParseError};
 #[cfg(feature = "serde_json")]
 pub use bytes::{Bytes, Hex};
+pub use differences::{Difference, Given, Side};
 pub use error::{Error, ErrorKind};
 pub use explanation::{Explanation, Form, Piece, Pieces};
 pub use faults::{ExampleFault, GrowthFault, ModulesFault, Reason, RegistryFault, Stop, TextFault};

@@ -1,4 +1,5 @@
 use crate::answers::{ask, done, done_unless_no, fill, found, into_text};
+use crate::differences::{Difference, Given};
 use crate::error::{Error, ErrorKind, stop};
 use crate::explanation::{Explanation, Form, Pieces};
 use crate::format::Format;
@@ -315,6 +316,33 @@ impl Registry {
         let (format, bytes) = (Format::json(r#""UNIT""#), bytes.as_ref());
         let (text, _) = self.output(&self.of_bytes(Call::Candidates, &format, bytes), 1024)?;
         Ok(into_text(text).lines().map(String::from).collect())
+    }
+
+    /// Where two values differ, in the order of their bytes: nothing exactly if they are equal. Each of them is given as JSON or as
+    /// bytes. The error is that of the first one that isn't exactly one value.
+    ///
+    /// ```
+    /// let registry = bcs_proved::Registry::read(r#"{"Payment":{"STRUCT":[{"to":"STR"},{"amount":"U64"}]}}"#)?;
+    /// let found = registry.diff("Payment", r#"{"to":"bob","amount":7}"#, b"\x03bob\x08\0\0\0\0\0\0\0")?;
+    /// let (a, b) = (found[0].a.as_ref().unwrap(), found[0].b.as_ref().unwrap());
+    /// assert_eq!((a.name.as_str(), a.place, a.text.as_str(), b.text.as_str()), (".amount", 4, "U64 7", "U64 8"));
+    /// # Ok::<(), bcs_proved::Error>(())
+    /// ```
+    pub fn diff<'a>(
+        &self,
+        format: impl Into<Format>,
+        first: impl Into<Given<'a>>,
+        second: impl Into<Given<'a>>,
+    ) -> Result<Vec<Difference>, Error> {
+        let (format, first, second) = (format.into(), first.into(), second.into());
+        let (a, b) = (first.data(), second.data());
+        let given = sys::FIRST_BYTES * u32::from(first.is_bytes()) + sys::SECOND_BYTES * u32::from(second.is_bytes());
+        let longer = a.len().max(b.len());
+        let nodes = if given == 0 { self.limits.nodes_of_text() } else { self.nodes_of_bytes(longer) };
+        let question = self.of_text(Call::Differences, &format).limits(self.limits.depth, nodes).first(a).second(b);
+        let room = longer.saturating_mul(4).saturating_add(1024);
+        let (lines, _) = self.output(&question.number(sys::JSON).given(given), room)?;
+        Ok(Difference::list(&into_text(lines)))
     }
 
     /// The part of the value at the front to which a path leads, or `None` where it leads nowhere.

@@ -36,6 +36,10 @@ pub(crate) const STEPS: u32 = 0;
 pub(crate) const NAME: u32 = 1;
 pub(crate) const POINTER: u32 = 2;
 
+// Which of two values are bytes: `enum bcs_given`, whose numbers are added.
+pub(crate) const FIRST_BYTES: u32 = 1;
+pub(crate) const SECOND_BYTES: u32 = 2;
+
 // The faults of `enum bcs_fault` that belong to no enum of `faults`, except that of a path, which its status implies.
 pub(crate) const SHOWN_TOO_NESTED: u32 = 501;
 pub(crate) const NO_CONTENT: u32 = 602;
@@ -57,6 +61,7 @@ pub(crate) enum Call {
     Schema = 13,
     Example = 14,
     Candidates = 15,
+    Differences = 16,
     Show = 20,
     FormatPlace = 21,
     Grows = 30,
@@ -156,6 +161,11 @@ impl<'a> Question<'a> {
     /// The same question with a form, a notation or a fault.
     pub(crate) fn number(self, number: u32) -> Question<'a> {
         Question { number, ..self }
+    }
+
+    /// The same question, with which of its inputs are bytes.
+    pub(crate) fn given(self, second_number: u32) -> Question<'a> {
+        Question { second_number, ..self }
     }
 
     pub(crate) fn limits(self, depth: u32, nodes: u32) -> Question<'a> {

@@ -134,13 +134,16 @@ static const struct {
     {"select bcs_fault(" REGISTRY ",'A',x'0701036F6E65')", "null"},
     {"select bcs_explain('{}','\"U8\"',x'07','json')",
      "{\"bytes\":\"07\",\"kind\":\"unsigned\",\"name\":\".\",\"path\":\".\",\"place\":0,\"value\":\"7\",\"what\":\"U8\"}\n{\"end\":1}\n"},
+    {"select a_text || b_text from bcs_differences(" REGISTRY ",'A',x'0700',x'0800')", "U8 7U8 8"},
+    {"select container from bcs_candidates(" REGISTRY ",x'0701036F6E65')", "A"},
+    {"select 1 from bcs_differences('{}','\"BOOL\"',x'00',x'02')", "bcs: refused: BadBool at byte 0, .: expected BOOL, 00 or 01, found 02"},
     {"select bcs_explain_with('{}','\"BYTES\"',x'0107','json','inside .=\"U8\"')",
      "{\"bytes\":\"01\",\"kind\":\"length\",\"name\":\".\",\"path\":\".\",\"place\":0,\"value\":1,\"what\":\"BYTES\"}\n"
      "{\"bytes\":\"07\",\"kind\":\"unsigned\",\"name\":\"[bcs]\",\"path\":null,\"place\":1,\"value\":\"7\",\"what\":\"U8\"}\n{\"end\":2}\n"},
-    {"select bcs_is('{}','{\"SEQ\":7}',x'07')", "bcs: refused: BadShape in the format at /SEQ: expected a format, found 7"},
+    {"select bcs_is('{}','{\"SEQ\":7}',x'07')", "bcs: refused: BadShape in the format at /SEQ: expected a format, found 7; write a string, as \"U64\", or an object, as {\"SEQ\":\"U8\"}"},
     {"select bcs_is('{\"Point\":\"UNITSTRUCT\"}','{\"SEQ\":{\"TYPENAME\":\"point\"}}',x'00')",
      "bcs: refused: UnknownName in the format: no container is called point; did you mean Point?"},
-    {"select bcs_part('{}','\"U8\"',x'07','inner//2')", "bcs: refused: BadPath in the path at step 2: an empty step"},
+    {"select bcs_part('{}','\"U8\"',x'07','inner//2')", "bcs: refused: BadPath in the path at step 2: an empty step; remove one / of two"},
     {"select bcs_part_by_name('{}','\"U8\"',x'07','x')", "bcs: refused: BadPath in the path: expected a name such as .payload.args[1]"},
     {"select bcs_content_by_pointer('{}','\"U8\"',x'07','x')",
      "bcs: refused: BadPath in the path: expected a JSON Pointer such as /payload/args/1"},
@@ -150,9 +153,9 @@ static const struct {
     {"select bcs_explain_with('{}','\"BYTES\"',x'0107','json','inside .=A')",
      "bcs: refused: UnknownName in the format at line 1 of the views: no container is called A"},
     {"select bcs_explain_with('{}','\"BYTES\"',x'0107','json',char(10) || 'inside .=\"U8\"' || char(10) || 'inside .\"=\\\"=\"={\"SEQ\":7}')",
-     "bcs: refused: BadShape in the format at line 3 of the views, /SEQ: expected a format, found 7"},
+     "bcs: refused: BadShape in the format at line 3 of the views, /SEQ: expected a format, found 7; write a string, as \"U64\", or an object, as {\"SEQ\":\"U8\"}"},
     {"select bcs_explain_with('{}','{\"SEQ\":7}',x'0107','json','inside .=A')",
-     "bcs: refused: BadShape in the format at /SEQ: expected a format, found 7"},
+     "bcs: refused: BadShape in the format at /SEQ: expected a format, found 7; write a string, as \"U64\", or an object, as {\"SEQ\":\"U8\"}"},
     {"select bcs_scan('{}','{\"TUPLE\":[\"U8\",\"U8\"]}',x'0102',2)",
      "bcs: refused: TooManyNodes at byte 1, [1]: expected U8; allow more nodes"},
     {"select bcs_decode(null,'A',x'07')", "null"},
@@ -173,9 +176,9 @@ static const struct {
     {"select bcs_decode(" REGISTRY ",'A',x'0702')",
      "bcs: refused: EndOfInput at byte 2, .y[0]: expected the length of STR, found the end of the input"},
     {"select bcs_is('{\"A\":{\"STRUCT\":7}}','\"U8\"',x'07')",
-     "bcs: refused: BadShape in the registry at /A/STRUCT: expected an array of fields, found 7"},
+     "bcs: refused: BadShape in the registry at /A/STRUCT: expected an array of fields, found 7; write an array, as [{\"NAME\":\"U8\"}]"},
     {"select bcs_is('examples/aptos_registry.json','\"U8\"',x'07')",
-     "bcs: refused: NotJson in the registry: line 1, column 1: text belongs in double quotes; "
+     "bcs: refused: NotJson in the registry: line 1, column 1: text belongs in double quotes; a registry is a JSON object (bcs-registry makes one from YAML); "
      "in the shell, readfile('..') reads a registry from a file"},
     {OF_NAME("replace(hex(zeroblob(100)),'0','~') || 'b'"),
      "bcs: refused: BadShape at /" TWO_HUNDRED("~0") "...(cut)/0: found true, expected an integer from 0 to 255 (U8)"},
@@ -207,7 +210,7 @@ static void hostile(void) {
     is_error(database, "select bcs_decode('{}','{\"SEQ\":\"UNIT\"}',x'ffffffff07')",
              "bcs: refused: TooManyNodes at byte 5, [999999]: expected room for a value; allow more nodes");
     is_error(database, "select bcs_encode('{}','\"U8\"',replace(hex(zeroblob(50000)),'0','[') || replace(hex(zeroblob(50000)),'0',']'))",
-             "bcs: refused: NotJson: line 1, column 128: arrays and objects are nested more than 127 levels deep; this program reads no more");
+             "bcs: refused: NotJson: line 1, column 128: arrays and objects are nested more than 127 levels deep; this program reads at most 127");
     is_error(database, "select bcs_decode('{\"L\":{\"NEWTYPESTRUCT\":{\"OPTION\":{\"TYPENAME\":\"L\"}}}}','L',"
              "cast(replace(hex(zeroblob(50000)),'0',char(1)) as blob))",
              "bcs: refused: TooDeep at byte 100, " TEN("??????????") ": expected room for L; allow a larger depth");
@@ -260,7 +263,7 @@ static void hostile(void) {
     is_error(database, "select bcs_scan('{\"A\":{\"STRUCT\":[{\"' || printf('%.*c',17000000,'b') || '\":\"U8\"}]}}','A',x'')",
              "bcs: refused: EndOfInput at byte 0: expected U8, found the end of the input");
     is_error(database, "select bcs_part('{}','\"U8\"',x'07',printf('%.*c',17000000,'b'))",
-             "bcs: refused: BadPath in the path: expected a number, inner, or key: and hexadecimal digits");
+             "bcs: refused: BadPath in the path: expected a number, inner, or key: and hexadecimal digits; a name such as .a[0] belongs to --name, or to a call by name");
     /* A format, a path and views with control characters, with characters beyond ASCII, that are too long, or that aren't Unicode. */
     is_error(database, "select bcs_is('{}',char(233,10,128512),x'07')",
              "bcs: refused: UnknownName in the format: no container is called \\u00e9\\u000a\\ud83d\\ude00");
@@ -270,10 +273,10 @@ static void hostile(void) {
     is_error(database, "select bcs_part('{}','\"U8\"',x'07','inner/~1' || char(233,10,128512))",
              "bcs: refused: BadPath in the path at step 2 ~1\\u00e9\\u000a\\ud83d\\ude00: expected a number, inner, or key: and hexadecimal digits");
     is_error(database, "select bcs_part('{}','\"U8\"',x'07',cast(x'696e006572' as text))",
-             "bcs: refused: BadPath in the path at step 1 in\\u0000er: expected a number, inner, or key: and hexadecimal digits");
+             "bcs: refused: BadPath in the path at step 1 in\\u0000er: expected a number, inner, or key: and hexadecimal digits; a name such as .a[0] belongs to --name, or to a call by name");
     is_error(database, "select bcs_part('{}','\"U8\"',x'07','inner/' || printf('%.*c',194,'b'))",
              "bcs: refused: BadPath in the path at step 2 " TEN(TEN("b")) TEN("bbbbbbbbb") "bbb" "...(cut): "
-             "expected a number, inner, or key: and hexadecimal digits");
+             "expected a number, inner, or key: and hexadecimal digits; a name such as .a[0] belongs to --name, or to a call by name");
     is_error(database, "select bcs_part('{}','\"U8\"',x'07',cast(x'ff' as text))", "bcs: refused: BadPath in the path");
     is_error(database, "select bcs_explain_with('{}','\"BYTES\"',x'0107','json','inside .=' || char(233))",
              "bcs: refused: UnknownName in the format at line 1 of the views: no container is called \\u00e9");

@@ -32,8 +32,10 @@ FUNCTIONS = {
     "bcs_explain_with": ENDLESS + ", 'ways', ''",
     **dict.fromkeys(["bcs_encode", "bcs_normalise"], "'{}', '\"U8\"', 7"),
     "bcs_equal": "'{}', '\"U8\"', 7, 7",
+    "bcs_differences": ENDLESS + ", x'00'",
+    "bcs_candidates": """'{"A":{"NEWTYPESTRUCT":{"SEQ":"UNIT"}}}', x'ffffff07'""",
 }
-BOUNDED = FUNCTIONS.keys() - {"bcs_explain", "bcs_explain_with"}
+BOUNDED = FUNCTIONS.keys() - {"bcs_explain", "bcs_explain_with", "bcs_differences", "bcs_candidates"}
 # A struct whose fields have its own arguments with two of them swapped: a small module has 12! instances.
 WORDS = ["u8", "u16", "u32", "u64", "u128", "u256", "bool", "address", "i8", "i16", "i32", "i64"]
 NESTED = [f"vector<{word}>" for word in WORDS] + [f"vector<vector<vector<vector<{word}>>>>" for word in WORDS]

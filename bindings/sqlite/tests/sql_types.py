@@ -31,6 +31,7 @@ VALUES = {
 VALUE, PLAIN = "bcs: the value must be TEXT or INTEGER", "bcs: bytes must be a BLOB such as x'07'"
 FORMAT, WORD = "bcs: the format must be TEXT", "bcs: the path or the form must be TEXT"
 REAL = VALUE + ", not REAL"
+TAKES = "bcs: {} takes {} arguments, and perhaps nodes and a depth"
 LIMITS = "bcs: nodes are from 0 to 4294967295, and a depth is from 0 to 500"
 OUT_OF_RANGE = ["-7", "9223372036854775807"]
 # The types that calls take at a mark, what they say of others before the type, and the calls.
@@ -51,13 +52,17 @@ MARKED = [
         bcs_part('{}', '"U8"', ?, '.') | bcs_part_place('{}', '"U8"', ?, '.') | bcs_part_by_name('{}', '"U8"', ?, '.')
         bcs_part_by_pointer('{}', '"U8"', ?, '') | bcs_content('{}', '"BYTES"', ?, '.')
         bcs_content_by_name('{}', '"BYTES"', ?, '.') | bcs_content_by_pointer('{}', '"BYTES"', ?, '')
-        bcs_explain_with('{}', '"U8"', ?, 'json', '') | bcs_explain('{}', '"U8"', ?, 'json')
+        bcs_explain_with('{}', '"U8"', ?, 'json', '') | bcs_explain('{}', '"U8"', ?, 'json') | bcs_candidates('{}', ?)
+        bcs_differences('{}', '"U8"', ?, x'07') | bcs_differences('{}', '"U8"', x'07', ?)
         """,
     ),
     (
         ["TEXT", "BLOB"],
         "bcs: the registry must be TEXT or BLOB",
-        """bcs_is(?, '"U8"', x'07') | bcs_encode(?, '"U8"', 7)""",
+        """
+        bcs_is(?, '"U8"', x'07') | bcs_encode(?, '"U8"', 7) | bcs_candidates(?, x'07')
+        bcs_differences(?, '"U8"', x'07', x'08')
+        """,
     ),
     (["TEXT"], FORMAT, "bcs_is('{}', ?, x'07') | bcs_encode('{}', ?, 7) | bcs_equal('{}', ?, 7, 8)"),
     (
@@ -80,7 +85,8 @@ MARKED = [
         LIMITS,
         """
         bcs_is('{}', '"U8"', x'07', ?) | bcs_is('{}', '"U8"', x'07', 1, ?)
-        bcs_encode('{}', '"U8"', 7, ?) | bcs_part('{}', '"U8"', x'07', '.', ?)
+        bcs_encode('{}', '"U8"', 7, ?) | bcs_part('{}', '"U8"', x'07', '.', ?) | bcs_candidates('{}', x'07', ?)
+        bcs_candidates('{}', x'07', 1, ?) | bcs_differences('{}', '"U8"', x'07', x'07', ?)
         """,
     ),
 ]
@@ -131,6 +137,57 @@ class Types(unittest.TestCase):
                         self.assertEqual((call, expression, told), (call, expression, f"{message}, not {type}"))
                     else:
                         self.assertFalse(str(told).startswith(message), (call, expression, told))
+
+    def rows(self, statement: str, *arguments: object) -> Any:
+        """The rows of a statement, or the text of its error."""
+        try:
+            return self.database.execute(statement, arguments).fetchall()
+        except sqlite3.OperationalError as fault:
+            return str(fault)
+
+    def test_rows(self) -> None:
+        """The functions that return rows, also in joins, with arguments in columns, and twice in a statement."""
+        names = '{"A":{"NEWTYPESTRUCT":"U8"},"B":{"NEWTYPESTRUCT":"BOOL"},"C":"UNITSTRUCT"}'
+        self.database.execute("create table t (a blob, b blob)")
+        rows = [(b"\1", b"\1"), (b"\2", b"\3"), (b"\4", None), (b"\5", b"\6")]
+        self.database.executemany("insert into t values (?, ?)", rows)
+        both = "t, bcs_differences(?, 'A', a, b) as d"
+        tried: list[tuple[str, list[str], Any]] = [
+            (
+                f"select hex(a), a_name, a_text, b_text, d.from_byte from {both}",
+                [names],
+                [("02", ".", "U8 2", "U8 3", None), ("05", ".", "U8 5", "U8 6", None)],
+            ),
+            (f"select count(*) from {both} where a_place = 0 and difference = 'value'", [names], [(2,)]),
+            ("select container from bcs_candidates(?, x'01')", [names], [("B",), ("A",)]),
+            ("select c.container from t join bcs_candidates(?, t.a) c where t.rowid > 2", [names], [("A",), ("A",)]),
+            ("select container from bcs_candidates where registry = ? and bytes = x''", [names], [("C",)]),
+            ("select container from bcs_candidates(?, x'01', 0)", [names], []),
+            ("select 1 from bcs_candidates('{}', x'07')", [], []),
+            ("select 1 from bcs_candidates(null, x'07')", [], []),
+            ("select 1 from bcs_differences('{}', '\"U8\"', x'07', null)", [], []),
+            (
+                "select a.a_text, b.b_text from bcs_differences(?1, 'A', x'01', x'02') a,"
+                " bcs_differences(?1, 'B', x'00', x'01') b",
+                [names],
+                [("U8 1", "BOOL true")],
+            ),
+            ("select 1 from bcs_differences('{}', '\"U8\"')", [], TAKES.format("bcs_differences", 4)),
+            ("select 1 from bcs_candidates", [], TAKES.format("bcs_candidates", 2)),
+            ("select 1 from bcs_candidates('{', x'')", [], None),
+            (
+                "select 1 from bcs_differences('{}', '\"BOOL\"', x'00', x'02')",
+                [],
+                "bcs: refused: BadBool at byte 0, .: expected BOOL, 00 or 01, found 02",
+            ),
+            ("select 1 from bcs_differences('{}', '\"BOOL\"', 'a', x'02')", [], PLAIN + ", not TEXT"),
+        ]
+        for statement, arguments, wanted in tried:
+            told = self.rows(statement, *arguments)
+            if wanted is None:
+                self.assertTrue(str(told).startswith("bcs: refused: NotJson in the registry"), (statement, told))
+            else:
+                self.assertEqual((statement, told), (statement, wanted))
 
     def test_columns(self) -> None:
         """A column converts what is stored in it, and never makes another number of a text."""

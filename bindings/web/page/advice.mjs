@@ -6,6 +6,7 @@ const ADVICE = [
   [/decode reads such digits/, 'paste them under Bytes'],
   [/; --lines reads one document from each line/, ''],
   [/; a string is read as JSON; for a file, pass its contents: .*$/, ''],
+  [/ \(bcs-registry makes one from YAML\)/, ''],
   [/--nodes allows/, 'this page allows'],
 ];
 

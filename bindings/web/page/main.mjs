@@ -488,15 +488,17 @@ class Page {
     const verdict = $('compare-verdict');
     if (first.trim() === '' || second.trim() === '') {
       verdict.textContent = '';
+      showDifferences();
       return;
     }
     const told = await this.#ask('compare', { ...this.#asked, first, second });
     if (told === undefined) return;
     const { answer, refusal } = told;
-    verdict.className = answer?.isEqual ? 'good' : 'bad';
+    verdict.className = answer?.count === 0 ? 'good' : 'bad';
     const refused = refusal ?? answer.refusal;
     const which = answer?.which === undefined ? '' : `the ${answer.which} document is `;
-    verdict.textContent = refused ? which + toldOfRefusal(refused) : answer.isEqual ? 'equal' : 'different';
+    verdict.textContent = refused ? which + toldOfRefusal(refused) : answer.count === 0 ? 'equal' : 'different';
+    showDifferences(refused ? undefined : answer);
   }
 
   // Links, the clipboard and files
@@ -548,6 +550,7 @@ class Page {
       this.#own.delete(name);
     }
     for (const id of ['registry-verdict', 'modules-verdict', 'compare-verdict']) $(id).textContent = '';
+    showDifferences();
     $('compare-box').open = false;
     $('container').replaceChildren();
     $('own-format').hidden = true;
@@ -603,6 +606,21 @@ class Page {
     this.panes[pane].content = pane === 'bytes' && !isBase64 ? digitsIn(bytes) : new TextDecoder().decode(bytes);
     this.panes[pane].whenChanged();
   }
+}
+
+/** Where two values differ, a line for each place; nothing without an answer. */
+function showDifferences({ count, lines } = { count: 0, lines: [] }) {
+  const items = lines.map(({ name, place, told }) => {
+    const item = document.createElement('li');
+    const code = document.createElement('code');
+    code.textContent = shownName(name, 300);
+    item.append(code, `, at ${place}: ${told}`);
+    return item;
+  });
+  $('differences').replaceChildren(...items);
+  $('differences').hidden = items.length === 0;
+  const more = count - lines.length;
+  $('differences-note').textContent = more > 0 ? `and ${counted(more, 'more difference', 'more differences')}` : '';
 }
 
 // What is said instead of a refusal where a box is empty.

@@ -6,6 +6,7 @@ import { adviceOnPage } from './advice.mjs';
 import { coded, decoded } from './coding.mjs';
 import { callsIn } from './arguments.mjs';
 import { blankOf } from './blank.mjs';
+import { lineOfDifference } from './differences.mjs';
 import { joinedRegistry } from './joined_registry.mjs';
 import { laidOut } from './layout.mjs';
 import { outlineOf } from './outline.mjs';
@@ -24,6 +25,7 @@ const MOST_NAMES = 2000;
 const MOST_OFFERED = 5;
 const MOST_SCANNED = 1 << 24;
 const MOST_LAID_OUT = 200_000;
+const MOST_DIFFERENCES = 200;
 
 let bcs;
 let open = { text: undefined, registry: undefined, containers: undefined };
@@ -220,7 +222,9 @@ function compare({ registry: text, format, first, second }) {
       return { which, refusal };
     }
   }
-  return { isEqual: registry.equalText(format, first, second) };
+  if (registry.equalText(format, first, second)) return { count: 0, lines: [] };
+  const differences = registry.diff(format, first, second);
+  return { count: differences.length, lines: differences.slice(0, MOST_DIFFERENCES).map(lineOfDifference) };
 }
 
 /** The whole of the last value, for the clipboard or a file. */

@@ -168,24 +168,23 @@ def ask_outputs(programs: Programs) -> None:
             programs.gives(Told(2, b"", refusal), [*program, *job, '"U8"', "--quiet", f"--output={name}"])
             programs.has(name, b"\xcc\xed")
     programs.both(0, "-4660\n", "", "decode", "--raw", "{}", '"I16"', "old.bytes")
-    missing = "fault: write\nin the file no/x: No such file or directory\n"
+    missing = "fault: write\nin the file no/x: No such file or directory; make its folder first\n"
     programs.both(4, "", missing, *job, '"I16"', "-o", "no/x")
-    programs.both(4, "", "fault: write\nin the file .\n", *job, '"I16"', "-o", ".")
+    programs.both(4, "", "fault: write\nin the file .: Is a directory; name a file in it\n", *job, '"I16"', "-o", ".")
 
 
 def ask_faults(programs: Programs) -> None:
     both = programs.both
     write("input", "-4660\n")
-    missing = (
-        "No such file or directory"
-        "; a value itself goes to standard input, a registry itself starts with {, and modules with { or [\n"
-    )
-    both(4, "", f"fault: open\nin the file no.json: {missing}", "check", "no.json")
-    both(4, "", f'fault: open\nin the file no\\"\\u00e9: {missing}', "encode", "{", '"I16"', 'no"é')
+    missing = "No such file or directory"
+    registry = f"{missing}; REG comes first, and a registry itself starts with {{\n"
+    value = f"{missing}; a value itself goes to standard input, as JSON or digits\n"
+    both(4, "", f"fault: open\nin the file no.json: {registry}", "check", "no.json")
+    both(4, "", f'fault: open\nin the file no\\"\\u00e9: {value}', "encode", "{", '"I16"', 'no"é')
     both(4, "", "fault: open\nin the file input/x: Not a directory\n", "encode", "{", '"I16"', "input/x")
     both(4, "", "fault: open\n", "check", "--quiet", "no.json")
-    both(4, "", "fault: read\nin the file .\n", "encode", "{}", '"I16"', ".")
-    both(4, "", "fault: read\nin the file .\n", "grows", "{}", ".")
+    both(4, "", "fault: open\nin the file .: Is a directory; name a file in it\n", "encode", "{}", '"I16"', ".")
+    both(4, "", "fault: open\nin the file .: Is a directory; name a file in it\n", "grows", "{}", ".")
     for line in WRONG_ARGUMENTS:
         told = programs.alike(3, *line.split())
         if not (told.output + told.errors).startswith(b"error: "):

@@ -130,6 +130,16 @@ function decode(registry, format, bytes) {
   return put(text);
 }
 
+function diff(registry, format, [first, second, given, form]) {
+  if (form !== 'json') throw new Unsayable();
+  const [a, b] = [[first, 'first'], [second, 'second']].map(([digits, word]) => {
+    const bytes = bytesOfHex(digits);
+    return [word, 'both'].includes(given) ? bytes : decoder.decode(bytes);
+  });
+  const found = registry.diff(format, a, b);
+  return put([...found, { differences: found.length }].map((object) => `${JSON.stringify(object)}\n`).join(''));
+}
+
 const PARTS = { steps: 'part', name: 'partByName', pointer: 'partByPointer' };
 const CONTENTS = { steps: 'content', name: 'contentByName', pointer: 'contentByPointer' };
 const VIEWS = { inside: 'inside', call: 'calls', address: 'addresses', u256: 'u256s', i256: 'i256s' };
@@ -183,6 +193,7 @@ function answerTo(call, words) {
   if (call === 'pair_place') return place(refusedBy(() => registry.equalText(format, ...others.slice(0, 2).map(bytesOfHex))), others[2]);
   if (call === 'format_place') return formatPlace(registry, format, others[0]);
   if (call === 'path_place') return pathPlace(registry, format, bytesOfHex(others[0]), others.slice(1));
+  if (call === 'diff') return diff(registry, format, others);
   if (call === 'schema') return put(JSON.stringify(registry.schema(format)));
   if (call === 'example') return put(registry.exampleText(format, { variant: decoder.decode(bytesOfHex(others[0])), full: others[1] === 'full' }));
   if (call === 'explain_with') return pieces(registry, format, bytesOfHex(others[0]), others[1], viewsOf(bytesOfHex(others[2])));
@@ -208,7 +219,8 @@ function line(call, words) {
     if (!(error instanceof BcsError)) throw error;
     const { kind, reason, place } = error;
     assert.equal(place !== undefined, kind === 'bytes' && reason !== 'TooNested', reason);
-    const status = reason === 'NoContent' || kind === (KINDS[call] ?? 'bytes') ? 'refused' : kind;
+    const isOfInput = call === 'diff' ? ['text', 'bytes'].includes(kind) : kind === (KINDS[call] ?? 'bytes');
+    const status = reason === 'NoContent' || isOfInput ? 'refused' : kind;
     return [status, reason ?? '-', place ?? 0, 0, ''].join('\t');
   }
 }

@@ -305,6 +305,23 @@ test('the name of a file in place of a registry is told apart', () => {
   }
 });
 
+test('differences of texts and bytes', () => {
+  const [found] = shapes.diff('Point', '{"x":1,"y":2}', [1, 3]);
+  const side = { name: '.y', path: 'inner/1', place: 1, size: 1 };
+  assert.deepEqual(found, {
+    difference: 'value', a: { ...side, bytes: '02', text: 'I8 2' }, b: { ...side, bytes: '03', text: 'I8 3' },
+  });
+  assert.deepEqual(none.diff('"U8"', '55', encoder.encode('7').buffer), []);
+  assert.throws(() => none.diff('"U8"', 'x', [7]), refusal('text', 'NotJson', undefined));
+  assert.throws(() => none.diff('"U8"', '7', []), refusal('bytes', 'EndOfInput', 0));
+  assert.throws(() => none.diff('"U8"', [7, 7], 'x'), refusal('bytes', 'TrailingBytes', 1));
+  assert.throws(() => none.diff('{"SEQ":"UNIT"}', [255, 255, 255, 255, 7], '[]'), refusal('bytes', 'TooManyNodes', 5));
+  for (const given of [undefined, null, 7, {}, ['7'], [256], '"\ud800"']) assert.throws(() => none.diff('"STR"', '"7"', given), TypeError);
+  const closed = bcs.registry('{}');
+  closed.close();
+  assert.throws(() => closed.diff('"U8"', '7', '7'), /closed/);
+});
+
 test('names, examples as values, and registries in readable form', () => {
   assert.deepEqual(shapes.names, ['Nothing', 'Id', 'Pair', 'Point', 'Shape', 'Chain']);
   const ring = bcs.registry('{"Shape":{"ENUM":{"0":{"Dot":"UNIT"},"1":{"Ring":{"NEWTYPE":{"OPTION":"U64"}}}}}}');

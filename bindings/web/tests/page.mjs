@@ -236,13 +236,53 @@ test('two texts are compared', async () => {
   await page.ask("document.getElementById('take').click()");
   const told = "document.getElementById('compare-verdict').textContent";
   await replace(page, 'second', read('aptos_transfer_normal.json'));
+  const lines = "[...document.querySelectorAll('#differences li')].map((item) => item.textContent)";
   await page.until(`${told} === 'equal'`);
-  await replace(page, 'second', read('aptos_transfer_normal.json').replace('"11"', '"12"'));
+  assert.deepEqual(await page.ask(lines), []);
+  await replace(page, 'second', read('aptos_transfer_normal.json').replace('"11"', '"12"').replace('"AptosCoin"', '"a\\u202eb"'));
   await page.until(`${told} === 'different'`);
+  assert.deepEqual(await page.ask(lines), [
+    '.sequence_number, at 32: U64 11 → U64 12',
+    '.payload::EntryFunction.ty_args[0]::Struct.name, at 132: "AptosCoin" → "a\\u202eb", from byte 0',
+  ]);
   await replace(page, 'second', '{}');
   await page.until(`${told}.startsWith('the second document is refused: MissingField, ')`);
+  assert.equal(await page.ask("document.getElementById('differences').hidden"), true);
   await replace(page, 'first', '{');
   await page.until(`${told}.startsWith('the first document is refused: NotJson, line 1, column 1: ')`);
+  await isQuiet(page);
+});
+
+test('long differences are cut, and names of others are text', async () => {
+  const page = await opened();
+  await openFile(page, 'registry', '{"<b>":{"STRUCT":[{"<img src=x>":{"SEQ":"U16"}}]}}');
+  await page.until("document.getElementById('container').options[0].text === '<b>'");
+  await choose(page, 'container', '<b>');
+  await page.ask("document.getElementById('compare-box').open = true");
+  const list = (first) => JSON.stringify({ '<img src=x>': Array.from({ length: 300 }, (_, i) => first + 2 * i) });
+  await fill(page, 'first', list(0));
+  await fill(page, 'second', list(1));
+  await page.until("document.getElementById('differences-note').textContent === 'and 100 more differences'");
+  assert.equal(await page.ask("document.querySelectorAll('#differences li').length"), 200);
+  const first = await page.ask("document.querySelector('#differences li').textContent");
+  assert.equal(first, '."<img src=x>"[0], at 2: U16 0 → U16 1');
+  await isQuiet(page);
+});
+
+test('bytes of another container are offered as it', async () => {
+  const page = await opened();
+  await choose(page, 'container', 'ChainId');
+  await fill(page, 'bytes', read('aptos_transfer.hex'));
+  await page.until(`${verdict}.includes('These bytes are exactly one value of')`);
+  const buttons = "[...document.querySelectorAll('#verdict button')]";
+  assert.ok((await page.ask(`${buttons}.map((button) => button.textContent)`)).includes('RawTransaction'));
+  await page.ask(`${buttons}.find((button) => button.textContent === 'RawTransaction').click()`);
+  await page.until(`${verdict}.includes('the one encoding')`);
+  assert.equal(await page.ask("document.getElementById('container').selectedOptions[0].text"), 'RawTransaction');
+  // (too few bytes for any container, and damaged ones, offer nothing)
+  await fill(page, 'bytes', read('aptos_transfer.hex').slice(0, -2));
+  await page.until(`${verdict}.includes('EndOfInput')`);
+  assert.ok(!(await page.ask(verdict)).includes('exactly one value of'));
   await isQuiet(page);
 });
 
@@ -674,7 +714,7 @@ test('a registry that is broken for a while keeps the selection, and a good one 
   const broken = `${verdict}.startsWith('Refused: NotJson. The registry isn’t valid JSON.')`;
   await fill(page, 'registry', 'aptos');
   await page.until(broken);
-  assert.match(await page.ask("document.getElementById('registry-verdict').textContent"), /^refused: NotJson, line 1, column 1: text belongs in double quotes$/);
+  assert.match(await page.ask("document.getElementById('registry-verdict').textContent"), /^refused: NotJson, line 1, column 1: text belongs in double quotes; a registry is a JSON object$/);
   assert.equal(await page.ask(valueOf('container')), '{"TYPENAME":"RawTransaction"}');
   await fill(page, 'registry', REGISTRY);
   await page.until(`${valueOf('container')} === '{"TYPENAME":"Outer"}' && ${valueOf('bytes')} === '000000000000000000'`);

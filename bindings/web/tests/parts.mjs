@@ -126,7 +126,7 @@ test('what isn’t bytes has a wrong character, and words', () => {
 // The library's words, and those of the page.
 const WORDS = [
   ['expected an object of containers, found an array; these are modules of Move: bcs from-move makes a registry from them', 'expected an object of containers, found an array; these are modules of Move: paste them under Modules'],
-  ['hexadecimal digits, where JSON belongs; decode reads such digits, and in JSON they belong in double quotes', 'hexadecimal digits, where JSON belongs; paste them under Bytes; in JSON they belong in double quotes'],
+  ['found hexadecimal digits instead of JSON; decode reads such digits, and in JSON they belong in double quotes', 'found hexadecimal digits instead of JSON; paste them under Bytes; in JSON they belong in double quotes'],
   ['digits; decode reads such digits, and in JSON they belong in double quotes (a number has no leading zero)', 'digits; paste them under Bytes; in JSON they belong in double quotes (a number has no leading zero)'],
   ['digits; decode reads such digits', 'digits; paste them under Bytes'],
   ['line 1, column 3: a second JSON document starts there; --lines reads one document from each line', 'line 1, column 3: a second JSON document starts there'],
@@ -146,7 +146,7 @@ test('advice for the program names the boxes of the page', () => {
     }
   };
   assert.match(detailOf(() => bcs.registry('[{"abi":{}}]')), /; these are modules of Move: paste them under Modules$/);
-  assert.match(detailOf(() => bcs.registry('aptos.json')), /^line 1, column 1: text belongs in double quotes$/);
+  assert.match(detailOf(() => bcs.registry('aptos.json')), /^line 1, column 1: text belongs in double quotes; a registry is a JSON object$/);
   const digits = detailOf(() => bcs.registry('{}').encodeText('"U8"', '0aff'));
   assert.match(digits, /paste them under Bytes/);
   assert.doesNotMatch(digits, /decode/);

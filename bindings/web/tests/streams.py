@@ -26,10 +26,7 @@ MEGABYTE = 1_000_000
 MOST_INPUT = 268_435_456
 NUMBER = ["encode", "{}", '"I16"']
 BYTES = ["--raw", "{}", '{"SEQ":"U8"}']
-NO_FILE = (
-    "No such file or directory"
-    "; a value itself goes to standard input, a registry itself starts with {, and modules with { or ["
-)
+NO_FILE = "No such file or directory" "; REG comes first, and a registry itself starts with {"
 WRITE_FAULT = b"fault: write\nin the standard output\n"
 
 
@@ -179,7 +176,7 @@ def names(run: Runner) -> None:
             "loop": "open\nin the file loop: Too many levels of symbolic links",
             "n" * 256: f"open\nin the file {'n' * 256}: File name too long",
             "m/" * 2500: f"open\nin the file {'m/' * 2500}: File name too long",
-            ".": "read\nin the file .",
+            ".": "open\nin the file .: Is a directory; name a file in it",
             "": f"open\nin the file : {NO_FILE}",
         }
         for name, fault in causes.items():

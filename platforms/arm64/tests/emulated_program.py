@@ -14,10 +14,7 @@ from emulator import EMULATOR, ROOT, Argument, Bench, fail, passed, run, words
 ENCODE = ["encode", "{}", '"I16"']
 WRITE_FAULT = "fault: write\nin the standard output\n"
 READ_FAULT = "fault: read\nin the standard input\n"
-NO_FILE = (
-    "No such file or directory"
-    "; a value itself goes to standard input, a registry itself starts with {, and modules with { or ["
-)
+NO_FILE = "No such file or directory" "; a value itself goes to standard input, as JSON or digits"
 
 # A limit on addresses with which the heap passes every request to malloc.
 ADDRESSES = 1 << 40
@@ -187,7 +184,7 @@ def files(program: Program) -> None:
         "n" * 4096: "File name too long",
     }.items():
         program.answers(refusal(f"fault: open\nin the file {name}: {reason}\n"), [*ENCODE, name])
-    unreadable = refusal(f"fault: read\nin the file {room}/folder\n")
+    unreadable = refusal(f"fault: open\nin the file {room}/folder: Is a directory; name a file in it\n")
     program.answers(unreadable, [*ENCODE, f"{room}/folder"])
     program.answers(unreadable, ["check", f"{room}/folder"])
 

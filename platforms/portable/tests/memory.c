@@ -23,6 +23,7 @@ static const struct question questions[] = {
     {ON_VALUE(BCS_FROM_BCS, BYTES_OF_IT "!")},
     {ON_VALUE(BCS_NORMALISE, TEXT)},
     {ON_VALUE(BCS_COMPARE, TEXT), .second = OF(TEXT)},
+    {ON_VALUE(BCS_DIFFERENCES, TEXT), .second = OF("\x07\x01\x03" "one"), .second_number = BCS_SECOND_BYTES},
     {ON_VALUE(BCS_SCAN, BYTES_OF_IT)},
     {ON_VALUE(BCS_PART, BYTES_OF_IT), .second = OF("inner/1/1")},
     {ON_VALUE(BCS_PART_NAMED, BYTES_OF_IT), .number = BCS_NAME, .second = OF(".y[1]")},

@@ -17,10 +17,7 @@ from output_files import Room, names_are_unforeseeable  # noqa: E402
 
 REGISTRY = '{"S":{"STRUCT":[{"id":"U8"},{"owner":"BOOL"}]}}'
 # Beyond ASCII, with characters beyond 16 bits, with blanks and in folders.
-NO_FILE = (
-    "No such file or directory"
-    "; a value itself goes to standard input, a registry itself starts with {, and modules with { or ["
-)
+NO_FILE = "No such file or directory" "; REG comes first, and a registry itself starts with {"
 NAMES = ["é.json", "漢字😀.json", "a b/c d.json", "é/ß.json", "%TEMP%.json", "it's.json", "(1)&^!.json", "-.json"]
 # Windows had a limit of 260 characters for a path.
 LONG = "n" * 100
@@ -72,7 +69,7 @@ def ask_names(program: Program) -> None:
     # A character beyond 16 bits is two units, and the message has each of them.
     missing = f"fault: open\nin the file \\u6f22\\ud83d\\ude00: {NO_FILE}\n"
     program.gives(4, "", missing, "check", "漢😀")
-    program.gives(4, "", "fault: read\nin the file \\u00e9\n", "check", "é")
+    program.gives(4, "", "fault: open\nin the file \\u00e9: Is a directory; name a file in it\n", "check", "é")
 
 
 def ask_long_names(program: Program, room: str) -> None:
@@ -97,7 +94,7 @@ def ask_devices(program: Program) -> None:
     not_json = "at line 1, column 1: NotJson: the document is empty\n"
     program.gives(2, "refused: NotJson\n", not_json, "check", "NUL")
     program.gives(0, "ok 0\n", "", "scan", "--raw", "{}", '"UNIT"', "NUL")
-    for name in "a<b", "a|b", "a?", "*":
+    for name in "a<b", "a|b", "a?":
         missing = f"fault: open\nin the file {name}: {NO_FILE}\n"
         program.gives(4, "", missing, "check", name)
 
@@ -127,7 +124,7 @@ def ask_outputs(program: Program) -> None:
         if found != b"\3\r\n\x1a":
             fail(f"{name} has {found!r}")
     write("input", "[]")
-    missing = "fault: write\nin the file no\\\\x: No such file or directory\n"
+    missing = "fault: write\nin the file no\\\\x: No such file or directory; make its folder first\n"
     program.gives(4, "", missing, *job, "-o", "no\\x")
     program.gives(4, "", "fault: write\nin the file .: Permission denied\n", *job, "-o", ".")
     program.gives(0, "", "", *job, "-o", "NUL")

@@ -84,7 +84,7 @@ static void arguments(void) {
     answers(L"check {\\\"\xd83d\xde00\\\":{\\\"NEWTYPESTRUCT\\\":{\\\"TYPENAME\\\":\\\"\xe9\\\"}}}", "", 0, 2, "refused: UnknownName\n",
             "at \\ud83d\\ude00: UnknownName: no container is called \\u00e9\n");
     answers(L"check \"{\\\"a b\\\\\\\\\\\":\\\"UNITSTRUCT\\\"}\"", "", 0, 0, "ok 1\n", "");
-    answers(L"check *.*", "", 0, 4, "", "fault: open\nin the file *.*: No such file or directory; a value itself goes to standard input, a registry itself starts with {, and modules with { or [\n");
+    answers(L"check *.*", "", 0, 4, "", "fault: open\nin the file *.*: No such file or directory; ~ and * are replaced by a shell alone, and only outside quotes\n");
 }
 
 static void bytes_are_kept(void) {

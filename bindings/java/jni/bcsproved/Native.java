@@ -59,6 +59,6 @@ final class Native {
      * the message; or null. The call is asked with this room for its output, and again if that is too short; with a room below 0 it
      * has no output.
      */
-    static native byte[] ask(long handle, int call, int number, int depth, int nodes, byte[] format, byte[] first, byte[] second,
-            byte[] views, long room, long[] fields);
+    static native byte[] ask(long handle, int call, int number, int secondNumber, int depth, int nodes, byte[] format, byte[] first,
+            byte[] second, byte[] views, long room, long[] fields);
 }

@@ -12,20 +12,26 @@ record Answer(int status, int fault, long place, long length, byte[] output) {
     /** enum bcs_notation. */
     static final int STEPS = 0, NAME = 1, POINTER = 2;
 
+    /** enum bcs_given, whose numbers are added. */
+    static final int FIRST_BYTES = 1, SECOND_BYTES = 2;
+
     /** What is added to a form of explanations: notes about the views. */
     static final int NOTES = 4;
 
     /** The only refusal of bytes without a place. */
     static final int SHOWN_TOO_NESTED = 501;
 
+    /** The first and the last fault of bytes that stop being a value. */
+    static final int STOP_END_OF_INPUT = 401, STOP_UNSUPPORTED = 414;
+
     /** The part isn't a byte string. */
     static final int PATH_NO_CONTENT = 602;
 
     static Answer of(long handle, Question question) throws BcsException {
         long[] fields = new long[4];
-        byte[] output = Native.ask(handle, question.call().number, question.number(), (int) question.limits().depth(),
-                (int) question.limits().nodes(), question.format(), question.first(), question.second(), question.views(),
-                question.call().room(question.first()), fields);
+        byte[] output = Native.ask(handle, question.call().number, question.number(), question.secondNumber(),
+                (int) question.limits().depth(), (int) question.limits().nodes(), question.format(), question.first(),
+                question.second(), question.views(), question.call().room(question.first()), fields);
         return of(fields, output);
     }
 

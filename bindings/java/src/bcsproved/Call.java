@@ -18,6 +18,7 @@ enum Call {
     SCHEMA(13, Kind.FORMAT, 4096, 0),
     EXAMPLE(14, Kind.EXAMPLE, 1024, 0),
     CANDIDATES(15, Kind.BYTES, 1024, 0),
+    DIFFERENCES(16, null, 4096, 8),
     SHOW(20, Kind.FORMAT, 4096, 0),
     FORMAT_PLACE(21, Kind.FORMAT, 256, 0),
     GROWS(30, Kind.GROWTH),

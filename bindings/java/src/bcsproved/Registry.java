@@ -253,6 +253,18 @@ public final class Registry implements AutoCloseable {
     }
 
     /**
+     * Where two values differ, in the order of their bytes, as {@code bcs diff} prints it: nothing if and only if they are equal. The
+     * exception is about the first of the two that isn't exactly one value of the format.
+     */
+    public List<Difference> diff(String format, Given first, Given second) throws BcsException {
+        Objects.requireNonNull(first, "first");
+        Objects.requireNonNull(second, "second");
+        try (Session session = begin()) {
+            return Difference.list(Question.text(session.output(session.question(format, first, second))));
+        }
+    }
+
+    /**
      * The part to which the path leads, in the value at the beginning of the data, unless the path leads nowhere. Paths are those
      * of {@code bcs part}: "." for the whole value, or steps such as inner/2/inner or key:0161, where the key's bytes are
      * hexadecimal digits.

@@ -37,9 +37,21 @@ final class Session implements AutoCloseable {
         return Question.of(call, format, limits != null ? limits : limitsFor(call, first), first);
     }
 
-    /** The default. Bytes may only have as many nodes as an ordinary value of their length. */
+    /** A question on two values. By default the longer one limits their nodes, if one of them is bytes. */
+    Question question(String format, Given first, Given second) {
+        byte[] longer = first.data().length < second.data().length ? second.data() : first.data();
+        Limits asked = limits != null ? limits : defaultLimits(first.isBytes() || second.isBytes(), longer);
+        int given = (first.isBytes() ? Answer.FIRST_BYTES : 0) + (second.isBytes() ? Answer.SECOND_BYTES : 0);
+        Question question = Question.of(Call.DIFFERENCES, format, asked, first.data());
+        return question.withSecond(second.data(), Form.JSON.ordinal(), given);
+    }
+
     private Limits limitsFor(Call call, byte[] first) {
-        boolean readsBytes = call.refused == Kind.BYTES;
+        return defaultLimits(call.refused == Kind.BYTES, first);
+    }
+
+    /** The default. Bytes may only have as many nodes as an ordinary value of their length. */
+    private Limits defaultLimits(boolean readsBytes, byte[] first) {
         return readsBytes ? new Limits(ANY.depth(), Integer.toUnsignedLong(Native.nodesFor(handle, first.length))) : ANY;
     }
 
@@ -88,9 +100,17 @@ final class Session implements AutoCloseable {
                     : Refusals.ofName(answer, question.second(), question.number());
             case Answer.REFUSED -> answer.fault() == Answer.PATH_NO_CONTENT
                     ? Refusals.ofPath(answer, "a part that is BYTES, STR, or a list or an array of U8")
-                    : Refusals.ofInput(question.call().refused, answer);
+                    : Refusals.ofInput(kindOf(question.call(), answer), answer);
             default -> throw new AssertionError("unknown status " + answer.status());
         };
+    }
+
+    /** What a call has refused. Where it reads documents and bytes, the fault is one of either. */
+    private static Kind kindOf(Call call, Answer answer) {
+        if (call != Call.DIFFERENCES) {
+            return call.refused;
+        }
+        return answer.fault() >= Answer.STOP_END_OF_INPUT && answer.fault() <= Answer.STOP_UNSUPPORTED ? Kind.BYTES : Kind.TEXT;
     }
 
     /** Explains bytes with views. What is refused is the format of the value, or the first view that is refused. */
