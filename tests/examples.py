@@ -203,12 +203,15 @@ class Examples:
         head, *rows = [line[1:-1].split("|") for line in page.splitlines() if re.match(r"\|(Options\||`-)", line)]
         for at, command in enumerate(head[1:], 1):
             listed = {option for row in rows if row[at] for option in re.findall(r"`(-[^`]+)`", row[0])}
-            found = " ".join(sorted(re.findall(r"^ +(-o|--[\w-]+)", printed(["bcs", command, "--help"]), re.MULTILINE)))
+            found = " ".join(
+                sorted(re.findall(r"^(?:  | {6})(-o|--[\w-]+)", printed(["bcs", command, "--help"]), re.M))
+            )
             self.check("docs/PROGRAM.md", f"options of {command}", " ".join(sorted(listed)), found.encode())
 
     def run_help(self) -> None:
         """The help of each command of the program has examples, as `COMMAND  # ANSWER`, on one line or more."""
-        commands = [line.split()[0] for line in section(printed(["bcs", "--help"]), "Commands:")]
+        listed = section(printed(["bcs", "--help"]), "Commands:")
+        commands = [line.split()[0] for line in listed if not line.startswith(" ")]
         if not commands:
             self.fail("the help names no commands")
         for command in commands:
@@ -233,7 +236,8 @@ class Examples:
 
 def whole_examples(lines: list[str]) -> list[str]:
     """The examples, each of which ends with the line that has its answer."""
-    return re.findall(r"(?:.*\n)*?.*# .*\n", "".join(f"{line}\n" for line in lines))
+    found = re.findall(r"(?:.*\n)*?.*# .*\n", "".join(f"{line}\n" for line in lines))
+    return [example.rstrip("\n") for example in found]
 
 
 def section(text: str, title: str) -> list[str]:

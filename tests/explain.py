@@ -6,8 +6,9 @@ are stored beside them.
 
 FOLDER has the program `bcs`; without it, the proved one is tested, as `rt ci` or `rt run` left it. The expected answers
 were made from the rules, and never by the program. tests/paths.py asks about VALUES random values, by default 1,000: of
-the 290 pairs of a container and what is in it, these have 288. tests/differences.py asks about as many pairs of values.
-One step of the gate asks about 10,000.
+the 290 pairs of a container and what is in it, these have 288. tests/differences.py asks about a tenth as many pairs of
+values, with some 20 runs of the program for each. One step of the gate asks about 10,000: before you submit a change of
+`explain` or `diff`, do so, too.
 """
 
 import os
@@ -109,7 +110,7 @@ def main() -> int:
         *(faults_of_example(name, *words) for name, words in EXAMPLES.items()),
         *map(faults_by_hand, by_hand),
         faults_of_script("tests/paths.py", args.values),
-        faults_of_script("tests/differences.py", args.values),
+        faults_of_script("tests/differences.py", args.values // 10),
     ]
     faults = [fault for test in tests for fault in test]
     faults += [f"no {what} is found" for what, found in [("row", rows), ("example of BYTES.md", by_hand)] if not found]

@@ -155,6 +155,7 @@ def steps(log: pathlib.Path) -> list[Step]:
         Step("schema", ["tests/schema.sh"], built),
         Step("move modules", python("tests/move_modules.py", program), built),
         Step("move examples", python("tests/move_examples.py", program), built),
+        Step("sui inputs", python("tests/sui_inputs.py", program), built),
         Step("signers", python("tests/signers.py", program), built),
         Step("explain", ["tests/explain.py", "crates/bcs/out", "10000"], built),
         Step("mistakes", ["tests/mistakes.py"], built),

@@ -11,17 +11,21 @@ LIST = '{"SEQ":"I16"}'
 PAIRS = '{"MAP":{"KEY":"U16","VALUE":"BOOL"}}'
 NESTED = '{"L":{"STRUCT":[{"next":{"OPTION":{"TYPENAME":"L"}}}]}}'
 OPENED = "fault: open"
-NO_FILE = (
-    "in the file no.file: No such file or directory"
-    "; a value itself goes to standard input, a registry itself starts with {, and modules with { or ["
-)
+NO_FILE = "in the file no.file: No such file or directory"
+NO_REGISTRY = "; REG comes first, and a registry itself starts with {"
+FOLDER = ": Is a directory; name a file in it"
+NO_INPUT = "; a value itself goes to standard input, as JSON or digits"
 NOT_JSON = "at line 1, column 1: NotJson: the document ends there; } is missing"
+TOO_NESTED = (
+    "at the whole input: TooNested: these bytes are a value, but its JSON would nest arrays and objects more than 100 "
+    "levels deep; explain prints it, and part the bytes of a part"
+)
 TOO_MANY_NODES = "at .: TooManyNodes: expected I16; --nodes allows 1"
 WRONG_NUMBER = "BadNumber: found 32768, expected an integer from -32768 to 32767 (I16)"
 VARIANTS = '{"E":{"ENUM":{"0":{"B":"UNIT"},"1":{"A":{"NEWTYPE":"U8"}}}}}'
 FULL = '{"MAP":{"KEY":{"OPTION":{"TUPLE":["U8"]}},"VALUE":{"TYPENAME":"E"}}}'
 TALLY = "lines with status 0: {}, with status 1: {}, with status 2: {}".format
-DEPTH = "TooDeep: more containers are open than allowed; --depth allows 0"
+DEPTH = "TooDeep: containers are nested more deeply than allowed; --depth allows 0"
 YAML = "at line 1, column 1: NotJson: this looks like YAML; convert it to JSON with bcs-registry FILE"
 UNKNOWN = '{"S":{"NEWTYPESTRUCT":{"TYPENAME":"T"}}}'
 
@@ -60,6 +64,7 @@ WORDS_AND_ANSWERS = [
         0, "*I16 -4660*[bcs]*", ["explain", "--raw", "@registry", '"BYTES"', "--inside", ".=S", "@byte_string"], hints=3
     ),
     Job(0, "cced", ["part", "--content", "{}", '"BYTES"', ".", "@byte_string_digits"]),
+    Job(0, "cced", ["part", "--content", "--name", ".", '{"N":{"NEWTYPESTRUCT":"BYTES"}}', "N", "@byte_string_digits"]),
     Job(0, "*cced*.  inner", ["explain", "--paths", "--no-color", "--raw", "@registry", "S", "@bytes"]),
     Job(
         2,
@@ -100,7 +105,7 @@ MAPS = [
     Job(0, "\1", ["part", "--raw", "--pointer", "/1/1", "{}", PAIRS, "@map_bytes"]),
     Job(0, "\xcc\xed", ["part", "--raw", "--name", '."\\u00e9"', ACCENTED, "S", "@bytes"]),
     Job(1, "", ["part", "--raw", "--quiet", "--name", "[key:0200]", "{}", PAIRS, "@map_bytes"]),
-    Job(2, "refused: TooNested", ["decode", "--raw", NESTED, "L", "@nested"], hints=5),
+    Job(2, "refused: TooNested", ["decode", "--raw", NESTED, "L", "@nested"], place=TOO_NESTED, hints=5, left_out=4),
     Job(0, "ok 500", ["scan", "--raw", NESTED, "L", "@nested"]),
 ]
 # A module of Aptos, and the registry for its struct.
@@ -115,6 +120,7 @@ MOVED = json.dumps({
     "0x1::m::S<u8>": {"STRUCT": [{"a": "BYTES"}, {"b": {"OPTION": {"TYPENAME": "address"}}}]},
     "address": {"NEWTYPESTRUCT": {"TUPLEARRAY": {"CONTENT": "U8", "SIZE": 32}}},
 }, separators=(",", ":"))  # fmt: skip
+BOTH = MOVED.replace('"address":', '"E":"UNITSTRUCT","address":')
 # A registry in readable form, and examples.
 DISPLAYS = [
     Job(0, "S: NEWTYPESTRUCT, 2 bytes, used by no other\n  I16", ["show", "@registry"]),
@@ -130,6 +136,7 @@ DISPLAYS = [
     Job(0, '*"type": "boolean"*', ["schema", "@registry", BOOL]),
     Job(0, '*"#/$defs/I16"*', ["schema", "@registry", "S"]),
     Job(0, MOVED, ["from-move", MODULE, "0x1::m::S<u8>"]),
+    Job(0, BOTH, ["from-move", "--with", '{"E":"UNITSTRUCT"}', MODULE, "0x1::m::S<u8>"]),
     Job(0, "[]", ["example", "{}", LIST]),
     Job(0, '{"A":0}', ["example", "--variant", "A", VARIANTS, "E"]),
     Job(0, '[[{"some":[0]},"X"]]', ["example", "--full", '{"E":{"ENUM":{"0":{"X":"UNIT"}}}}', FULL]),
@@ -164,9 +171,10 @@ LINES = [
         "0700\nrefused: NotJson\ncced",
         ["encode", "--lines", "{}", I16, "@lines"],
         place=TALLY(2, 0, 1),
+        hints=2,
         left_out=6,
     ),
-    Job(2, "7\nrefused: NotJson\n-4660", ["normalise", "--quiet", "--lines", "{}", I16, "@lines"]),
+    Job(2, "7\nrefused: NotJson\n-4660", ["normalise", "--quiet", "--lines", "{}", I16, "@lines"], hints=2),
     Job(
         2,
         "ok 2\nrefused: EndOfInput at 1\nrefused: BadHex",
@@ -210,7 +218,7 @@ REFUSALS = [
         2,
         "refused: MissingField",
         ["encode", '{"P":{"STRUCT":[{"name":"U8"}]}}', "P", "@members"],
-        place="at the whole text: MissingField: no member is called name; found: nmae",
+        place="at the document: MissingField: no member is called name; found: nmae",
         hints=3,
         left_out=24,
     ),
@@ -226,6 +234,7 @@ REFUSALS = [
         "refused: NotJson",
         ["normalise", "{}", I16, "@open"],
         place="at line 1, column 1: NotJson: the document ends there; ] is missing",
+        hints=2,
         left_out=8,
     ),
     Job(
@@ -240,7 +249,7 @@ REFUSALS = [
         2,
         "refused: TooDeep",
         ["same", "--depth=0", "@registry", "S", "@number", "@number"],
-        place=f"in A, at the whole text: {DEPTH}",
+        place=f"in A, at the document: {DEPTH}",
         left_out=17,
     ),
     Job(2, "refused: NotJson", ["check", "{"], place=NOT_JSON, hints=3, left_out=8),
@@ -265,15 +274,16 @@ REFUSALS = [
         2,
         "refused: BadShape",
         ["decode", "{}", '{"SEQ":7}'],
-        place="at FORMAT, /SEQ: BadShape: expected a format, found 7",
+        place="at FORMAT, /SEQ: BadShape: expected a format, found 7"
+        '; write a string, as "U64", or an object, as {"SEQ":"U8"}',
         left_out=17,
     ),
 ]
 # Files that aren't there, or can't be read.
 REFUSED_FILES = [
-    Job(4, "", ["check", "no.file"], place=f"{OPENED}\n{NO_FILE}", left_out=4),
-    Job(4, "", ["encode", "{}", I16, "no.file"], place=f"{OPENED}\n{NO_FILE}", left_out=4),
-    Job(4, "", ["same", "{}", I16, ".", "no.file"], place="fault: read\nin the file .", left_out=2),
+    Job(4, "", ["check", "no.file"], place=f"{OPENED}\n{NO_FILE}{NO_REGISTRY}", left_out=4),
+    Job(4, "", ["encode", "{}", I16, "no.file"], place=f"{OPENED}\n{NO_FILE}{NO_INPUT}", left_out=4),
+    Job(4, "", ["same", "{}", I16, ".", "no.file"], place=f"{OPENED}\nin the file .{FOLDER}", left_out=4),
 ]
 # The texts of help, of the version and of usage.
 TEXTS = [

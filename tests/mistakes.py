@@ -1,5 +1,5 @@
 #!/usr/bin/env python3
-"""Makes each typical mistake of rows/mistakes.rows, and checks that the message says what to do.
+"""Makes each mistake of rows/mistakes.rows and rows/further_mistakes.rows, and checks that the message says what to do.
 
     tests/mistakes.py [FOLDER]
 
@@ -8,6 +8,7 @@ were written from the wording rules, and never by the program.
 """
 
 import os
+import pathlib
 import subprocess
 import tempfile
 from collections.abc import Iterator
@@ -15,7 +16,7 @@ from typing import NamedTuple
 
 from harness import ROOT, end_with, program_in_folder
 
-TABLE = ROOT / "tests/rows/mistakes.rows"
+TABLES = [ROOT / "tests/rows/mistakes.rows", ROOT / "tests/rows/further_mistakes.rows"]
 SECONDS = 120
 # Of so many mistakes, one may have a message that doesn't say what to do.
 SPARED = 10
@@ -31,13 +32,18 @@ class Mistake(NamedTuple):
     status: int
     words: str
 
+    def kind(self) -> str:
+        """The part of the name before a colon, in the table that has kinds."""
+        kind, colon, _ = self.name.partition(": ")
+        return kind if colon else ""
+
     def is_spared(self) -> bool:
         """Whether its message doesn't say what to do."""
         return self.words == "-"
 
 
-def mistakes() -> Iterator[Mistake]:
-    for line in TABLE.read_text(encoding="utf-8").splitlines():
+def mistakes(table: pathlib.Path) -> Iterator[Mistake]:
+    for line in table.read_text(encoding="utf-8").splitlines():
         if not line.startswith("#"):
             name, command, status, words = line.split("\t")
             yield Mistake(name, command, int(status), words)
@@ -57,18 +63,27 @@ def faults_of(mistake: Mistake) -> Iterator[str]:
         yield f"{mistake.name}: {error}"
 
 
+def spared_faults(rows: list[Mistake]) -> Iterator[str]:
+    """The kinds of which too many messages don't say what to do, and whether it is so of all."""
+    for kind in sorted({"", *(row.kind() for row in rows)}):
+        those = [row for row in rows if kind in ("", row.kind())]
+        spared = sum(row.is_spared() for row in those)
+        if spared * SPARED > len(those):
+            yield f"{kind or 'all kinds'}: {spared} of {len(those)} messages don't say what to do"
+
+
 def main() -> int:
     program = program_in_folder(__doc__)
     os.chdir(ROOT)
-    registries = {"A": "examples/aptos_registry.json", "S": "examples/sui_registry.json", "P": PAYMENT, "E": KIND}
-    os.environ |= registries | {"PATH": f"{program.parent}:{os.environ['PATH']}", "LC_ALL": "C"}
-    rows = list(mistakes())
+    files = {"A": "examples/aptos_registry.json", "S": "examples/sui_registry.json", "P": PAYMENT, "E": KIND}
+    files["M"] = "examples/move/aptos_modules.json"
+    os.environ |= files | {"PATH": f"{program.parent}:{os.environ['PATH']}", "LC_ALL": "C"}
+    rows = [row for table in TABLES for row in mistakes(table)]
     with tempfile.TemporaryDirectory() as room:
         os.environ["T"] = room
         faults = [fault for mistake in rows for fault in faults_of(mistake)]
     spared = sum(mistake.is_spared() for mistake in rows)
-    if spared * SPARED > len(rows):
-        faults.append(f"{spared} of {len(rows)} messages don't say what to do")
+    faults += spared_faults(rows)
     for fault in faults:
         print(f"mistakes: FAILED: {fault}")
     print(f"mistakes: {len(rows)} tried, {len(faults)} failed; {spared} messages don't say what to do")

@@ -91,6 +91,14 @@ OPENED = [
             INPUT.format(3): f"0x{'22' * 32}", INPUT.format(4): f"0x{'33' * 32}",
         },
     ),
+    Opened(
+        *("sui_stake", "sui_registry", "TransactionData", "sui_modules", [STAKE, SEND]),
+        ["--call", "::V1.kind::ProgrammableTransaction.commands"],
+        {
+            INPUT.format(0): "U64 1000000000", INPUT.format(1): "U64 500000000",
+            INPUT.format(3): f"0x{'22' * 32}", INPUT.format(4): f"0x{'33' * 32}",
+        },
+    ),
 ]  # fmt: skip
 PIECE = re.compile(r" *(\d+)  ([0-9a-f]+) +(.*?) +(\S+)")
 

@@ -8,6 +8,7 @@ modules are those of tests/move/make.py, in the forms of both APIs.
 - Refusals: each has its name, its place and what its message has to say.
 - Rules of the documents, each with the whole registry; and limits, with the most that is accepted and the least that
   isn't.
+- Containers that are given by `--with`: what they add, what they need, and how they are refused.
 - COUNT (5,000) random inputs are decoded by `bcs` and by tests/move/independent.py, which knows no registry.
 - COUNT * 3 / 5 spoiled samples: each must be refused by name, with a place, or make a registry that `bcs` accepts.
 - Type arguments that multiply: every such job ends within 5 processor seconds and 64 MiB.
@@ -60,15 +61,18 @@ class Program:
         path.write_text(content, encoding="utf-8", errors="surrogatepass")
         return str(path)
 
-    def make(self, modules: Any, *types: str) -> Done:
-        text = modules if isinstance(modules, str) else json.dumps(modules)
-        path = self.file(text)
-        words = [self.program, "from-move", path, *types]
+    def make(self, modules: Any, *types: str, given: Any = None) -> Done:
+        words = [self.program, "from-move", self.document(modules), *types]
+        if given is not None:
+            words += ["--with", self.document(given)]
         done = subprocess.run(words, capture_output=True, encoding="utf-8")
         return Done(done.returncode, done.stdout, done.stderr)
 
-    def made(self, modules: Any, *types: str) -> Any:
-        done = self.make(modules, *types)
+    def document(self, thing: Any) -> str:
+        return self.file(thing if isinstance(thing, str) else json.dumps(thing))
+
+    def made(self, modules: Any, *types: str, given: Any = None) -> Any:
+        done = self.make(modules, *types, given=given)
         require(done.status == 0, f"{types}: {done}")
         shown = subprocess.run(
             [self.bcs, "show", "--json", self.file(done.output)], capture_output=True, encoding="utf-8"
@@ -151,7 +155,7 @@ REFUSED: list[tuple[Any, str, str, str, str]] = [
     ("[" * 100_000, "0x1::m::S", "NotJson", "", "nested more than 127 levels deep"),
     ("", "0x1::m::S", "NotJson", "", "line 1, column 1: the document is empty"),
     ("[]\n[]", "0x1::m::S", "NotJson", "", "line 2, column 1: a second JSON document starts there"),
-    ("<html>", "0x1::m::S", "NotJson", "", "line 1, column 1: no JSON value starts with this character"),
+    ("<html>", "0x1::m::S", "NotJson", "", "line 1, column 1: XML or HTML, and not JSON"),
     ('{"a":NaN}', "0x1::m::S", "NotJson", "", "line 1"),
     ('{"structs":[],"structs":[]}', "0x1::m::S", "RepeatedMember", "/structs", "delete one"),
     ('[7,{"a~/":[{},{"b":1,"c":2,"b":3}]}]', "u8", "RepeatedMember", "/1/a~0~1/1/b", "delete one"),
@@ -160,7 +164,7 @@ REFUSED: list[tuple[Any, str, str, str, str]] = [
     ([FINE, 7], "0x1::m::S", "NotModules", "/1", "this isn't the JSON of a module"),
     ({"message": "Module not found", "error_code": "m"}, "u8", "ChainError", "", '"Module not found"'),
     ({"jsonrpc": "2.0", "error": {"code": 1, "message": "No\x1b[31m"}}, "u8", "ChainError", "", '"No\\u001b[31m"'),
-    ({"bytecode": "0x"}, "u8", "NotModules", "/abi", "expected an object, found nothing"),
+    ({"bytecode": "0x"}, "u8", "NotModules", "/abi", "expected an object; it is missing"),
     (WITHOUT_ABI, "u8", "NotModules", "/abi", "expected an object, found null"),
     ([FINE, {"bytecode": "0x", "abi": []}], "u8", "NotModules", "/1/abi", "expected an object, found an array"),
     (
@@ -231,7 +235,7 @@ REFUSED: list[tuple[Any, str, str, str, str]] = [
     (sui([("a", {"TypeParameter": -1})], 1), "0x1::m::S<u8>", "BadType", f"{OF_SUI}/TypeParameter", "a number isn't"),
     (
         sui([("a", {"Struct": {"address": "0x1", "module": "m", "name": "S"}})]),
-        *("0x1::m::S", "NotModules", f"{OF_SUI}/Struct/typeArguments", "expected an array, found nothing"),
+        *("0x1::m::S", "NotModules", f"{OF_SUI}/Struct/typeArguments", "expected an array; it is missing"),
     ),
     (sui([("a", {"Reference": "U64"})]), "0x1::m::S", "NoBytes", OF_SUI, "a reference has no bytes"),
     (sui([("a", SUI_DEEP)]), "0x1::m::S", "TooLarge", OF_SUI + "/Vector" * 32, "nests more than 32 deep"),
@@ -297,7 +301,7 @@ REFUSED: list[tuple[Any, str, str, str, str]] = [
     ),
     (
         functions({"name": "h", "generic_type_params": []}),
-        *("0x1::m::h", "NotModules", "/abi/exposed_functions/0/params", "expected an array, found nothing"),
+        *("0x1::m::h", "NotModules", "/abi/exposed_functions/0/params", "expected an array; it is missing"),
     ),
     (FINE, "0x1::m::x", "UnknownName", ARGUMENT, "nor a function that others may call"),
     (with_two(FINE, struct("Balance", 0, [])), "0x1::m::Balanse", "UnknownName", ARGUMENT, "; did you mean Balance?"),
@@ -336,6 +340,10 @@ def nested(depth: int) -> str:
     return "vector<" * depth + "u16" + ">" * depth
 
 
+def nested_format(depth: int) -> Any:
+    return {"SEQ": nested_format(depth - 1)} if depth else "U16"
+
+
 def nested_of_sui(depth: int) -> Any:
     return {"Vector": nested_of_sui(depth - 1)} if depth else "U16"
 
@@ -354,9 +362,16 @@ def wordy(length: int) -> str:
     return f"0x1::m::S<{', '.join(['u16'] * longer + ['u8'] * (997 - longer))}>"
 
 
+def with_function(of: dict[str, Any], generics: int) -> Any:
+    """A module with this struct and a function of the same name, of a byte."""
+    function = {"name": of["name"], "generic_type_params": [{}] * generics, "params": ["u8"]}
+    return {"address": "0x1", "name": "m", "structs": [of], "exposed_functions": [function]}
+
+
 DEEPEST: Any = "U16"
 for _ in range(32):
     DEEPEST = {"SEQ": DEEPEST}
+BOTH = "0x1::m::S is a type and a function"
 ID_OF_SUI = {"0x2::object::ID": {"STRUCT": [{"bytes": typename("address")}]}, "address": ADDRESS}
 SUI_COIN = "0x2::coin::Coin<0x2::sui::SUI>"
 
@@ -514,6 +529,19 @@ RULES = [
         ["0x1::m::S"],
         {"0x1::m::S": {"STRUCT": [{"a": DEEPEST}]}},
     ),
+    Rule(
+        "a type and a function of one name",
+        with_function(struct("S", 0, [("a", "u16")]), 0),
+        ["0x1::m::S"],
+        {"0x1::m::S": {"STRUCT": [{"a": "U16"}]}, "0x1::m::S::arg0": {"NEWTYPESTRUCT": "U8"}},
+        (f"{BOTH}: the container is the type's, and arguments have 0x1::m::S::arg0 and so on",),
+    ),
+    Rule(
+        "a type and a function of one name, told apart by their type arguments",
+        with_function(struct("S", 1, [("a", "T0")]), 0),
+        ["0x1::m::S", "0x1::m::S<u32>"],
+        {**arguments("0x1::m::S", arg0="U8"), "0x1::m::S<u32>": {"STRUCT": [{"a": "U32"}]}},
+    ),
     Rule("a type of 4000 characters", WORDY, [wordy(4000)], {wordy(4000): {"STRUCT": [{"a": "U8"}]}}),
 ]
 
@@ -532,7 +560,7 @@ def place_of(place: str, requested: str) -> str:
     """The start of the line on standard error."""
     if place == ARGUMENT:
         return f"at TYPE, {requested}: "
-    return f"at {place or 'the whole text'}: "
+    return f"at {place or 'the document'}: "
 
 
 def try_refusals(program: Program) -> None:
@@ -559,6 +587,133 @@ def try_rules(program: Program) -> None:
         what = f"{requested[:100]} {words}: {done}"
         require(done.status == 2 and done.output == f"refused: {name}\n" and words in done.errors, what)
     print(f"move_modules: {len(RULES)} rules, {len(TOO_MUCH)} limits", flush=True)
+
+
+# Modules of Aptos with an enum, and its container.
+SHAPES = make.aptos("0x1::m", "struct S { e: 0x1::m::E, n: u8 }\nstruct T { x: u16 }")
+SHAPES["abi"]["structs"].append({**struct("E", 0, []), "is_enum": True})
+OF_E = {"ENUM": {"0": {"A": "UNIT"}, "1": {"B": {"NEWTYPE": typename("0x1::m::T")}}}}
+OF_S = {"STRUCT": [{"e": typename("0x1::m::E")}, {"n": "U8"}]}
+OF_T = {"STRUCT": [{"x": "U16"}]}
+WHOLE = {"0x1::m::E": OF_E, "0x1::m::S": OF_S, "0x1::m::T": OF_T}
+BOX = make.aptos("0x1::b", "struct Box<A> { a: T0 }")
+
+MUTUAL = with_two(
+    aptos([("t", "vector<0x1::m::T>"), ("f", "|u8|u8")]),
+    struct("T", 0, [("s", "vector<0x1::m::S>"), ("f", "|u8|u8")]),
+)
+OF_MUTUAL = {
+    "0x1::m::S": {"STRUCT": [{"t": {"SEQ": typename("0x1::m::T")}}]},
+    "0x1::m::T": {"STRUCT": [{"s": {"SEQ": typename("0x1::m::S")}}]},
+}
+
+# Modules, what is requested, what is given, and the registry.
+GIVEN: list[tuple[str, Any, list[str], Any, Any]] = [
+    ("an enum of Aptos", SHAPES, ["0x1::m::S"], {"0x1::m::E": OF_E}, WHOLE),
+    (
+        "an enum that isn't requested",
+        SHAPES,
+        ["0x1::m::T"],
+        {"0x1::m::E": OF_E},
+        {"0x1::m::E": OF_E, "0x1::m::T": OF_T},
+    ),
+    ("the whole registry", SHAPES, ["0x1::m::S"], WHOLE, WHOLE),
+    ("the enum itself", SHAPES, ["0x1::m::E"], {"0x1::m::E": OF_E}, {"0x1::m::E": OF_E, "0x1::m::T": OF_T}),
+    (
+        "a type of a module that is missing",
+        make.aptos("0x1::m", "struct S { t: 0x9::n::T<u8> }"),
+        ["0x1::m::S"],
+        {"0x9::n::T<u8>": OF_T},
+        {"0x1::m::S": {"STRUCT": [{"t": typename("0x9::n::T<u8>")}]}, "0x9::n::T<u8>": OF_T},
+    ),
+    (
+        "a native struct",
+        aptos([], is_native=True),
+        ["vector<0x1::m::S>"],
+        {"0x1::m::S": OF_T},
+        {"0x1::m::S": OF_T, "vector<0x1::m::S>": {"NEWTYPESTRUCT": {"SEQ": typename("0x1::m::S")}}},
+    ),
+    (
+        "an enum of Sui without an order",
+        enum(variants={"B": [], "A": []}),
+        ["0x1::m::S"],
+        {"0x1::m::S": {"ENUM": {"0": {"B": "UNIT"}, "1": {"A": "UNIT"}}}},
+        {"0x1::m::S": {"ENUM": {"0": {"B": "UNIT"}, "1": {"A": "UNIT"}}}},
+    ),
+    (
+        "a type argument",
+        [SHAPES, BOX],
+        ["0x1::b::Box<0x1::m::E>"],
+        {"0x1::m::E": OF_E},
+        {"0x1::b::Box<0x1::m::E>": {"STRUCT": [{"a": typename("0x1::m::E")}]}, "0x1::m::E": OF_E, "0x1::m::T": OF_T},
+    ),
+    (
+        "names that are no types, and types without containers of their own",
+        [],
+        ["u8"],
+        {'"é"': {"TUPLESTRUCT": [typename("Own"), typename("u256"), typename("vector<u8>")]}, "Own": "UNITSTRUCT"},
+        {
+            '"é"': {"TUPLESTRUCT": [typename("Own"), typename("u256"), typename("vector<u8>")]},
+            "Own": "UNITSTRUCT",
+            "u256": ADDRESS,
+            "u8": {"NEWTYPESTRUCT": "U8"},
+            "vector<u8>": {"NEWTYPESTRUCT": "BYTES"},
+        },
+    ),
+    ("structs with functions and with each other", MUTUAL, ["0x1::m::S"], OF_MUTUAL, OF_MUTUAL),
+    ("no container", SHAPES, ["0x1::m::T"], {}, {"0x1::m::T": OF_T}),
+]
+
+# Modules, what is given, the name of the refusal, its place in `--with`, and a part of its message.
+REFUSED_GIVEN: list[tuple[Any, Any, str, str, str]] = [
+    (SHAPES, "", "NotJson", "line 1, column 1", "the document is empty"),
+    (SHAPES, "{", "NotJson", "line 1, column 1", "} is missing"),
+    (SHAPES, [], "NotModules", "the document", "expected an object of containers, found an array"),
+    (SHAPES, {"0x1::m::E": {"ENUM": []}}, "NotModules", "/0x1::m::E/ENUM", "found an array"),
+    (SHAPES, {"0x1::m::E": {"ENUM": {"00": {"A": "UNIT"}}}}, "NotModules", "/0x1::m::E/ENUM/00", ""),
+    (SHAPES, {"0x1::m::E": {"STRUCT": [{"a": "U8"}, {"a": "U8"}]}}, "RepeatedName", "0x1::m::E", "a"),
+    (SHAPES, {"0x1::m::E": {"NEWTYPESTRUCT": nested_format(33)}}, "TooLarge", "0x1::m::E", "32"),
+    (SHAPES, {"0x1::m::E": {"NEWTYPESTRUCT": typename("E")}}, "BadType", "0x1::m::E", '"E" isn\'t a type'),
+    (
+        SHAPES,
+        {"0x1::m::E": {"NEWTYPESTRUCT": typename("0x01::m::T")}},
+        "BadType",
+        "0x1::m::E",
+        "this type is 0x1::m::T",
+    ),
+    (SHAPES, {"0x1::m::E": {"NEWTYPESTRUCT": typename("0x1::m::U")}}, "UnknownName", "0x1::m::E", "no struct or enum"),
+    (SHAPES, {"0x1::m::E": {"NEWTYPESTRUCT": typename("0x1::n::U")}}, "MissingModule", "0x1::m::E", "0x1::n"),
+    (SHAPES, {"0x01::m::T": OF_T}, "BadType", "0x01::m::T", "the name of this type is 0x1::m::T: write that"),
+    (SHAPES, {"0x1::m::E<u8>": OF_T}, "WrongCount", "0x1::m::E<u8>", "0x1::m::E is 0, and here are 1"),
+    (SHAPES, {"0x1::m::T": {"STRUCT": [{"x": "U8"}]}}, "RepeatedName", "0x1::m::T", "from-move makes of the modules"),
+    (SHAPES, {"0x1::m::T": {"STRUCT": [{"y": "U16"}]}}, "RepeatedName", "0x1::m::T", "leave it out"),
+    (SHAPES, {"address": {"NEWTYPESTRUCT": "BYTES"}}, "RepeatedName", "address", "from-move makes of the modules"),
+    (SHAPES, {"signer": {"NEWTYPESTRUCT": "U8"}}, "NoBytes", "signer", "a signer has no bytes"),
+]
+
+
+def try_given(program: Program) -> None:
+    for what, modules, types, given, registry in GIVEN:
+        equal(program.made(modules, *types, given=given), registry, what)
+        equal(program.make(modules, *types, given=program.make(modules, *types, given=given).output).status, 0, what)
+    # What is made is accepted again.
+    for modules, types in RANDOM_TYPES:
+        made = program.make(modules, *types)
+        equal(program.make(modules, *types, given=made.output), made, f"{types} given as well")
+    for modules, given, name, place, words in REFUSED_GIVEN:
+        done = program.make(modules, "u8", given=given)
+        what = f"{name} of {given} at {place}: {done}"
+        require(done.status == 2 and done.output == f"refused: {name}\n", what)
+        require(done.errors.startswith(f"at --with, {place}"), what)
+        require(f": {name}: " in done.errors and words in done.errors, what)
+        require(done.errors.isascii() and done.errors.count("\n") == 1, what)
+    # Without it, the enum is refused, and MODULES is refused first.
+    equal(program.make(SHAPES, "0x1::m::S").output, "refused: UnknownVariants\n", "an enum that isn't given")
+    equal(program.make("[7]", "u8", given="").errors[:7], "at /0: ", "modules and what is given are refused")
+    done = program.make(make.sui("0x5::m", "struct S { a: u8 }\nfun f(u8)"), "vector<0x7::m::S>")
+    upgraded = "0x7::m::S isn't here, but 0x5::m::S is: if its package was upgraded, write 0x5::m::S"
+    require(upgraded in done.errors, f"{done}")
+    print(f"move_modules: {len(GIVEN)} registries and {len(REFUSED_GIVEN)} refusals with --with", flush=True)
 
 
 def try_coin_store(program: Program) -> None:
@@ -818,6 +973,7 @@ def main() -> None:
         try_functions(program)
         try_notes(program)
         try_missing(program)
+        try_given(program)
         print("move_modules: facts", flush=True)
         try_growth(program)
         try_random_values(program, count)

@@ -414,13 +414,14 @@ def links_of_others(room: Room) -> None:
 
 def folder_is_missing(room: Room) -> None:
     ended = room.run("missing/file")
-    check("the run", ended, Ended(4, "fault: write\nin the file missing/file: No such file or directory\n"))
+    reason = "No such file or directory; make its folder first"
+    check("the run", ended, Ended(4, f"fault: write\nin the file missing/file: {reason}\n"))
     room.check_names()
 
 
 def file_is_a_folder(room: Room) -> None:
     room.file.mkdir()
-    check("the run", room.run(), Ended(4, "fault: write\nin the file file\n"))
+    check("the run", room.run(), Ended(4, "fault: write\nin the file file: Is a directory; name a file in it\n"))
     room.check_names("file")
 
 

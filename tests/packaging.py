@@ -210,7 +210,7 @@ class Packaging:
     def commands(self) -> list[str]:
         """The first word of each line that the help has below "Commands:"."""
         listed = run(self.program, "--help").partition("\nCommands:\n")[2].partition("\n\n")[0]
-        commands = [line.split()[0] for line in listed.splitlines()]
+        commands = re.findall(r"^  (\S+)", listed, re.MULTILINE)
         require(len(commands) > 10 and len(set(commands)) == len(commands), f"the help lists the commands {commands}")
         return commands
 

@@ -71,7 +71,7 @@ def uleb(number: int) -> bytes:
 def text_jobs() -> Iterator[Job]:
     names = [f"f{number}" for number in range(COUNT)]
     struct, small = fields(names), fields(["a"])
-    at = "at the whole text: "
+    at = "at the document: "
     unknown, missing = "refused: UnknownField\n", "refused: MissingField\n"
     yield Job(
         "an unknown member behind 100,000 fields",
@@ -133,21 +133,21 @@ def name_jobs(some: str, names: list[str], word: str, nearest: str) -> Iterator[
         [fields(names), "S"],
         members([*names, word]),
         "refused: UnknownField\n",
-        f"at the whole text: UnknownField: no field is {told}\n",
+        f"at the document: UnknownField: no field is {told}\n",
     )
     yield Job(
         f"{some} members near a missing field",
         [fields([word]), "S"],
         members(names),
         "refused: MissingField\n",
-        f"at the whole text: MissingField: no member is called {word}; found: {nearest}\n",
+        f"at the document: MissingField: no member is called {word}; found: {nearest}\n",
     )
     yield Job(
         f"{some} variants near an unknown one",
         [json.dumps({"E": {"ENUM": {str(number): {name: "UNIT"} for number, name in enumerate(names)}}}), "E"],
         f'"{word}"'.encode(),
         "refused: UnknownVariant\n",
-        f"at the whole text: UnknownVariant: no variant is {told}\n",
+        f"at the document: UnknownVariant: no variant is {told}\n",
     )
     yield Job(
         f"{some} containers near an unknown one",

@@ -102,8 +102,8 @@ class Program:
         made = run(sys.executable, "bench/many_containers.py")
         if made != pathlib.Path("examples/many_containers.json").read_text(encoding="utf-8"):
             fail("examples/many_containers.json isn't what its script prints")
-        self.expect(["check", "examples/many_containers.json"], 0, ["ok 400"])
-        passed("a registry of 400 containers")
+        self.expect(["check", "examples/many_containers.json"], 0, ["ok 408"])
+        passed("a registry of 408 containers")
 
     def check_deep_examples(self) -> None:
         """500 containers are open, each a variant, a field and 32 levels of tuples. The JSON would nest too deep."""

@@ -21,10 +21,9 @@ from harness import fail, passed
 
 # Longer than the program waits before it draws.
 LATE = 2.3
-LINES = 400_000
-SIZE = LINES * len("07\n")
+LINES = 100_000
 COUNTS = f"lines with status 0: {LINES}, with status 1: 0, with status 2: 0"
-SHOWN_OF_FILE = re.compile(r"bcs: [\d.]+ (bytes|[kMG]B) of 1\.2 MB read, \d+ %(, \d+ (s|min|h) left)?")
+SHOWN_OF_FILE = re.compile(r"bcs: [\d.]+ (bytes|[kMG]B) of 300 kB read, \d+ %(, \d+ (s|min|h) left)?")
 SHOWN_OF_PIPE = re.compile(r"bcs: [\d.]+ (bytes|[kMG]B) read")
 DECODE = ["decode", "--lines"]
 SCAN = ["scan", "--raw"]

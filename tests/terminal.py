@@ -178,7 +178,7 @@ def check_terminals(command: list[str]) -> None:
     for columns in 0, 59:
         check(f"{columns} columns", on_terminal(command, columns, *words, NO_COLOR="1"), plain)
     check("--width 0 on a terminal", on_terminal(command, 80, *words, "--width", "0", NO_COLOR="1"), plain)
-    lines = words_of("sui_stake", "--lines")
+    lines = words_of("sui_stake", "--lines", "--quiet")
     check("--lines on a terminal", on_terminal(command, 80, *lines, NO_COLOR="1"), run(command, *lines))
     check("COLUMNS into a pipe", run(command, *words, variables={"COLUMNS": "80"}), plain)
 

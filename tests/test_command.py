@@ -120,6 +120,7 @@ class Tests:
         self.part("explained bytes", lambda: ran(["tests/explain.py", folder]))
         self.part("examples of the help and the documents", lambda: ran(["tests/examples.py", folder]))
         self.part("examples of Move", lambda: ran(["tests/move_examples.py", self.program]))
+        self.part("inputs of Sui", lambda: ran(["tests/sui_inputs.py", self.program]))
         self.part("examples of signers", lambda: ran(["tests/signers.py", self.program]))
 
     def stored_run(self) -> Outcome:

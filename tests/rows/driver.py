@@ -16,6 +16,7 @@ call `bcs_..` of the same name:
     schema      QUESTION                   example     QUESTION VARIANT FORM  (FORM: least, full)
     show        REGISTRY NAME FORM         (FORM: ways, json)
     which       REGISTRY BYTES FORM        (FORM: ways)
+    diff        QUESTION FIRST SECOND GIVEN FORM  (GIVEN, the bytes: documents, first, second, both; FORM: ways, json)
     grows       OLDER NEWER                growth_list  OLDER NEWER
     registry_of_modules  MODULES TYPES     (TYPES: one on each line)
     fault_name  NUMBER
@@ -42,13 +43,15 @@ The answer has the fields STATUS (`done`, `registry`, `format`, `limits`, `refus
 - If the output is too short, the driver repeats the call with more room.
 - If the language can't make the call, or can't pass a string that isn't Unicode, it answers `unsayable`.
 - If the language returns a named part without its offset, OUTPUT is the part and PLACE is 0.
+- If the language returns differences as objects, it answers `json` alone, with the JSON of these objects and of the
+  number of differences, a line for each. Blanks, and members that are null, may differ.
 - `explain` of invalid bytes is `done`; FAULT and PLACE show where they stop.
 - A call for a place is `done`, or `no` if nothing is refused. If errors include their place, the driver checks that all
   calls that refuse the input, the format or the path agree. The answer for `line` has the fault and the offset, too.
 
 Rows `bcs --where` also have the program's line on standard error. The calls for places must return its location and
 message, without limits (`; --depth allows 1`). Names in a JSON Pointer and in a registry's location are unescaped
-UTF-8, and the location is empty where the line has `the whole text`. If the input isn't JSON, the location is empty,
+UTF-8, and the location is empty where the line has `the document`. If the input isn't JSON, the location is empty,
 too, and the message begins with the line and the column: `line 1, column 3: ..`
 """
 

@@ -4,6 +4,7 @@ import json
 from collections.abc import Callable
 from typing import NamedTuple
 
+from diff_jobs import diff_job
 from driver import Answer, Driver, Question, Refused, expect, stop_of
 from words import Unsayable, bytes_of, bytes_of_digits, format_of
 
@@ -69,6 +70,8 @@ def job(driver: Driver, name: str, words: list[str]) -> Printed:
         return show_job(driver, words)
     if name == "which":
         return which_job(driver, words)
+    if name == "diff":
+        return Printed(*diff_job(driver, words))
     if name == "example":
         return example_job(driver, words)
     if name == "check":

@@ -155,7 +155,7 @@ def as_told(line: re.Match[str]) -> Place:
     words = LIMIT.sub("", line["words"])
     if place.startswith("line "):
         return Place("", f"{place}: {words}")
-    return Place("" if place == "the whole text" else unescaped(place), words)
+    return Place("" if place == "the document" else unescaped(place), words)
 
 
 def unescaped(place: str) -> str:
