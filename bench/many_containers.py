@@ -1,5 +1,5 @@
 #!/usr/bin/env python3
-"""Prints a registry of 400 containers, as large as a chain's: copies of those of Aptos and Sui in examples/, whose
+"""Prints a registry of 408 containers, as large as a chain's: copies of those of Aptos and Sui in examples/, whose
 names begin with the number of the copy. This is how examples/many_containers.json was made."""
 
 from __future__ import annotations
@@ -9,7 +9,7 @@ from pathlib import Path
 from typing import Any
 
 EXAMPLES = Path(__file__).resolve().parent.parent / "examples"
-COPIES = 10
+COPIES = 6
 
 
 def renamed(part: Any, prefix: str, names: dict[str, Any]) -> Any:

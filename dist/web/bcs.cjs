@@ -1061,6 +1061,8 @@ const STATUSES = [
 const FORMS = ['ways', 'paths', 'tree', 'json'];
 /** What is added to a form of `explain`: notes about the views follow the pieces. */
 const WITH_NOTES = 4;
+/** Which of two values are bytes: numbers of enum bcs_given, which are added. */
+const [FIRST_BYTES, SECOND_BYTES] = [1, 2];
 /** How a part is named, by the numbers (enum bcs_notation). */
 const NOTATIONS = ['steps', 'name', 'pointer'];
 
@@ -1081,6 +1083,7 @@ const CALL = {
   schema: 13,
   example: 14,
   candidates: 15,
+  differences: 16,
   show: 20,
   formatPlace: 21,
   grows: 30,
@@ -1116,9 +1119,12 @@ const NOTHING = new Uint8Array();
 
 /** What a call is asked. What it doesn't use is 0 and empty. */
 class Question {
-  constructor(call, { number = 0, depth = 0, nodes = 0, format = NOTHING, first = NOTHING, second = NOTHING, views = NOTHING }) {
+  constructor(call, asked) {
+    const { number = 0, secondNumber = 0, depth = 0, nodes = 0 } = asked;
+    const { format = NOTHING, first = NOTHING, second = NOTHING, views = NOTHING } = asked;
     this.call = call;
     this.number = number;
+    this.secondNumber = secondNumber;
     this.depth = depth;
     this.nodes = nodes;
     this.format = format;
@@ -1207,7 +1213,10 @@ class Room {
     return this.#answer();
   }
 
-  /** Asks a question, with so much room for the output and for the message of a refusal. */
+  /**
+   * Asks a question, with so much room for the output and for the message of a refusal. They are parts of the memory, which the
+   * next call overwrites.
+   */
   ask(handle, question, outLength, messageLength) {
     this.#reserve(ANSWER_SIZE + question.size + outLength + messageLength);
     this.#look();
@@ -1219,8 +1228,8 @@ class Room {
     );
     this.#look();
     const answer = this.#answer();
-    if (answer.status === 'done' && outLength > 0) answer.output = this.#bytes.slice(out, out + answer.length);
-    if (answer.status === 'refused' && answer.length <= messageLength) answer.message = this.#bytes.slice(message, message + answer.length);
+    if (answer.status === 'done' && outLength > 0) answer.output = this.#bytes.subarray(out, out + answer.length);
+    if (answer.status === 'refused' && answer.length <= messageLength) answer.message = this.#bytes.subarray(message, message + answer.length);
     return answer;
   }
 
@@ -1241,7 +1250,7 @@ class Room {
     view.setUint32(at + QUESTION.size, QUESTION_SIZE, true);
     view.setUint32(at + QUESTION.call, question.call, true);
     view.setUint32(at + QUESTION.number, question.number, true);
-    view.setUint32(at + QUESTION.secondNumber, 0, true);
+    view.setUint32(at + QUESTION.secondNumber, question.secondNumber, true);
     view.setUint32(at + QUESTION.depth, question.depth, true);
     view.setUint32(at + QUESTION.nodes, question.nodes, true);
     let end = at + QUESTION_SIZE;
@@ -1300,7 +1309,7 @@ function firstRoom({ call, first }) {
     case CALL.normalise:
       return first.length + 64;
     case CALL.fromBcs:
-      return 3 * first.length + 64;
+      return 3 * first.length + 1024;
     case CALL.explain:
       return Math.min(64 * first.length + 256, FIRST_PIECES);
     default:
@@ -1680,7 +1689,7 @@ class FormatCalls {
   }
 
   encoded(text) {
-    return this.#ask(CALL.toBcs, { first: text }, ALL_NODES).output;
+    return this.#ask(CALL.toBcs, { first: text }, ALL_NODES).output.slice();
   }
 
   normalised(text) {
@@ -1707,6 +1716,16 @@ class FormatCalls {
 
   candidates(bytes) {
     return stringOfUtf8(this.#ask(CALL.candidates, { first: bytes }, this.#nodesFor(bytes)).output).split('\n').slice(0, -1);
+  }
+
+  /** Where two values differ. Each has its `data`: a JSON text in UTF-8, or bytes. */
+  differences(first, second) {
+    const given = (first.isText ? 0 : FIRST_BYTES) + (second.isText ? 0 : SECOND_BYTES);
+    const asked = { number: FORMS.indexOf('json'), secondNumber: given, first: first.data, second: second.data };
+    const longer = first.data.length < second.data.length ? second.data : first.data;
+    const { output } = this.#ask(CALL.differences, asked, given === 0 ? ALL_NODES : this.#nodesFor(longer));
+    // (the last line has the number of differences)
+    return stringOfUtf8(output).split('\n').slice(0, -2).map((line) => JSON.parse(line));
   }
 
   explained(bytes, form, views) {
@@ -1794,6 +1813,7 @@ class FormatCalls {
 
 const OF_VALUES = ['plainOptions'];
 const OF_EXAMPLES = ['variant', 'full'];
+const GIVEN_WANTED = 'a value is given as its JSON text, or as bytes: encode makes those of a value';
 
 /**
  * A registry that is read and open. A format is a container's name, an object, or a JSON text: `"U8"`, `{"SEQ":"U8"}`.
@@ -1931,6 +1951,14 @@ class Registry {
     return this.#on('"UNIT"', (calls) => calls.candidates(bytesOfAny(bytes)));
   }
 
+  /**
+   * Where two values differ, as `bcs diff --json` prints it; nothing if and only if they are equal. A string is a JSON text, and
+   * anything else the bytes of a value.
+   */
+  diff(format, first, second) {
+    return this.#on(format, (calls) => calls.differences(textOrBytes(first), textOrBytes(second)));
+  }
+
   /** The part to which a path leads, such as `2/some/0`, and its place; `undefined` where it leads nowhere. */
   part(format, bytes, path) {
     return this.#on(format, (calls) => calls.part(bytesOfAny(bytes), bytesOf(path)));
@@ -1986,6 +2014,11 @@ class Registry {
   #during(call) {
     return interruptible(() => this.#holder.during(call));
   }
+}
+
+function textOrBytes(value) {
+  const isText = typeof value === 'string';
+  return { isText, data: isText ? bytesOf(value) : bytesOfAny(value, GIVEN_WANTED) };
 }
 
 function exampleBy(calls, { variant = '', full = false }) {

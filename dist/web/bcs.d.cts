@@ -170,6 +170,31 @@ export interface Piece {
   path: string | null;
 }
 
+/** A difference of two values. */
+export interface Difference {
+  difference: 'value' | 'text' | 'bytes' | 'length' | 'variant' | 'option' | 'only';
+  /** The part of the first value, and of the second; `null` if only the other one has it. */
+  a: Side | null;
+  b: Side | null;
+  /** The first byte that differs in the content of two strings or byte strings. */
+  from?: number;
+}
+
+/** A part of one of the values. */
+export interface Side {
+  /** The way from the whole value, `.`, by names. */
+  name: string;
+  /** The path that `part` takes, or `null` where none leads there. */
+  path: string | null;
+  /** How many bytes come before it, and how many it has. */
+  place: number;
+  size: number;
+  /** What it is, cut if it is long. */
+  text: string;
+  /** Its bytes as hexadecimal digits, without the length of a string, if it has no parts. */
+  bytes?: string;
+}
+
 /** What follows the pieces of a value. */
 export interface End {
   end: number;
@@ -262,6 +287,11 @@ export interface Registry<T extends Types = AnyTypes> {
   scan(format: Format<T>, bytes: Bytes): number;
   /** The names of the containers that the bytes are exactly one value of, the likeliest first, as `bcs which` prints them. */
   which(bytes: Bytes): string[];
+  /**
+   * Where two values differ, in the order of their bytes; nothing if and only if they are equal. A string is a JSON text, and
+   * anything else the bytes of a value.
+   */
+  diff(format: Format<T>, first: string | Bytes, second: string | Bytes): Difference[];
   /** The part to which a path leads, and its place; `undefined` where it leads nowhere. */
   part(format: Format<T>, bytes: Bytes, path: Text): { place: number; bytes: Uint8Array } | undefined;
   /** The same by the part's name, as `explain` has it: `.payload::EntryFunction.args[0]`. */

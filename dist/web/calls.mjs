@@ -74,7 +74,10 @@ class Room {
     return this.#answer();
   }
 
-  /** Asks a question, with so much room for the output and for the message of a refusal. */
+  /**
+   * Asks a question, with so much room for the output and for the message of a refusal. They are parts of the memory, which the
+   * next call overwrites.
+   */
   ask(handle, question, outLength, messageLength) {
     this.#reserve(ANSWER_SIZE + question.size + outLength + messageLength);
     this.#look();
@@ -86,8 +89,8 @@ class Room {
     );
     this.#look();
     const answer = this.#answer();
-    if (answer.status === 'done' && outLength > 0) answer.output = this.#bytes.slice(out, out + answer.length);
-    if (answer.status === 'refused' && answer.length <= messageLength) answer.message = this.#bytes.slice(message, message + answer.length);
+    if (answer.status === 'done' && outLength > 0) answer.output = this.#bytes.subarray(out, out + answer.length);
+    if (answer.status === 'refused' && answer.length <= messageLength) answer.message = this.#bytes.subarray(message, message + answer.length);
     return answer;
   }
 
@@ -108,7 +111,7 @@ class Room {
     view.setUint32(at + QUESTION.size, QUESTION_SIZE, true);
     view.setUint32(at + QUESTION.call, question.call, true);
     view.setUint32(at + QUESTION.number, question.number, true);
-    view.setUint32(at + QUESTION.secondNumber, 0, true);
+    view.setUint32(at + QUESTION.secondNumber, question.secondNumber, true);
     view.setUint32(at + QUESTION.depth, question.depth, true);
     view.setUint32(at + QUESTION.nodes, question.nodes, true);
     let end = at + QUESTION_SIZE;
@@ -167,7 +170,7 @@ function firstRoom({ call, first }) {
     case CALL.normalise:
       return first.length + 64;
     case CALL.fromBcs:
-      return 3 * first.length + 64;
+      return 3 * first.length + 1024;
     case CALL.explain:
       return Math.min(64 * first.length + 256, FIRST_PIECES);
     default:

@@ -1,6 +1,6 @@
 // The calls on one format of an open registry.
 import { ALL_NODES } from './limits.mjs';
-import { CALL, FORMS, NOTATIONS, Question, WITH_NOTES } from './question.mjs';
+import { CALL, FIRST_BYTES, FORMS, NOTATIONS, Question, SECOND_BYTES, WITH_NOTES } from './question.mjs';
 import { valueOf } from './reading.mjs';
 import { bytesForCall, stringOfUtf8 } from './texts.mjs';
 import { linesOfViews, refusedView } from './views.mjs';
@@ -44,7 +44,7 @@ export class FormatCalls {
   }
 
   encoded(text) {
-    return this.#ask(CALL.toBcs, { first: text }, ALL_NODES).output;
+    return this.#ask(CALL.toBcs, { first: text }, ALL_NODES).output.slice();
   }
 
   normalised(text) {
@@ -71,6 +71,16 @@ export class FormatCalls {
 
   candidates(bytes) {
     return stringOfUtf8(this.#ask(CALL.candidates, { first: bytes }, this.#nodesFor(bytes)).output).split('\n').slice(0, -1);
+  }
+
+  /** Where two values differ. Each has its `data`: a JSON text in UTF-8, or bytes. */
+  differences(first, second) {
+    const given = (first.isText ? 0 : FIRST_BYTES) + (second.isText ? 0 : SECOND_BYTES);
+    const asked = { number: FORMS.indexOf('json'), secondNumber: given, first: first.data, second: second.data };
+    const longer = first.data.length < second.data.length ? second.data : first.data;
+    const { output } = this.#ask(CALL.differences, asked, given === 0 ? ALL_NODES : this.#nodesFor(longer));
+    // (the last line has the number of differences)
+    return stringOfUtf8(output).split('\n').slice(0, -2).map((line) => JSON.parse(line));
   }
 
   explained(bytes, form, views) {

@@ -8,6 +8,7 @@ import {
 import { isatty } from 'node:tty';
 import { workerData } from 'node:worker_threads';
 import { failed } from './program.mjs';
+import { Progress } from './progress.mjs';
 
 // The most that one call reads or writes, since Node refuses more than 2 GiB.
 const MOST_BYTES = 1 << 30;
@@ -32,7 +33,9 @@ function run(words) {
   const host = new Host(bytesOf(words));
   const { memory, main } = new WebAssembly.Instance(module, { env: host.functions() }).exports;
   host.memory = memory;
-  return main(0, 0n);
+  const status = main(0, 0n);
+  host.progress.erase();
+  return status;
 }
 
 /** The arguments. Node puts U+FFFD in the place of what isn't UTF-8, so they are taken as Linux has them where that occurs. */
@@ -53,16 +56,18 @@ class Host {
 
   constructor(words) {
     this.#arguments = ['bcs', ...words];
+    this.progress = new Progress(words);
   }
 
   functions() {
     return {
       open: (path, flags, more) =>
-        this.#tried(-1, () => opened(this.#textAt(path), flags, flags & CREATES ? this.#view(more).getUint32(0, true) : 0)),
+        this.#tried(-1, () => this.#opened(this.#textAt(path), flags, flags & CREATES ? this.#view(more).getUint32(0, true) : 0)),
       // (the standard streams stay open: `open` returns them under their own numbers)
       close: (file) => (file <= 2 ? 0 : this.#tried(-1, () => closeSync(file) ?? 0)),
-      read: (file, at, room) => this.#tried(-1n, () => BigInt(read(file, this.#bytes(at, room)))),
-      write: (file, at, length) => this.#tried(-1n, () => BigInt(patiently(() => writeSync(file, this.#bytes(at, length))))),
+      read: (file, at, room) =>
+        this.#tried(-1n, () => BigInt(this.progress.didRead(file, read(file, this.#bytes(at, room))))),
+      write: (file, at, length) => this.#tried(-1n, () => BigInt(this.#write(file, this.#bytes(at, length)))),
       readlink: (path, at, room) =>
         this.#tried(-1n, () => BigInt(this.#copy(readlink(this.#textAt(path)), at, room))),
       statx: (file, path, flags, mask, found) =>
@@ -86,6 +91,15 @@ class Host {
       rattle_arg: (i, at, room) => this.#handed(this.#arguments[Number(i)], at, room),
       rattle_env: (name, at, room) => this.#handed(process.env[this.#textAt(name).toString()], at, room),
     };
+  }
+
+  #opened(path, flags, mode) {
+    return this.progress.opened(path.toString(), flags, opened(path, flags, mode));
+  }
+
+  #write(file, bytes) {
+    this.progress.willWrite(file);
+    return patiently(() => writeSync(file, bytes));
   }
 
   /** (A new view each time, since the memory grows.) */

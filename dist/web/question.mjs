@@ -9,6 +9,8 @@ export const STATUSES = [
 export const FORMS = ['ways', 'paths', 'tree', 'json'];
 /** What is added to a form of `explain`: notes about the views follow the pieces. */
 export const WITH_NOTES = 4;
+/** Which of two values are bytes: numbers of enum bcs_given, which are added. */
+export const [FIRST_BYTES, SECOND_BYTES] = [1, 2];
 /** How a part is named, by the numbers (enum bcs_notation). */
 export const NOTATIONS = ['steps', 'name', 'pointer'];
 
@@ -29,6 +31,7 @@ export const CALL = {
   schema: 13,
   example: 14,
   candidates: 15,
+  differences: 16,
   show: 20,
   formatPlace: 21,
   grows: 30,
@@ -64,9 +67,12 @@ const NOTHING = new Uint8Array();
 
 /** What a call is asked. What it doesn't use is 0 and empty. */
 export class Question {
-  constructor(call, { number = 0, depth = 0, nodes = 0, format = NOTHING, first = NOTHING, second = NOTHING, views = NOTHING }) {
+  constructor(call, asked) {
+    const { number = 0, secondNumber = 0, depth = 0, nodes = 0 } = asked;
+    const { format = NOTHING, first = NOTHING, second = NOTHING, views = NOTHING } = asked;
     this.call = call;
     this.number = number;
+    this.secondNumber = secondNumber;
     this.depth = depth;
     this.nodes = nodes;
     this.format = format;

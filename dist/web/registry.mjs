@@ -9,6 +9,7 @@ import { viewsOf } from './views.mjs';
 
 const OF_VALUES = ['plainOptions'];
 const OF_EXAMPLES = ['variant', 'full'];
+const GIVEN_WANTED = 'a value is given as its JSON text, or as bytes: encode makes those of a value';
 
 /**
  * A registry that is read and open. A format is a container's name, an object, or a JSON text: `"U8"`, `{"SEQ":"U8"}`.
@@ -146,6 +147,14 @@ export class Registry {
     return this.#on('"UNIT"', (calls) => calls.candidates(bytesOfAny(bytes)));
   }
 
+  /**
+   * Where two values differ, as `bcs diff --json` prints it; nothing if and only if they are equal. A string is a JSON text, and
+   * anything else the bytes of a value.
+   */
+  diff(format, first, second) {
+    return this.#on(format, (calls) => calls.differences(textOrBytes(first), textOrBytes(second)));
+  }
+
   /** The part to which a path leads, such as `2/some/0`, and its place; `undefined` where it leads nowhere. */
   part(format, bytes, path) {
     return this.#on(format, (calls) => calls.part(bytesOfAny(bytes), bytesOf(path)));
@@ -201,6 +210,11 @@ export class Registry {
   #during(call) {
     return interruptible(() => this.#holder.during(call));
   }
+}
+
+function textOrBytes(value) {
+  const isText = typeof value === 'string';
+  return { isText, data: isText ? bytesOf(value) : bytesOfAny(value, GIVEN_WANTED) };
 }
 
 function exampleBy(calls, { variant = '', full = false }) {
