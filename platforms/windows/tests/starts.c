@@ -166,7 +166,7 @@ static void numbers_of_streams(void) {
 }
 
 static void devices(void) {
-    answers(L"encode {} \\\"U8\\\" NUL", "7", 1, 2, "refused: NotJson\n", "at line 1, column 1: NotJson: the document is empty\n");
+    answers(L"encode {} \\\"U8\\\" NUL", "7", 1, 2, "refused: NotJson\n", "at line 1, column 1: NotJson: the document is empty; without FILE, standard input is read\n");
     answers(L"scan --raw {} \\\"UNIT\\\" NUL", "7", 1, 0, "ok 0\n", "");
 }
 
