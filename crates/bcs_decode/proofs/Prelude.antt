@@ -1,5 +1,5 @@
 -- Names from other crates and from this crate's definitions that the proofs share.
-pub use Rattle.std.proofs.Common.{[], ap, ap₂, arith, drop, Err, false, inl, inr, length, length-drop, List, None, Ok, Option, refl, rules, Some, subst, suc, sym, take, zero, ℕ, ◌<◌, ◌≤◌, ◌∙◌, ◌∷◌, ◌≡◌}
+pub use Rattle.std.proofs.Common.{[], ap, ap₂, arith, drop, Err, false, inl, inr, length, length-drop, List, None, Ok, Option, refl, rules, Some, subst, suc, sym, take, zero, ℕ, ◌<◌, ◌∙◌, ◌∷◌, ◌≡◌}
 pub use Rattle.std.proofs.lemmas.List.{drop_at, get_or_default, length-take}
 pub use Rattle.std.proofs.lemmas.Result.{err_from_is_err_and}
 pub use Rattle.std.specs.Io.KnownBytes.{Consumes, IsAtEnd}

@@ -1,5 +1,5 @@
 -- Bytes that begin with a value, and bytes that are a value's encoding.
-use Rattle.bcs_decode.proofs.Prelude.{◌≡◌, ◌≤◌, ℕ, List, length, Option, Some, Ok, Err, arith, refl, subst, Shape, Entries, Bounds, Tree, tree_of, Value, Encodes, DecodeFault, Stop, Read, OutOfMemory, Accepts, IsDecoded, AreBytes, encoded_is_accepted_is, is_decoded, accepts_once_is, no_two_verdicts_are, DecodesSlice, DecodesFrom, DecodesFront}
+use Rattle.bcs_decode.proofs.Prelude.{◌≡◌, ℕ, List, length, Option, Some, Ok, Err, refl, subst, Shape, Entries, Bounds, Tree, tree_of, Value, Encodes, DecodeFault, Stop, Read, OutOfMemory, Accepts, IsDecoded, AreBytes, encoded_is_accepted_is, is_decoded, accepts_once_is, no_two_verdicts_are, DecodesSlice, DecodesFrom}
 use Rattle.bcs_decode_spec.specs.declared.stop.Stop as stop
 
 pub refused_slice : (registry : Entries) (limits : Bounds) (s : Shape) (b : List ℕ) (rest : Option (List ℕ)) (x : DecodeFault) → AreBytes b → DecodesFrom registry limits s (Some b) rest (Err x)
@@ -7,24 +7,6 @@ pub refused_slice : (registry : Entries) (limits : Bounds) (s : Shape) (b : List
 refused_slice registry limits s b rest (Stop stop) bytes told read accepted = (told bytes).0
 refused_slice registry limits s b rest Read bytes told read accepted = read refl
 refused_slice registry limits s b rest OutOfMemory bytes told read accepted = accepted
-
--- a value that is decoded within fewer nodes is accepted
-pub short_value : (registry : Entries) (few limits : Bounds) (s : Shape) (b : List ℕ) (rest : Option (List ℕ)) (found : Value × ℕ) → AreBytes b → few.depth ≡ limits.depth → few.nodes ≤ limits.nodes
-    → DecodesFront registry few s (Some b) rest (Ok found) → Accepts registry limits s b found.1 (tree_of found.0)
-short_value registry few limits s b rest found bytes depth nodes told =
-    let h = (told.1 bytes).0 in
-    record {
-      sound = record {
-        fit = h.sound.fit;
-        distinct = h.sound.distinct;
-        depth_holds = (let k = h.sound.depth_holds in omega (arith, k, depth));
-        nodes_hold = (let k = h.sound.nodes_hold in omega (arith, k, nodes));
-        lengths = h.sound.lengths;
-      };
-      canonical = h.canonical;
-      within = h.within;
-      is = h.is;
-    }
 
 module _ (registry : Entries) (limits : Bounds) (s : Shape) (b : List ℕ) (rest : Option (List ℕ)) (bytes : AreBytes b) (encoded : (t : Tree) × Encodes registry limits s t b) where
   -- decoding an encoding gives the value that all of it encodes

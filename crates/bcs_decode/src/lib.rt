@@ -3,7 +3,6 @@
 
 mod decoding;
 mod scanning;
-mod short_decoding;
 mod slice_decoding;
 mod slice_parts;
 mod source_scanning;

@@ -13,7 +13,6 @@ ghost use Rattle.bcs_decode_spec.specs.declared.reason.Reason.{Reason};
 
 use crate::decoding::front;
 use crate::scanning::scan;
-use crate::short_decoding::decode_short;
 use bcs_decode_spec::DecodeFault;
 use bcs_io::SliceSource;
 use bcs_registry::{Format, Registry};
@@ -22,9 +21,8 @@ use std::alloc::{AllocError, Global};
 
 /// Decodes the value of `format` at the start of the input, and returns it with its length in bytes.
 ///
-/// `Stop`: as for [`scan`](crate::scan), and before anything is allocated if the input is longer than 1 KiB.
-/// `OutOfMemory` occurs only if the input begins with a value, and never for `UNIT`, `BOOL` and integers. `Read` never
-/// occurs.
+/// `Stop`: as for [`scan`](crate::scan), and before anything is allocated. `OutOfMemory` occurs only if the input
+/// begins with a value, and never for `UNIT`, `BOOL` and integers. `Read` never occurs.
 pub fn decode_slice(
     alloc: Global,
     registry: &Registry,
@@ -38,9 +36,6 @@ pub fn decode_slice(
         → result ≡ Err (DecodeFault.Stop (record { reason = e; place = o })) }
     ensures memory { takes_no_memory (shape_of format.now) ≡ true → result ≢ Err DecodeFault.OutOfMemory }
 {
-    if let Some(answer) = decode_short(alloc, registry, format, limits, bytes) {
-        return answer;
-    }
     match scan(registry, format, limits, bytes) {
         Ok(length) => {
             let mut source = SliceSource::new(bytes);
